@@ -1,0 +1,57 @@
+-- Which words have which closed types (document 01, "Machine": "which words have a closed type .. is read thus").
+use Prim.Native.Nat.{ℕ, zero, suc, _+_}
+use mathlib.Core.Path.{_≡_}
+use mathlib.Core.Option.{Option, some}
+use mathlib.Core.List.{List, [], _∷_, _++_}
+use lib.ListN.{length, getElem?}
+use Rattle.syntax.specs.Syntax.{Kind, value, stack}
+use Rattle.types.specs.Types.{Ty, int, junk, var, tuple, pointer, code, nil, push, svar, gap, items, Arg, fill, Args}
+use Rattle.valid.specs.Program.{Block, Program}
+use Rattle.exec.specs.Machine.{Word, intKind, codeKind, tupleKind, integer, height, junkWord}
+
+-- The types that tuples were made with, the oldest first: of each its components' types, closed.
+abbrev pub Tuples : Type 0
+Tuples = List (Ty stack)
+
+-- the tuple whose first heap word is a was made with the components' types c
+pub data Made : Tuples → ℕ → Ty stack → Type 0 where
+  made : {c : Ty stack} {Ψ : Tuples} → Made (c ∷ Ψ) 0 c
+  later : {c e : Ty stack} {a b : ℕ} {Ψ : Tuples} → Made Ψ a c → b ≡ suc (items e) + a → Made (e ∷ Ψ) b c
+
+-- "each label whose block's row gives it when closed arguments fill its first variables, none, some or all": A fills the letters p
+pub record Label (P : Program) (l : ℕ) (q : List Kind) (a r : Ty stack) : Type 0 where
+  pub B : Block
+  pub A : List Arg
+  pub p : List Kind
+  pub block : getElem? (P .blocks) l ≡ some B
+  pub letters : B .letters ≡ q ++ p
+  pub closed : Args [] A p
+  pub stack-is : a ≡ fill (length q) A (B .sp)
+  pub regs-are : r ≡ fill (length q) A (B .regs)
+
+module _ (P : Program) where
+  -- the word has the closed type: "`I` integers and `N` junk; .. a tuple type, each handle whose tuple was made with it; .. a pointer
+  -- type, the height that counts its list's items, whatever the stack holds now"
+  abbrev pub Has : Tuples → Word → Ty value → Type 0
+  Has Ψ w int = w .kind ≡ intKind
+  Has Ψ w junk = w ≡ junkWord
+  Has Ψ w (var k) = ⊥
+  Has Ψ w (tuple c) = (w .kind ≡ tupleKind) × Made Ψ (w .number) c
+  Has Ψ w (pointer a) = w ≡ height (items a)
+  Has Ψ w (code q a r) = (w .kind ≡ codeKind) × Label P (w .number) q a r
+
+  -- words against closed types, one by one: registers, a stack from the top, a tuple's components. Nothing is asked of a register
+  -- of which nothing is known.
+  abbrev pub Fits : Tuples → List Word → Ty stack → Type 0
+  Fits Ψ [] nil = Unit
+  Fits Ψ (w ∷ ws) nil = ⊥
+  Fits Ψ [] (push t a) = ⊥
+  Fits Ψ (w ∷ ws) (push t a) = Has Ψ w t × Fits Ψ ws a
+  Fits Ψ ws (svar k a) = ⊥
+  Fits Ψ [] (gap a) = ⊥
+  Fits Ψ (w ∷ ws) (gap a) = Fits Ψ ws a
+
+  -- the used heap: tuples end to end, each "a length word (an integer) and its components", of the types it was made with
+  pub data Heap (Ψ : Tuples) : List Word → Tuples → Type 0 where
+    empty : Heap Ψ [] []
+    one : {hs : List Word} {c : Ty stack} {Φ : Tuples} (ws us : List Word) → Fits Ψ ws c → hs ≡ integer (length ws) ∷ (ws ++ us) → Heap Ψ us Φ → Heap Ψ hs (c ∷ Φ)

@@ -1,0 +1,11 @@
+-- Values that may be missing.
+use mathlib.Core.Bool.{Bool, true, false}
+use mathlib.Core.Option.{Option, none, some}
+
+abbrev pub bind : {A B : Type 0} → Option A → (A → Option B) → Option B
+bind none f = none
+bind (some x) f = f x
+
+abbrev pub when : {A : Type 0} → Bool → A → Option A
+when true x = some x
+when false x = none

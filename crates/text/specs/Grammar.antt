@@ -1,0 +1,168 @@
+-- What a line says: the forms of document 01's "Program text", one entry of the table for each, in its order.
+use Prim.Native.Nat.{ℕ, zero, suc, _+_, _-_, pred}
+use Prim.Native.Char.{code}
+use Prim.Native.String.{String}
+use mathlib.Core.Bool.{Bool, true, false, _&&_, cond}
+use mathlib.Core.Option.{Option, none, some}
+use mathlib.Core.List.{List, [], _∷_}
+use lib.Dec.{eqb, leb}
+use lib.ListN.{length}
+use Rattle.syntax.specs.Syntax.{Kind, value, stack, Row, rowI, rowN, rowE, rowV, rowX, rowP, rowU, rowK, rowA, rowC, Base, reg, lit, lab, Operand, plain, inst, Arith, add, sub, mul, Branch, beq, bneq, bgt, blt, bgte, blte, Instr, aop, bop, mov, ld, st, malloc, getsp, setsp, salloc, sfree, sld, sst, slp, ssp, jmp, halt, Entry, row, block, instr}
+use Rattle.syntax.specs.Partial.{bind, when}
+use Rattle.text.specs.Bytes.{bytes, sameBytes, split, Line, ended, unended, fieldsOf, number, literal}
+
+abbrev Field : Type 0
+Field = List ℕ
+
+-- how the fields after a line's first are read
+abbrev pub Form : Type 0
+Form = List Field → Option Entry
+
+-- one field, then the others
+infixl 60 _>>=_
+unfoldable pub _>>=_ : {A : Type 0} → (Field → Option A) → (A → Form) → Form
+_>>=_ p k [] = none
+_>>=_ p k (f ∷ fs) = bind (p f) (λ x. k x fs)
+
+-- no field is left
+unfoldable pub end : Entry → Form
+end e [] = some e
+end e (f ∷ fs) = none
+
+unfoldable pub each : {A : Type 0} → (Field → Option A) → List Field → Option (List A)
+each p [] = some []
+each p (f ∷ fs) = bind (p f) (λ x. bind (each p fs) (λ xs. some (x ∷ xs)))
+
+-- all the fields that are left, if their count is right
+unfoldable pub rest : {A : Type 0} → (ℕ → Bool) → (Field → Option A) → (List A → Entry) → Form
+rest right p e fs = bind (each p fs) (λ xs. when (right (length fs)) (e xs))
+
+-- ---- fields
+-- "row numbers are 0 to 511"
+unfoldable pub rowNumber : Field → Option ℕ
+rowNumber f = number 0 511 f
+
+-- "k (0 to 63)", "i 0 to 63"
+unfoldable pub index : Field → Option ℕ
+index f = number 0 63 f
+
+-- "n 0 to 64"
+unfoldable pub amount : Field → Option ℕ
+amount f = number 0 64 f
+
+-- "Registers are r1 to r8."
+unfoldable pub register : Field → Option ℕ
+register [] = none
+register (b ∷ s) = bind (when (eqb b (code "r")) s) (λ s. bind (number 1 8 s) (λ n. some (n - 1)))
+
+unfoldable pub letter : ℕ → Option Kind
+letter b = cond (eqb b (code "v")) (some value) (when (eqb b (code "s")) stack)
+
+unfoldable pub eachLetter : List ℕ → Option (List Kind)
+eachLetter [] = some []
+eachLetter (b ∷ s) = bind (letter b) (λ κ. bind (eachLetter s) (λ q. some (κ ∷ q)))
+
+-- "1 to 8 letters) or `-` for none"
+unfoldable pub letters : Field → Option (List Kind)
+letters f = cond (sameBytes f (bytes "-")) (some []) (bind (eachLetter f) (λ q. when (leb 1 (length q) && leb (length q) 8) q))
+
+-- "each a is a register's row or `-` if nothing is known of it"
+unfoldable pub known : Field → Option (Option ℕ)
+known f = cond (sameBytes f (bytes "-")) (some none) (bind (rowNumber f) (λ r. some (some r)))
+
+-- "An operand v is a register, a literal of 32 signed bits, or `#` and a label (0 to 63)."
+unfoldable pub carrier : Field → Option Base
+carrier [] = none
+carrier (b ∷ s) = cond (eqb b (code "#")) (bind (number 0 63 s) (λ l. some (lab l))) (bind (register (b ∷ s)) (λ r. some (reg r)))
+
+abbrev orLiteral : Option Base → Field → Option Base
+orLiteral none f = bind (literal f) (λ n. some (lit n))
+orLiteral (some b) f = some b
+
+-- "A register or label may carry 1 to 8 type arguments and the resulting row: `#1:4:6=9`."
+unfoldable pub carried : List Field → Field → Option Operand
+carried [] t = none
+carried (b ∷ ts) t = bind (carrier b) (λ c. bind (each rowNumber ts) (λ rs. bind (rowNumber t) (λ r. when (leb 1 (length ts) && leb (length ts) 8) (inst c rs r))))
+
+abbrev fromParts : List Field → Option Operand
+fromParts [] = none
+fromParts (b ∷ []) = bind (orLiteral (carrier b) b) (λ c. some (plain c))
+fromParts (l ∷ t ∷ []) = carried (split (code ":") l) t
+fromParts (l ∷ t ∷ u ∷ ps) = none
+
+unfoldable pub operand : Field → Option Operand
+operand f = fromParts (split (code "=") f)
+
+-- ---- lines
+-- a line's first field, and how the others are read
+pub record Named : Type 0 where
+  pub name : String
+  pub fields : Form
+
+abbrev named : String → Form → Named
+named s f = record { name = s; fields = f }
+
+abbrev arith : Arith → Form
+arith o = do
+  d ← register
+  s ← register
+  v ← operand
+  end (instr (aop o d s v))
+
+abbrev branch : Branch → Form
+branch o = do
+  r ← register
+  v ← operand
+  end (instr (bop o r v))
+
+unfoldable pub forms : List Named
+forms =
+    named "I" (end (row rowI))
+    ∷ named "N" (end (row rowN))
+    ∷ named "V" (do k ← index; end (row (rowV k)))
+    ∷ named "U" (rest (λ n. leb n 16) rowNumber (λ ts. row (rowU ts)))
+    ∷ named "P" (do s ← rowNumber; end (row (rowP s)))
+    ∷ named "C" (do q ← letters; s ← rowNumber; rest (λ n. eqb n 8) known (λ rs. row (rowC q s rs)))
+    ∷ named "E" (end (row rowE))
+    ∷ named "X" (do k ← index; end (row (rowX k)))
+    ∷ named "K" (do t ← rowNumber; s ← rowNumber; end (row (rowK t s)))
+    ∷ named "A" (do s ← rowNumber; t ← rowNumber; end (row (rowA s t)))
+    ∷ named "B" (do c ← rowNumber; end (block c))
+    ∷ named "add" (arith add)
+    ∷ named "sub" (arith sub)
+    ∷ named "mul" (arith mul)
+    ∷ named "beq" (branch beq)
+    ∷ named "bneq" (branch bneq)
+    ∷ named "bgt" (branch bgt)
+    ∷ named "blt" (branch blt)
+    ∷ named "bgte" (branch bgte)
+    ∷ named "blte" (branch blte)
+    ∷ named "mov" (do d ← register; v ← operand; end (instr (mov d v)))
+    ∷ named "ld" (do d ← register; s ← register; i ← index; end (instr (ld d s i)))
+    ∷ named "st" (do d ← register; i ← index; s ← register; end (instr (st d i s)))
+    ∷ named "malloc" (do d ← register; t ← rowNumber; rest (λ n. leb n 16) operand (λ vs. instr (malloc d t vs)))
+    ∷ named "getsp" (do d ← register; t ← rowNumber; end (instr (getsp d t)))
+    ∷ named "setsp" (do s ← register; end (instr (setsp s)))
+    ∷ named "salloc" (do n ← amount; end (instr (salloc n)))
+    ∷ named "sfree" (do n ← amount; end (instr (sfree n)))
+    ∷ named "sld" (do d ← register; i ← index; end (instr (sld d i)))
+    ∷ named "sst" (do i ← index; s ← register; end (instr (sst i s)))
+    ∷ named "slp" (do d ← register; s ← register; i ← index; end (instr (slp d s i)))
+    ∷ named "ssp" (do d ← register; i ← index; s ← register; t ← rowNumber; end (instr (ssp d i s t)))
+    ∷ named "jmp" (do v ← operand; end (instr (jmp v)))
+    ∷ named "halt" (do t ← rowNumber; end (instr (halt t)))
+    ∷ []
+
+-- the form of that name; none if there is none
+unfoldable pub formNamed : List Named → Field → Form
+formNamed [] f fs = none
+formNamed (n ∷ ns) f fs = cond (sameBytes (bytes (n .name)) f) (n .fields fs) (formNamed ns f fs)
+
+unfoldable pub entryOf : List Field → Option Entry
+entryOf [] = none
+entryOf (f ∷ fs) = formNamed forms f fs
+
+-- what a line says; `none` for "line of no form above, field out of range, last LF missing"
+unfoldable pub parse : Line → Option Entry
+parse (ended s) = entryOf (fieldsOf s)
+parse (unended s) = none

@@ -1,0 +1,4 @@
+pub mod Bytes
+pub mod Grammar
+pub mod PassOne
+pub mod Samples

@@ -1,0 +1,215 @@
+-- Rows to types, sizes, and pass two (document 01, "Program text" and "Faults", 4 to 6).
+use Prim.Native.Nat.{ℕ, suc, _+_}
+use mathlib.Core.Bool.{Bool, true, false, _&&_, _||_, not, cond}
+use mathlib.Core.Option.{Option, none, some}
+use mathlib.Core.List.{List, [], _∷_, _++_, map, reverse}
+use lib.Dec.{ltb}
+use lib.ListN.{length, getD, getElem?}
+use Rattle.syntax.specs.Syntax.{Kind, value, stack, Row, rowI, rowN, rowE, rowV, rowX, rowP, rowU, rowK, rowA, rowC, Base, reg, lit, lab, Operand, plain, inst, Instr, aop, bop, mov, ld, st, malloc, getsp, setsp, salloc, sfree, sld, sst, slp, ssp, jmp, halt, Entry, row, block, instr}
+use Rattle.syntax.specs.Fault.{Fault, given, Pass}
+use Rattle.types.specs.Types.{Ty, int, junk, var, tuple, pointer, code, nil, push, svar, gap, join, Arg, arg, ofKind}
+
+-- ---- what rows mean, each by the rows before it
+-- row r as a type of the kind needed; pass two sees that there is one
+unfoldable pub typeAt : (κ : Kind) → List Arg → ℕ → Ty κ
+typeAt κ table r = ofKind κ (getD table r (arg value junk))
+
+unfoldable pub components : List Arg → List ℕ → Ty stack
+components table [] = nil
+components table (t ∷ ts) = push (typeAt value table t) (components table ts)
+
+unfoldable pub registers : List Arg → List (Option ℕ) → Ty stack
+registers table [] = nil
+registers table (none ∷ ts) = gap (registers table ts)
+registers table (some t ∷ ts) = push (typeAt value table t) (registers table ts)
+
+unfoldable pub meaning : List Arg → Row → Arg
+meaning table rowI = arg value int
+meaning table rowN = arg value junk
+meaning table (rowV k) = arg value (var k)
+meaning table (rowU ts) = arg value (tuple (components table ts))
+meaning table (rowP s) = arg value (pointer (typeAt stack table s))
+meaning table (rowC q s rs) = arg value (code (reverse q) (typeAt stack table s) (registers table rs))
+meaning table rowE = arg stack nil
+meaning table (rowX k) = arg stack (svar k nil)
+meaning table (rowK t s) = arg stack (push (typeAt value table t) (typeAt stack table s))
+meaning table (rowA s₁ s₂) = arg stack (join (typeAt stack table s₁) (typeAt stack table s₂))
+
+unfoldable pub meanings : List Arg → List Row → List Arg
+meanings table [] = table
+meanings table (r ∷ rs) = meanings (table ++ meaning table r ∷ []) rs
+
+-- the types of all rows
+unfoldable pub typesOf : List Row → List Arg
+typesOf rows = meanings [] rows
+
+-- ---- which rows and labels a line names, and what they must be
+-- "value, stack or code row where another is needed (.. value or stack for an argument)"
+pub data Sort : Type 0 where
+  valueRow stackRow codeRow anyRow : Sort
+
+unfoldable pub isValue : Row → Bool
+isValue rowI = true
+isValue rowN = true
+isValue (rowV k) = true
+isValue (rowU ts) = true
+isValue (rowP s) = true
+isValue (rowC q s rs) = true
+isValue rowE = false
+isValue (rowX k) = false
+isValue (rowK t s) = false
+isValue (rowA s₁ s₂) = false
+
+unfoldable pub isCode : Row → Bool
+isCode rowI = false
+isCode rowN = false
+isCode (rowV k) = false
+isCode (rowU ts) = false
+isCode (rowP s) = false
+isCode (rowC q s rs) = true
+isCode rowE = false
+isCode (rowX k) = false
+isCode (rowK t s) = false
+isCode (rowA s₁ s₂) = false
+
+unfoldable pub isOf : Sort → Row → Bool
+isOf valueRow r = isValue r
+isOf stackRow r = not (isValue r)
+isOf codeRow r = isCode r
+isOf anyRow r = true
+
+pub record Ref : Type 0 where
+  pub sort : Sort
+  pub row : ℕ
+
+abbrev ref : Sort → ℕ → Ref
+ref s r = record { sort = s; row = r }
+
+unfoldable pub knownRefs : List (Option ℕ) → List Ref
+knownRefs [] = []
+knownRefs (none ∷ rs) = knownRefs rs
+knownRefs (some r ∷ rs) = ref valueRow r ∷ knownRefs rs
+
+unfoldable pub rowRefs : Row → List Ref
+rowRefs rowI = []
+rowRefs rowN = []
+rowRefs (rowV k) = []
+rowRefs (rowU ts) = map (ref valueRow) ts
+rowRefs (rowP s) = ref stackRow s ∷ []
+rowRefs (rowC q s rs) = ref stackRow s ∷ knownRefs rs
+rowRefs rowE = []
+rowRefs (rowX k) = []
+rowRefs (rowK t s) = ref valueRow t ∷ ref stackRow s ∷ []
+rowRefs (rowA s₁ s₂) = ref stackRow s₁ ∷ ref stackRow s₂ ∷ []
+
+unfoldable pub operandRefs : Operand → List Ref
+operandRefs (plain b) = []
+operandRefs (inst b ts t) = map (ref anyRow) ts ++ ref codeRow t ∷ []
+
+unfoldable pub operandsRefs : List Operand → List Ref
+operandsRefs [] = []
+operandsRefs (v ∷ vs) = operandRefs v ++ operandsRefs vs
+
+-- what an instruction names: its row t, if it has one ("value for every t"), and its operands
+pub record Names : Type 0 where
+  pub given : List ℕ
+  pub operands : List Operand
+
+abbrev operand : Operand → Names
+operand v = record { given = []; operands = v ∷ [] }
+
+abbrev only : List ℕ → Names
+only ts = record { given = ts; operands = [] }
+
+unfoldable pub names : Instr → Names
+names (aop o d s v) = operand v
+names (bop o r v) = operand v
+names (mov d v) = operand v
+names (ld d s i) = only []
+names (st d i s) = only []
+names (malloc d t vs) = record { given = t ∷ []; operands = vs }
+names (getsp d t) = only (t ∷ [])
+names (setsp s) = only []
+names (salloc n) = only []
+names (sfree n) = only []
+names (sld d i) = only []
+names (sst i s) = only []
+names (slp d s i) = only []
+names (ssp d i s t) = only (t ∷ [])
+names (jmp v) = operand v
+names (halt t) = only (t ∷ [])
+
+unfoldable pub baseLabels : Base → List ℕ
+baseLabels (reg r) = []
+baseLabels (lit n) = []
+baseLabels (lab l) = l ∷ []
+
+unfoldable pub labels : List Operand → List ℕ
+labels [] = []
+labels (plain b ∷ vs) = baseLabels b ++ labels vs
+labels (inst b ts t ∷ vs) = baseLabels b ++ labels vs
+
+-- ---- faults
+unfoldable pub isSort : Sort → Option Row → Bool
+isSort s none = true
+isSort s (some r) = isOf s r
+
+unfoldable pub allBelow : ℕ → List ℕ → Bool
+allBelow n [] = true
+allBelow n (k ∷ ks) = ltb k n && allBelow n ks
+
+-- a row that does not exist has no sort to look at
+unfoldable pub allOfSort : List Row → List Ref → Bool
+allOfSort rows [] = true
+allOfSort rows (r ∷ rs) = isSort (r .sort) (getElem? rows (r .row)) && allOfSort rows rs
+
+abbrev rowsIn : List Ref → List ℕ
+rowsIn rs = map (λ r. r .row) rs
+
+-- "A row's size is 1 plus the sizes of the rows it names, counted each time", by the sizes of the rows before it
+unfoldable pub total : List ℕ → List Ref → ℕ
+total sizes [] = 0
+total sizes (r ∷ rs) = getD sizes (r .row) 0 + total sizes rs
+
+unfoldable pub sizeOf : List ℕ → Row → ℕ
+sizeOf sizes r = suc (total sizes (rowRefs r))
+
+unfoldable pub sizesFrom : List ℕ → List Row → List ℕ
+sizesFrom sizes [] = sizes
+sizesFrom sizes (r ∷ rs) = sizesFrom (sizes ++ sizeOf sizes r ∷ []) rs
+
+unfoldable pub sizesOf : List Row → List ℕ
+sizesOf rows = sizesFrom [] rows
+
+-- the faults of row r, by the rows before it and their sizes: "row does not exist, or row not lower", its sort, "size over 4,096"
+unfoldable pub rowFaults : List Row → List ℕ → Row → List Fault
+rowFaults before sizes r =
+    given (not (allBelow (length before) (rowsIn (rowRefs r)))) 4
+    ++ given (not (allOfSort before (rowRefs r))) 5
+    ++ given (ltb 4096 (sizeOf sizes r)) 6
+
+unfoldable pub rowsFaults : List Row → List ℕ → List Row → Pass
+rowsFaults before sizes [] = []
+rowsFaults before sizes (r ∷ rs) = rowFaults before sizes r ∷ rowsFaults (before ++ r ∷ []) (sizes ++ sizeOf sizes r ∷ []) rs
+
+unfoldable pub refsFaults : List Row → List Ref → List Fault
+refsFaults rows rs = given (not (allBelow (length rows) (rowsIn rs))) 4 ++ given (not (allOfSort rows rs)) 5
+
+-- of a line behind the type lines, by all rows and the number of blocks
+unfoldable pub entryFaults : List Row → ℕ → Entry → List Fault
+entryFaults rows blocks (row r) = []
+entryFaults rows blocks (block c) = refsFaults rows (ref codeRow c ∷ [])
+entryFaults rows blocks (instr x) =
+    given (not (allBelow blocks (labels (names x .operands)))) 4
+    ++ refsFaults rows (map (ref valueRow) (names x .given) ++ operandsRefs (names x .operands))
+
+-- type lines come first, so a line's faults stand at its own place
+unfoldable pub entriesFaults : List Row → ℕ → List Entry → Pass
+entriesFaults rows blocks [] = []
+entriesFaults rows blocks (row r ∷ es) = entriesFaults rows blocks es
+entriesFaults rows blocks (block c ∷ es) = entryFaults rows blocks (block c) ∷ entriesFaults rows blocks es
+entriesFaults rows blocks (instr x ∷ es) = entryFaults rows blocks (instr x) ∷ entriesFaults rows blocks es
+
+-- pass two, from the rows, the number of blocks and the lines; line 0 has none
+unfoldable pub passTwo : List Row → ℕ → List Entry → Pass
+passTwo rows blocks es = [] ∷ rowsFaults [] [] rows ++ entriesFaults rows blocks es

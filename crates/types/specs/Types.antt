@@ -1,0 +1,156 @@
+-- Types (Figure 6; document 01, "When types are equal"), read so that equality is equality: "A stack type is read as a list of
+-- items from the top, each a value type or a stack variable; E adds none, A joins."
+use Prim.Native.Nat.{ℕ, zero, suc, _+_, _-_, _≤_}
+use mathlib.Core.Path.{_≡_}
+use mathlib.Core.Bool.{Bool, true, false, _&&_}
+use mathlib.Core.Option.{Option, none, some}
+use mathlib.Core.List.{List, [], _∷_, _++_}
+use lib.ListN.{length, getElem?}
+use Rattle.syntax.specs.Partial.{when}
+use Rattle.syntax.specs.Syntax.{Kind, value, stack}
+
+-- One family: at `value` the value types, at `stack` lists of items. Such a list is a stack type, a tuple's components, or the
+-- eight registers of a code type; `gap` is a register of which nothing is known. A code type has its letters in the order of
+-- their variables (the last letter, variable 0, first), then its stack and its registers. Variables count binders outward.
+pub data Ty : Kind → Type 0 where
+  int junk : Ty value
+  var : ℕ → Ty value
+  tuple pointer : Ty stack → Ty value
+  code : List Kind → Ty stack → Ty stack → Ty value
+  nil : Ty stack
+  push : Ty value → Ty stack → Ty stack
+  svar : ℕ → Ty stack → Ty stack
+  gap : Ty stack → Ty stack
+
+-- the second list below the first
+unfoldable pub join : Ty stack → Ty stack → Ty stack
+join nil b = b
+join (push t a) b = push t (join a b)
+join (svar k a) b = svar k (join a b)
+join (gap a) b = gap (join a b)
+
+-- how many items
+unfoldable pub items : Ty stack → ℕ
+items nil = 0
+items (push t a) = suc (items a)
+items (svar k a) = suc (items a)
+items (gap a) = suc (items a)
+
+-- ---- variables
+-- variable k as a type
+unfoldable pub variable : (κ : Kind) → ℕ → Ty κ
+variable value k = var k
+variable stack k = svar k nil
+
+-- x if k is bound by the d nearest binders; else f at how far k is past them
+unfoldable pub below : {A : Type 0} → ℕ → ℕ → A → (ℕ → A) → A
+below zero k x f = f k
+below (suc d) zero x f = x
+below (suc d) (suc k) x f = below d k x f
+
+-- what stands for a variable: under so many binders, of a kind, with an index
+abbrev pub Act : Type 0
+Act = ℕ → (κ : Kind) → ℕ → Ty κ
+
+-- the type with something put for each variable, d binders around it
+unfoldable pub walk : Act → ℕ → {κ : Kind} → Ty κ → Ty κ
+unfolding join
+walk f d int = int
+walk f d junk = junk
+walk f d (var k) = f d value k
+walk f d (tuple a) = tuple (walk f d a)
+walk f d (pointer a) = pointer (walk f d a)
+walk f d (code q a r) = code q (walk f (length q + d) a) (walk f (length q + d) r)
+walk f d nil = nil
+walk f d (push t a) = push (walk f d t) (walk f d a)
+walk f d (svar k a) = join (f d stack k) (walk f d a)
+walk f d (gap a) = gap (walk f d a)
+
+-- free variables raised by m
+unfoldable pub raising : ℕ → Act
+raising m d κ k = below d k (variable κ k) (λ j. variable κ (j + (m + d)))
+
+unfoldable pub raise : ℕ → {κ : Kind} → Ty κ → Ty κ
+raise m t = walk (raising m) 0 t
+
+-- ---- filling
+pub data Arg : Type 0 where
+  arg : (κ : Kind) → Ty κ → Arg
+
+unfoldable pub kindOf : Arg → Kind
+kindOf (arg κ t) = κ
+
+-- an argument as a type of a kind; of the other kind it is never asked for (`meets`)
+unfoldable pub ofKind : (κ : Kind) → Arg → Ty κ
+ofKind value (arg value t) = t
+ofKind value (arg stack t) = junk
+ofKind stack (arg stack t) = t
+ofKind stack (arg value t) = nil
+
+-- Under d binders, the variable j past them: an argument, raised by d ("Variables in an argument keep meaning the block's"), or
+-- one further out, which comes down by the number of arguments.
+unfoldable pub place : (κ : Kind) → ℕ → List Arg → ℕ → Ty κ
+place κ d [] j = variable κ (j + d)
+place κ d (a ∷ A) zero = raise d (ofKind κ a)
+place κ d (a ∷ A) (suc j) = place κ d A j
+
+unfoldable pub filling : List Arg → Act
+filling A d κ k = below d k (variable κ k) (place κ d A)
+
+-- the type with the variables past the d nearest filled by arguments, all at once; fill 0 closes a type
+unfoldable pub fill : ℕ → List Arg → {κ : Kind} → Ty κ → Ty κ
+fill d A t = walk (filling A) d t
+
+unfoldable pub fillArg : List Arg → Arg → Arg
+fillArg A (arg κ t) = arg κ (fill 0 A t)
+
+-- the argument for variable j is of kind κ; so is a variable that no argument fills
+unfoldable pub fitsKind : Kind → List Arg → ℕ → Bool
+fitsKind κ [] j = true
+fitsKind value (arg value t ∷ A) zero = true
+fitsKind value (arg stack t ∷ A) zero = false
+fitsKind stack (arg value t ∷ A) zero = false
+fitsKind stack (arg stack t ∷ A) zero = true
+fitsKind κ (a ∷ A) (suc j) = fitsKind κ A j
+
+-- every variable that an argument fills is of its letter: only a row with a fault 7 on its own line has another
+unfoldable pub meets : List Arg → ℕ → {κ : Kind} → Ty κ → Bool
+meets A d int = true
+meets A d junk = true
+meets A d (var k) = below d k true (fitsKind value A)
+meets A d (tuple a) = meets A d a
+meets A d (pointer a) = meets A d a
+meets A d (code q a r) = meets A (length q + d) a && meets A (length q + d) r
+meets A d nil = true
+meets A d (push t a) = meets A d t && meets A d a
+meets A d (svar k a) = below d k true (fitsKind stack A) && meets A d a
+meets A d (gap a) = meets A d a
+
+-- "Type arguments fill the first bound variables, left to right; fewer than all is allowed": the code type with letters q left.
+-- The first letters have the last variables, so q stands first. `none`: a variable of the wrong letter would have to be filled.
+unfoldable pub filled : List Arg → List Kind → Ty stack → Ty stack → Option (Ty value)
+filled A q a r = when (meets A (length q) a && meets A (length q) r) (code q (fill (length q) A a) (fill (length q) A r))
+
+-- ---- well-formed types
+-- what a list of items is
+pub data Use : Type 0 where
+  aStack aTuple aFile : Use
+
+-- Rules (type), (stype) of Figure 10: each free variable is bound by Δ, and is of its letter there. Only a stack has stack variables,
+-- only a register file has gaps, and it has eight registers.
+abbrev pub Wf : List Kind → Use → {κ : Kind} → Ty κ → Type 0
+Wf Δ u int = Unit
+Wf Δ u junk = Unit
+Wf Δ u (var k) = getElem? Δ k ≡ some value
+Wf Δ u (tuple a) = Wf Δ aTuple a
+Wf Δ u (pointer a) = Wf Δ aStack a
+Wf Δ u (code q a r) = Wf (q ++ Δ) aStack a × Wf (q ++ Δ) aFile r × (items r ≡ 8)
+Wf Δ u nil = Unit
+Wf Δ u (push t a) = Wf Δ u t × Wf Δ u a
+Wf Δ u (svar k a) = (u ≡ aStack) × (getElem? Δ k ≡ some stack) × Wf Δ u a
+Wf Δ u (gap a) = (u ≡ aFile) × Wf Δ u a
+
+-- arguments for the letters q, well-formed under Δ; closed ones under []
+pub data Args (Δ : List Kind) : List Arg → List Kind → Type 0 where
+  noargs : Args Δ [] []
+  more : {κ : Kind} {t : Ty κ} {A : List Arg} {q : List Kind} → Wf Δ aStack t → Args Δ A q → Args Δ (arg κ t ∷ A) (κ ∷ q)

@@ -1,0 +1,4 @@
+pub mod Program
+pub mod Rules
+pub mod PassThree
+pub mod Verdict

@@ -1,0 +1,318 @@
+-- Pass three (document 01, "Typing", and "Faults", 7 to 14): for each line the set of faults that stand on it. A premise fails
+-- with a fault; premises side by side are all looked at, and one that reads a type waits for it: "a premise is not looked at if
+-- another fault on its line leaves it without a type to read".
+use Prim.Native.Nat.{ℕ, zero, suc, _-_}
+use mathlib.Core.Bool.{Bool, true, false, _&&_, not, cond}
+use mathlib.Core.Option.{Option, none, some}
+use mathlib.Core.List.{List, [], _∷_, _++_, map}
+use lib.Dec.{leb, ltb, eqb}
+use lib.ListN.{length, getD, getElem?, take, drop, replicate}
+use Rattle.syntax.specs.Partial.{bind, when}
+use Rattle.syntax.specs.Syntax.{Kind, value, stack, Base, reg, lit, lab, Operand, plain, inst, Instr, aop, bop, mov, ld, st, malloc, getsp, setsp, salloc, sfree, sld, sst, slp, ssp, jmp, halt}
+use Rattle.syntax.specs.Fault.{Fault, fault, unfit, given, Pass}
+use Rattle.types.specs.Types.{Ty, int, junk, var, tuple, pointer, code, nil, push, svar, gap, join, items, Arg, arg, kindOf, filled, Use, aStack, aTuple, aFile}
+use Rattle.types.specs.Equal.{same, sameLetters}
+use Rattle.valid.specs.Program.{Block, Program, typeOf, argsOf}
+use Rattle.valid.specs.Rules.{junks, Context, withRegs, withSp, atStart, entryRegs}
+
+-- ---- premises
+-- what a premise gives, or the faults that stand against it, at least one
+pub data Judged (A : Type 0) : Type 0 where
+  holds : A → Judged A
+  fails : Fault → List Fault → Judged A
+
+unfoldable pub faultsOf : {A : Type 0} → Judged A → List Fault
+faultsOf (holds x) = []
+faultsOf (fails f fs) = f ∷ fs
+
+infixr 40 _▹_
+infixr 50 _&_
+-- one that reads what the other gives
+unfoldable pub _▹_ : {A B : Type 0} → Judged A → (A → Judged B) → Judged B
+holds x ▹ k = k x
+fails f fs ▹ k = fails f fs
+
+-- two side by side
+unfoldable pub _&_ : {A B : Type 0} → Judged A → Judged B → Judged (A × B)
+holds x & holds y = holds (x, y)
+holds x & fails f fs = fails f fs
+fails f fs & holds y = fails f fs
+fails f fs & fails g gs = fails f (fs ++ g ∷ gs)
+
+unfoldable pub orFault : {A : Type 0} → ℕ → Option A → Judged A
+orFault n none = fails (fault n) []
+orFault n (some x) = holds x
+
+unfoldable pub need : Fault → Bool → Judged (Unit {0})
+need f true = holds tt
+need f false = fails f []
+
+unfoldable pub noneOf : List Fault → Judged (Unit {0})
+noneOf [] = holds tt
+noneOf (f ∷ fs) = fails f fs
+
+-- ---- reading types
+unfoldable pub itemAt : Ty stack → ℕ → Option (Ty value)
+itemAt nil i = none
+itemAt (push t a) zero = some t
+itemAt (push t a) (suc i) = itemAt a i
+itemAt (svar k a) i = none
+itemAt (gap a) zero = none
+itemAt (gap a) (suc i) = itemAt a i
+
+-- the list with t for item i
+unfoldable pub replaced : Ty stack → ℕ → Ty value → Option (Ty stack)
+replaced nil i t = none
+replaced (push u a) zero t = some (push t a)
+replaced (push u a) (suc i) t = bind (replaced a i t) (λ b. some (push u b))
+replaced (svar k a) i t = none
+replaced (gap a) zero t = some (push t a)
+replaced (gap a) (suc i) t = bind (replaced a i t) (λ b. some (gap b))
+
+-- what is under the first n items, if these are value types
+unfoldable pub under : ℕ → Ty stack → Option (Ty stack)
+under zero a = some a
+under (suc n) nil = none
+under (suc n) (push t a) = under n a
+under (suc n) (svar k a) = none
+under (suc n) (gap a) = none
+
+-- what stands above b in a, if b is a tail of a
+unfoldable pub above : Ty stack → Ty stack → Option (Ty stack)
+above b nil = cond (same nil b) (some nil) none
+above b (push t a) = cond (same (push t a) b) (some nil) (bind (above b a) (λ c. some (push t c)))
+above b (svar k a) = cond (same (svar k a) b) (some nil) (bind (above b a) (λ c. some (svar k c)))
+above b (gap a) = cond (same (gap a) b) (some nil) (bind (above b a) (λ c. some (gap c)))
+
+unfoldable pub asInt : Ty value → Option (Unit {0})
+asInt int = some tt
+asInt junk = none
+asInt (var k) = none
+asInt (tuple a) = none
+asInt (pointer a) = none
+asInt (code q a r) = none
+
+unfoldable pub asTuple : Ty value → Option (Ty stack)
+asTuple int = none
+asTuple junk = none
+asTuple (var k) = none
+asTuple (tuple a) = some a
+asTuple (pointer a) = none
+asTuple (code q a r) = none
+
+unfoldable pub asPointer : Ty value → Option (Ty stack)
+asPointer int = none
+asPointer junk = none
+asPointer (var k) = none
+asPointer (tuple a) = none
+asPointer (pointer a) = some a
+asPointer (code q a r) = none
+
+pub record CodeType : Type 0 where
+  pub letters : List Kind
+  pub sp : Ty stack
+  pub regs : Ty stack
+
+unfoldable pub asCode : Ty value → Option CodeType
+asCode int = none
+asCode junk = none
+asCode (var k) = none
+asCode (tuple a) = none
+asCode (pointer a) = none
+asCode (code q a r) = some (record { letters = q; sp = a; regs = r })
+
+-- ---- well-formed types, as a test (Wf of crate types)
+unfoldable pub isKind : Kind → Option Kind → Bool
+isKind κ none = false
+isKind value (some value) = true
+isKind value (some stack) = false
+isKind stack (some value) = false
+isKind stack (some stack) = true
+
+unfoldable pub isStack : Use → Bool
+isStack aStack = true
+isStack aTuple = false
+isStack aFile = false
+
+unfoldable pub isFile : Use → Bool
+isFile aStack = false
+isFile aTuple = false
+isFile aFile = true
+
+unfoldable pub isFormed : List Kind → Use → {κ : Kind} → Ty κ → Bool
+isFormed Δ u int = true
+isFormed Δ u junk = true
+isFormed Δ u (var k) = isKind value (getElem? Δ k)
+isFormed Δ u (tuple a) = isFormed Δ aTuple a
+isFormed Δ u (pointer a) = isFormed Δ aStack a
+isFormed Δ u (code q a r) = isFormed (q ++ Δ) aStack a && (isFormed (q ++ Δ) aFile r && eqb (items r) 8)
+isFormed Δ u nil = true
+isFormed Δ u (push t a) = isFormed Δ u t && isFormed Δ u a
+isFormed Δ u (svar k a) = isStack u && (isKind stack (getElem? Δ k) && isFormed Δ u a)
+isFormed Δ u (gap a) = isFile u && isFormed Δ u a
+
+unfoldable pub formedArg : List Kind → Arg → Bool
+formedArg Δ (arg κ t) = isFormed Δ aStack t
+
+unfoldable pub formedArgs : List Kind → List Arg → Bool
+formedArgs Δ [] = true
+formedArgs Δ (a ∷ A) = formedArg Δ a && formedArgs Δ A
+
+-- ---- one line, with the types before it
+module _ (P : Program) (Δ : List Kind) where
+  -- 7: "row with a variable unbound or of the wrong letter, in .. an instruction"
+  unfoldable pub formed : ℕ → Judged (Unit {0})
+  formed t = need (fault 7) (isFormed Δ aStack (typeOf P t))
+
+  -- 9: "register unknown", "type not of the form needed"
+  unfoldable pub known : Ty stack → ℕ → Judged (Ty value)
+  known g r = orFault 9 (itemAt g r)
+
+  unfoldable pub integerAt : Ty stack → ℕ → Judged (Unit {0})
+  integerAt g r = known g r ▹ λ t. orFault 9 (asInt t)
+
+  unfoldable pub tupleAt : Ty stack → ℕ → Judged (Ty stack)
+  tupleAt g r = known g r ▹ λ t. orFault 9 (asTuple t)
+
+  unfoldable pub pointerAt : Ty stack → ℕ → Judged (Ty stack)
+  pointerAt g r = known g r ▹ λ t. orFault 9 (asPointer t)
+
+  -- d is one of the eight registers, so there is always a place
+  unfoldable pub assign : Context → ℕ → Ty value → Judged Context
+  assign Γ d t = orFault 9 (bind (replaced (Γ .regs) d t) (λ g. some (withRegs Γ g)))
+
+  -- ---- operands
+  unfoldable pub labelType : Option Block → Option (Ty value)
+  labelType none = none
+  labelType (some B) = some (code (B .letters) (B .sp) (B .regs))
+
+  -- pass two sees that the label exists
+  unfoldable pub base : Ty stack → Base → Judged (Ty value)
+  base g (reg r) = known g r
+  base g (lit n) = holds int
+  base g (lab l) = orFault 4 (labelType (getElem? (P .blocks) l))
+
+  -- the letters left, if there are no more arguments than letters and each is of its letter
+  unfoldable pub lettersLeft : List Arg → List Kind → Option (List Kind)
+  lettersLeft A l = when (leb (length A) (length l) && sameLetters (map kindOf A) (drop (length l - length A) l)) (take (length l - length A) l)
+
+  unfoldable pub isFilled : Ty value → Option (Ty value) → Bool
+  isFilled t none = false
+  isFilled t (some u) = same t u
+
+  -- "arguments on a type that is no code" is 9, 14 "too many arguments, or of the wrong letter", then "the checker confirms that it
+  -- equals the filled type"; `unequal` is the fault that says it does not
+  unfoldable pub applied : Fault → Ty stack → Base → List Arg → ℕ → Judged (Unit {0})
+  applied unequal g b A t =
+      base g b ▹ λ u.
+      orFault 9 (asCode u) ▹ λ c.
+      orFault 14 (lettersLeft A (c .letters)) ▹ λ q.
+      need unequal (isFilled (typeOf P t) (filled A q (c .sp) (c .regs)))
+
+  unfoldable pub operand : Fault → Ty stack → Operand → Judged (Ty value)
+  operand unequal g (plain b) = base g b
+  operand unequal g (inst b ts t) = (need (fault 7) (formedArgs Δ (argsOf P ts)) & formed t & applied unequal g b (argsOf P ts) t) ▹ λ z. holds (typeOf P t)
+
+  unfoldable pub operands : Ty stack → List Operand → Judged (Ty stack)
+  operands g [] = holds nil
+  operands g (v ∷ vs) = (operand (fault 10) g v & operands g vs) ▹ λ z. holds (push (z .0) (z .1))
+
+  -- ---- targets
+  -- the registers, from the n-th on, that the target names and that have no equal type now
+  unfoldable pub unfits : ℕ → Ty stack → Ty stack → List Fault
+  unfits n nil nil = []
+  unfits n nil (push u g) = unfit n ∷ []
+  unfits n nil (svar k g) = unfit n ∷ []
+  unfits n nil (gap g) = unfit n ∷ []
+  unfits n (push t r) nil = unfit n ∷ []
+  unfits n (push t r) (push u g) = cond (same t u) [] (unfit n ∷ []) ++ unfits (suc n) r g
+  unfits n (push t r) (svar k g) = unfit n ∷ []
+  unfits n (push t r) (gap g) = unfit n ∷ unfits (suc n) r g
+  unfits n (svar k r) g = unfit n ∷ []
+  unfits n (gap r) nil = unfit n ∷ []
+  unfits n (gap r) (push u g) = unfits (suc n) r g
+  unfits n (gap r) (svar k g) = unfit n ∷ []
+  unfits n (gap r) (gap g) = unfits (suc n) r g
+
+  -- "a target is code with no variable left"
+  unfoldable pub noneLeft : CodeType → Bool
+  noneLeft c = sameLetters (c .letters) []
+
+  unfoldable pub targetOf : Context → Operand → Judged (Unit {0})
+  targetOf Γ v =
+      operand (unfit 99) (Γ .regs) v ▹ λ u.
+      orFault 9 (asCode u) ▹ λ c.
+      need (fault 9) (noneLeft c) ▹ λ z.
+      (need (unfit 0) (same (c .sp) (Γ .sp)) & noneOf (unfits 1 (c .regs) (Γ .regs))) ▹ λ y.
+      holds tt
+
+  -- `ssp`: the pointer's items with item i replaced, to which t must point
+  unfoldable pub newTail : Context → Ty stack → ℕ → ℕ → ℕ → Judged (Ty stack)
+  newTail Γ b i s t =
+      (orFault 11 (itemAt b i) & known (Γ .regs) s) ▹ λ y.
+      orFault 11 (replaced b i (y .1)) ▹ λ c.
+      need (fault 10) (same (typeOf P t) (pointer c)) ▹ λ x.
+      holds c
+
+  -- ---- instructions: the types after the line, or its faults
+  unfoldable pub judge : Context → Instr → Judged Context
+  judge Γ (aop o d s v) = (integerAt (Γ .regs) s & (operand (fault 10) (Γ .regs) v ▹ λ t. orFault 9 (asInt t))) ▹ λ z. assign Γ d int
+  judge Γ (bop o r v) = (integerAt (Γ .regs) r & targetOf Γ v) ▹ λ z. holds Γ
+  judge Γ (mov d v) = operand (fault 10) (Γ .regs) v ▹ λ t. assign Γ d t
+  judge Γ (ld d s i) = tupleAt (Γ .regs) s ▹ λ c. orFault 11 (itemAt c i) ▹ λ t. assign Γ d t
+  judge Γ (st d i s) = ((tupleAt (Γ .regs) d ▹ λ c. orFault 11 (itemAt c i)) & known (Γ .regs) s) ▹ λ z. need (fault 10) (same (z .1) (z .0)) ▹ λ y. holds Γ
+  judge Γ (malloc d t vs) = (formed t & operands (Γ .regs) vs) ▹ λ z. need (fault 10) (same (typeOf P t) (tuple (z .1))) ▹ λ y. assign Γ d (tuple (z .1))
+  judge Γ (getsp d t) = (formed t & need (fault 10) (same (typeOf P t) (pointer (Γ .sp)))) ▹ λ z. assign Γ d (pointer (Γ .sp))
+  judge Γ (setsp s) = pointerAt (Γ .regs) s ▹ λ b. orFault 12 (above b (Γ .sp)) ▹ λ a. holds (withSp Γ b)
+  judge Γ (salloc n) = need (fault 13) (leb (items (junks n (Γ .sp))) 64) ▹ λ z. holds (withSp Γ (junks n (Γ .sp)))
+  judge Γ (sfree n) = orFault 11 (under n (Γ .sp)) ▹ λ b. holds (withSp Γ b)
+  judge Γ (sld d i) = orFault 11 (itemAt (Γ .sp) i) ▹ λ t. assign Γ d t
+  judge Γ (sst i s) = (known (Γ .regs) s & orFault 11 (itemAt (Γ .sp) i)) ▹ λ z. orFault 11 (replaced (Γ .sp) i (z .0)) ▹ λ b. holds (withSp Γ b)
+  judge Γ (slp d s i) = pointerAt (Γ .regs) s ▹ λ b. (orFault 12 (above b (Γ .sp)) & orFault 11 (itemAt b i)) ▹ λ z. assign Γ d (z .1)
+  judge Γ (ssp d i s t) =
+      (formed t & known (Γ .regs) s & (pointerAt (Γ .regs) d ▹ λ b. orFault 12 (above b (Γ .sp)) & newTail Γ b i s t)) ▹ λ z.
+      assign (withSp Γ (join (z .1 .1 .0) (z .1 .1 .1))) d (pointer (z .1 .1 .1))
+  judge Γ (jmp v) = targetOf Γ v ▹ λ z. holds Γ
+  judge Γ (halt t) = (formed t & known (Γ .regs) 0) ▹ λ z. need (fault 10) (same (z .1) (typeOf P t)) ▹ λ y. holds Γ
+
+  -- a block's instruction lines; behind a line with a fault there are no types, and nothing is looked at
+  unfoldable pub bodyFaults : Judged Context → List Instr → Pass
+  bodyFaults Γ [] = []
+  bodyFaults (holds Γ) (x ∷ xs) = faultsOf (judge Γ x) ∷ bodyFaults (judge Γ x) xs
+  bodyFaults (fails f fs) (x ∷ xs) = [] ∷ bodyFaults (fails f fs) xs
+
+-- ---- blocks
+-- the number of samples that the entry declares: r1's components
+unfoldable pub declared : Ty stack → ℕ
+declared nil = 0
+declared (push int a) = 0
+declared (push junk a) = 0
+declared (push (var k) a) = 0
+declared (push (tuple c) a) = items c
+declared (push (pointer c) a) = 0
+declared (push (code q s r) a) = 0
+declared (svar k a) = 0
+declared (gap a) = 0
+
+-- "block 0 must bind nothing, have no stack items, r1 a tuple of integers, others `-`"
+unfoldable pub isEntry : Block → Bool
+isEntry B = sameLetters (B .letters) [] && (same (B .sp) nil && same (B .regs) (entryRegs (declared (B .regs))))
+
+-- a block's own line: 7, "entry unfit" for block 0, "sp over 64 items"
+unfoldable pub blockFaults : Bool → Block → List Fault
+blockFaults first B =
+    given (not (isFormed [] aStack (code (B .letters) (B .sp) (B .regs)))) 7
+    ++ given (first && not (isEntry B)) 8
+    ++ given (ltb 64 (items (B .sp))) 13
+
+unfoldable pub blocksFaults : Program → Bool → List Block → Pass
+blocksFaults P first [] = []
+blocksFaults P first (B ∷ Bs) = blockFaults first B ∷ bodyFaults P (B .letters) (holds (atStart B)) (B .body) ++ blocksFaults P false Bs
+
+unfoldable pub hasNone : List Block → Bool
+hasNone [] = true
+hasNone (B ∷ Bs) = false
+
+-- line 0 and the type lines have none; "no block (last line + 1)"
+unfoldable pub passThree : Program → Pass
+passThree P = replicate (suc (length (P .types))) [] ++ blocksFaults P true (P .blocks) ++ given (hasNone (P .blocks)) 8 ∷ []
