@@ -24,7 +24,7 @@ pub so-true : (b : Bool) → So b → b ≡ true
 so-true true h = refl
 so-true false h = absurd h
 
-sameLetters-sound : (p q : List Kind) → sameLetters p q ≡ true → p ≡ q
+pub sameLetters-sound : (p q : List Kind) → sameLetters p q ≡ true → p ≡ q
 unfolding sameLetters
 sameLetters-sound [] [] e = refl
 sameLetters-sound [] (κ ∷ q) e = none-true e
@@ -34,7 +34,7 @@ sameLetters-sound (value ∷ p) (stack ∷ q) e = none-true e
 sameLetters-sound (stack ∷ p) (value ∷ q) e = none-true e
 sameLetters-sound (stack ∷ p) (stack ∷ q) e = ap (_∷_ stack) (sameLetters-sound p q e)
 
-sameLetters-refl : (q : List Kind) → sameLetters q q ≡ true
+pub sameLetters-refl : (q : List Kind) → sameLetters q q ≡ true
 unfolding sameLetters
 sameLetters-refl [] = refl
 sameLetters-refl (value ∷ q) = sameLetters-refl q

@@ -24,6 +24,13 @@ join-nil (push t a) = ap (push t) (join-nil a)
 join-nil (svar k a) = ap (svar k) (join-nil a)
 join-nil (gap a) = ap gap (join-nil a)
 
+pub items-join : (a b : Ty stack) → items (join a b) ≡ items a + items b
+unfolding items join
+items-join nil b = omega arith
+items-join (push t a) b = let h = items-join a b in omega arith
+items-join (svar k a) b = let h = items-join a b in omega arith
+items-join (gap a) b = let h = items-join a b in omega arith
+
 pub walk-join : (f : Act) (d : ℕ) (a b : Ty stack) → walk f d (join a b) ≡ join (walk f d a) (walk f d b)
 unfolding join walk
 walk-join f d nil b = refl
