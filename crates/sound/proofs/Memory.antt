@@ -30,13 +30,13 @@ pub put-long : (m : Memory) (n i : ℕ) (w : Word) → Long m n → Long (put m 
 unfolding put
 put-long m n i w l = simp length-set l
 
--- what a list holds after one of its places was written
-set-getD-cases : (l : List Word) (i j : ℕ) (w : Word) (Q : Word → Type 0) → j < length l → (j ≡ i → Q w) → (j ≢ i → Q (getD l j junkWord)) → Q (getD (set l i w) j junkWord)
-set-getD-cases l i j w Q h f g = go (ℕ-discrete j i)
+-- what is read after a write: the word written there, elsewhere what was there
+pub put-cases : (m : Memory) (n i j : ℕ) (w : Word) (Q : Word → Type 0) → Long m n → j < n → (j ≡ i → Q w) → (j ≢ i → Q (at m j)) → Q (at (put m i w) j)
+put-cases m n i j w Q l h f g = go (ℕ-discrete j i)
   where
-    go : Dec (j ≡ i) → Q (getD (set l i w) j junkWord)
-    go (yes e) = rw (← e, getD-set-same l j w junkWord h) (f e)
-    go (no e) = rw (getD-set-other l i j w junkWord e) (g e)
+    go : Dec (j ≡ i) → Q (at (put m i w) j)
+    go (yes e) = rw (← e, put-same m n j w l h) (f e)
+    go (no e) = rw (put-other m i j w e) (g e)
 
 -- ---- words in a row written
 pub puts-before : (ws : List Word) (m : Memory) (i j : ℕ) → j < i → at (puts m i ws) j ≡ at m j
@@ -73,14 +73,15 @@ use-length m n = words-length m 0 n
 pub use-at : (m : Memory) (n k : ℕ) → k < n → getD (inUse m n) k junkWord ≡ at m k
 use-at m n k h = words-at m 0 n k h ∙ ap (at m) (omega arith)
 
--- words that are read alike
+-- the words in use are those of a list that is read alike
 use-is : (m : Memory) (n : ℕ) (ws : List Word) → n ≡ length ws → ((k : ℕ) → k < n → at m k ≡ getD ws k junkWord) → inUse m n ≡ ws
 use-is m n ws e f = ext-getD junkWord (inUse m n) ws (use-length m n ∙ e) (λ k h. let g : k < n = rw (use-length m n) at h in use-at m n k g ∙ f k g)
 
+-- a word written among those in use, and words written behind them
 pub use-put : (m : Memory) (n i : ℕ) (w : Word) → Long m n → inUse (put m i w) n ≡ set (inUse m n) i w
 use-put m n i w l =
     use-is (put m i w) n (set (inUse m n) i w) (rw (length-set, use-length m n)) (λ k h.
-      set-getD-cases (inUse m n) i k w (λ z. at (put m i w) k ≡ z) (rw (use-length m n) h) (λ e. rw e (put-same m n i w l (rw (← e) h))) (λ e. put-other m i k w e ∙ sym (use-at m n k h)))
+    put-cases m n i k w (λ z. z ≡ getD (set (inUse m n) i w) k junkWord) l h (λ e. rw (← e) (sym (getD-set-same (inUse m n) k w junkWord (rw (use-length m n) h)))) (λ e. sym (getD-set-other (inUse m n) i k w junkWord e ∙ use-at m n k h)))
 
 pub use-puts : (m : Memory) (n c : ℕ) (ws : List Word) → Long m c → n + length ws ≤ c → inUse (puts m n ws) (n + length ws) ≡ inUse m n ++ ws
 use-puts m n c ws l h = use-is (puts m n ws) (n + length ws) (inUse m n ++ ws) (rw (length-append, use-length m n)) (λ k g. go k g (side n k))
@@ -98,12 +99,14 @@ unfolding fromTop
 top-length m zero = refl
 top-length m (suc d) = ap suc (top-length m d)
 
+-- item k from the top is word j from the bottom
 pub top-at : (m : Memory) (d k j : ℕ) → suc (k + j) ≡ d → getD (fromTop m d) k junkWord ≡ at m j
 unfolding fromTop
 top-at m zero k j e = absurd (omega arith)
 top-at m (suc d) zero j e = ap (at m) (omega arith)
 top-at m (suc d) (suc k) j e = top-at m d k j (omega arith)
 
+-- without its n upper words a stack has j left
 pub top-drop : (m : Memory) (d n j : ℕ) → n + j ≡ d → drop n (fromTop m d) ≡ fromTop m j
 unfolding fromTop
 top-drop m d zero j e = let p : d ≡ j = omega arith in rw p
@@ -121,6 +124,7 @@ top-put m zero k j w l e = absurd (omega arith)
 top-put m (suc d) zero j w l e = let p : d ≡ j = omega arith in rw p (ap₂ _∷_ (put-same m (suc d) j w l (omega arith)) (top-same m (put m j w) j (λ i h. put-other m j i w (omega arith))))
 top-put m (suc d) (suc k) j w l e = ap₂ _∷_ (put-other m j d w (omega arith)) (top-put m d k j w (omega arith) (omega arith))
 
+-- n words of junk pushed
 pub top-junk : (m : Memory) (d n c : ℕ) → Long m c → d + n ≤ c → fromTop (puts m d (replicate n junkWord)) (d + n) ≡ replicate n junkWord ++ fromTop m d
 unfolding fromTop
 top-junk m d n c l h = go n (omega arith)

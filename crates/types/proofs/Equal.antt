@@ -2,7 +2,7 @@
 use Prim.Native.Nat.{ℕ, zero, suc}
 use native.Mathlib.Omega.{arith}
 use mathlib.Core.Path.{_≡_, refl, ap, ap₂, sym, _∙_}
-use mathlib.Core.Bool.{Bool, true, false, _&&_}
+use mathlib.Core.Bool.{Bool, true, false, _&&_, not}
 use mathlib.Core.List.{List, [], _∷_}
 use lib.Dec.{eqb, eqb→eq, eqb-refl}
 use lib.Dec.{T as So}
@@ -16,6 +16,10 @@ and-inv false b e = (e, cc)
 
 pub none-true : {B : Type 0} → false ≡ true → B
 none-true e = let z : _≡_ {A = ℕ} 0 1 = cc in absurd (omega arith)
+
+pub not-false : (b : Bool) → not b ≡ false → b ≡ true
+not-false true e = refl
+not-false false e = none-true (sym e)
 
 pub to-so : (b : Bool) → b ≡ true → So b
 to-so b e = rw e tt

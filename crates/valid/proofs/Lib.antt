@@ -1,1 +1,6 @@
 pub mod Reading
+pub mod Clear
+pub mod Judge
+pub mod Unique
+pub mod Order
+pub mod Accept

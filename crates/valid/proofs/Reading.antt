@@ -1,12 +1,12 @@
 -- The tests on types say what the rules' relations say: each answers exactly where its relation holds.
 use Prim.Native.Nat.{ℕ, zero, suc}
 use native.Mathlib.Omega.{arith}
-use mathlib.Core.Path.{_≡_, refl, ap, sym, _∙_}
-use mathlib.Core.Bool.{Bool, true, false, _&&_, cond}
+use mathlib.Core.Path.{_≡_, refl, ap}
+use mathlib.Core.Bool.{Bool, true, false, cond}
 use mathlib.Core.Option.{Option, none, some}
 use mathlib.Core.List.{List, [], _∷_, _++_, map}
-use lib.ListN.{length, getElem?}
-use lib.Dec.{eqb, eqb→eq}
+use lib.ListN.{getElem?}
+use lib.Dec.{eqb→eq}
 use Rattle.syntax.specs.Partial.{bind}
 use Rattle.syntax.specs.Syntax.{Kind, value, stack}
 use Rattle.types.specs.Types.{Ty, int, junk, var, tuple, pointer, code, nil, push, svar, gap, join, items, Arg, arg, kindOf, Use, aStack, aTuple, aFile, Wf, Args, noargs, more}
@@ -16,6 +16,7 @@ use Rattle.types.proofs.Equal.{and-inv, none-true, to-so, same-sound, same-refl
 use Rattle.valid.specs.Rules.{At, here, there, skip, Put, phere, pnew, pthere, pskip, Pops, pop0, pop1}
 use Rattle.valid.specs.PassThree.{itemAt, replaced, under, above, asInt, asTuple, asPointer, CodeType, asCode, isKind, isStack, isFile, isFormed, formedArg, formedArgs}
 
+-- a missing value is not there: anything follows
 pub none-some : {A B : Type 0} {x : A} → none ≡ some x → B
 none-some e = let z : _≡_ {A = ℕ} 0 1 = cc in absurd (omega arith)
 
@@ -36,11 +37,11 @@ at-sound (svar k a) i t e = none-some e
 at-sound (gap a) zero t e = none-some e
 at-sound (gap a) (suc i) t e = skip (at-sound a i t e)
 
-pub at-is : {a : Ty stack} {i : ℕ} {t : Ty value} → At a i t → itemAt a i ≡ some t
+pub at-complete : {a : Ty stack} {i : ℕ} {t : Ty value} → At a i t → itemAt a i ≡ some t
 unfolding itemAt
-at-is here = refl
-at-is (there x) = at-is x
-at-is (skip x) = at-is x
+at-complete here = refl
+at-complete (there x) = at-complete x
+at-complete (skip x) = at-complete x
 
 pub put-sound : (a : Ty stack) (i : ℕ) (t : Ty value) (b : Ty stack) → replaced a i t ≡ some b → Put a i t b
 unfolding replaced
@@ -51,12 +52,12 @@ put-sound (svar k a) i t b e = none-some e
 put-sound (gap a) zero t b e = rw (← (some-inj e)) pnew
 put-sound (gap a) (suc i) t b e = bind-by (replaced a i t) (λ c. some (gap c)) b e λ c h k. rw (← (some-inj k)) (pskip (put-sound a i t c h))
 
-pub put-is : {a b : Ty stack} {i : ℕ} {t : Ty value} → Put a i t b → replaced a i t ≡ some b
+pub put-complete : {a b : Ty stack} {i : ℕ} {t : Ty value} → Put a i t b → replaced a i t ≡ some b
 unfolding replaced
-put-is phere = refl
-put-is pnew = refl
-put-is (pthere x) = rw (put-is x)
-put-is (pskip x) = rw (put-is x)
+put-complete phere = refl
+put-complete pnew = refl
+put-complete (pthere x) = rw (put-complete x)
+put-complete (pskip x) = rw (put-complete x)
 
 pub pops-sound : (n : ℕ) (a b : Ty stack) → under n a ≡ some b → Pops a n b
 unfolding under
@@ -66,10 +67,10 @@ pops-sound (suc n) (push t a) b e = pop1 (pops-sound n a b e)
 pops-sound (suc n) (svar k a) b e = none-some e
 pops-sound (suc n) (gap a) b e = none-some e
 
-pub pops-is : {a b : Ty stack} {n : ℕ} → Pops a n b → under n a ≡ some b
+pub pops-complete : {a b : Ty stack} {n : ℕ} → Pops a n b → under n a ≡ some b
 unfolding under
-pops-is pop0 = refl
-pops-is (pop1 x) = pops-is x
+pops-complete pop0 = refl
+pops-complete (pop1 x) = pops-complete x
 
 -- ---- tails
 cond-by : {Q : Type 0} (a b : Ty stack) (o : Option (Ty stack)) (c : Ty stack) → cond (same a b) (some nil) o ≡ some c → (a ≡ b → nil ≡ c → Q) → (o ≡ some c → Q) → Q
@@ -97,49 +98,49 @@ above-self (gap a) = rw same-refl
 longer : (a b x : Ty stack) → items x ≡ suc (items (join a b)) → same x b ≡ false
 longer a b x e = same-false x b (λ p. let h = ap items p in let k = items-join a b in omega arith)
 
-pub above-is : (a b : Ty stack) → above b (join a b) ≡ some a
+pub above-complete : (a b : Ty stack) → above b (join a b) ≡ some a
 unfolding above join
-above-is nil b = above-self b
-above-is (push t a) b = rw (longer a b (push t (join a b)) (unfold items in refl), above-is a b)
-above-is (svar k a) b = rw (longer a b (svar k (join a b)) (unfold items in refl), above-is a b)
-above-is (gap a) b = rw (longer a b (gap (join a b)) (unfold items in refl), above-is a b)
+above-complete nil b = above-self b
+above-complete (push t a) b = rw (longer a b (push t (join a b)) (unfold items in refl), above-complete a b)
+above-complete (svar k a) b = rw (longer a b (svar k (join a b)) (unfold items in refl), above-complete a b)
+above-complete (gap a) b = rw (longer a b (gap (join a b)) (unfold items in refl), above-complete a b)
 
 -- ---- forms
-pub int-sound : (t : Ty value) {u : Unit {0}} → asInt t ≡ some u → t ≡ int
+pub int-sound : (t : Ty value) (u : Unit {0}) → asInt t ≡ some u → t ≡ int
 unfolding asInt
-int-sound int e = refl
-int-sound junk e = none-some e
-int-sound (var k) e = none-some e
-int-sound (tuple a) e = none-some e
-int-sound (pointer a) e = none-some e
-int-sound (code q a r) e = none-some e
+int-sound int u e = refl
+int-sound junk u e = none-some e
+int-sound (var k) u e = none-some e
+int-sound (tuple a) u e = none-some e
+int-sound (pointer a) u e = none-some e
+int-sound (code q a r) u e = none-some e
 
-pub tuple-sound : (t : Ty value) {c : Ty stack} → asTuple t ≡ some c → t ≡ tuple c
+pub tuple-sound : (t : Ty value) (c : Ty stack) → asTuple t ≡ some c → t ≡ tuple c
 unfolding asTuple
-tuple-sound int e = none-some e
-tuple-sound junk e = none-some e
-tuple-sound (var k) e = none-some e
-tuple-sound (tuple a) e = ap tuple (some-inj e)
-tuple-sound (pointer a) e = none-some e
-tuple-sound (code q a r) e = none-some e
+tuple-sound int c e = none-some e
+tuple-sound junk c e = none-some e
+tuple-sound (var k) c e = none-some e
+tuple-sound (tuple a) c e = ap tuple (some-inj e)
+tuple-sound (pointer a) c e = none-some e
+tuple-sound (code q a r) c e = none-some e
 
-pub pointer-sound : (t : Ty value) {c : Ty stack} → asPointer t ≡ some c → t ≡ pointer c
+pub pointer-sound : (t : Ty value) (c : Ty stack) → asPointer t ≡ some c → t ≡ pointer c
 unfolding asPointer
-pointer-sound int e = none-some e
-pointer-sound junk e = none-some e
-pointer-sound (var k) e = none-some e
-pointer-sound (tuple a) e = none-some e
-pointer-sound (pointer a) e = ap pointer (some-inj e)
-pointer-sound (code q a r) e = none-some e
+pointer-sound int c e = none-some e
+pointer-sound junk c e = none-some e
+pointer-sound (var k) c e = none-some e
+pointer-sound (tuple a) c e = none-some e
+pointer-sound (pointer a) c e = ap pointer (some-inj e)
+pointer-sound (code q a r) c e = none-some e
 
-pub code-sound : (t : Ty value) {c : CodeType} → asCode t ≡ some c → t ≡ code (c .letters) (c .sp) (c .regs)
+pub code-sound : (t : Ty value) (c : CodeType) → asCode t ≡ some c → t ≡ code (c .letters) (c .sp) (c .regs)
 unfolding asCode
-code-sound int e = none-some e
-code-sound junk e = none-some e
-code-sound (var k) e = none-some e
-code-sound (tuple a) e = none-some e
-code-sound (pointer a) e = none-some e
-code-sound (code q a r) e = ap (λ c. code (c .letters) (c .sp) (c .regs)) (some-inj e)
+code-sound int c e = none-some e
+code-sound junk c e = none-some e
+code-sound (var k) c e = none-some e
+code-sound (tuple a) c e = none-some e
+code-sound (pointer a) c e = none-some e
+code-sound (code q a r) c e = ap (λ c. code (c .letters) (c .sp) (c .regs)) (some-inj e)
 
 -- ---- well-formed types
 kind-sound : (κ : Kind) (o : Option Kind) → isKind κ o ≡ true → o ≡ some κ
@@ -151,10 +152,10 @@ kind-sound stack none e = none-true e
 kind-sound stack (some value) e = none-true e
 kind-sound stack (some stack) e = refl
 
-kind-is : (κ : Kind) {o : Option Kind} → o ≡ some κ → isKind κ o ≡ true
+kind-complete : (κ : Kind) {o : Option Kind} → o ≡ some κ → isKind κ o ≡ true
 unfolding isKind
-kind-is value e = rw e
-kind-is stack e = rw e
+kind-complete value e = rw e
+kind-complete stack e = rw e
 
 stack-sound : (u : Use) → isStack u ≡ true → u ≡ aStack
 unfolding isStack
@@ -181,18 +182,18 @@ formed-sound Δ u (push t a) e = let k = and-inv _ _ e in (formed-sound Δ u t (
 formed-sound Δ u (svar n a) e = let k = and-inv _ _ e in let j = and-inv _ _ (k .1) in (stack-sound u (k .0), kind-sound stack (getElem? Δ n) (j .0), formed-sound Δ u a (j .1))
 formed-sound Δ u (gap a) e = let k = and-inv _ _ e in (file-sound u (k .0), formed-sound Δ u a (k .1))
 
-pub formed-is : (Δ : List Kind) (u : Use) {κ : Kind} (t : Ty κ) → Wf Δ u t → isFormed Δ u t ≡ true
+pub formed-complete : (Δ : List Kind) (u : Use) {κ : Kind} (t : Ty κ) → Wf Δ u t → isFormed Δ u t ≡ true
 unfolding isFormed isStack isFile
-formed-is Δ u int w = refl
-formed-is Δ u junk w = refl
-formed-is Δ u (var k) w = kind-is value w
-formed-is Δ u (tuple a) w = formed-is Δ aTuple a w
-formed-is Δ u (pointer a) w = formed-is Δ aStack a w
-formed-is Δ u (code q a r) w = rw (formed-is (q ++ Δ) aStack a (w .0), formed-is (q ++ Δ) aFile r (w .1), w .2)
-formed-is Δ u nil w = refl
-formed-is Δ u (push t a) w = rw (formed-is Δ u t (w .0), formed-is Δ u a (w .1))
-formed-is Δ u (svar k a) w = rw (kind-is stack (w .1), formed-is Δ u a (w .2), w .0)
-formed-is Δ u (gap a) w = rw (formed-is Δ u a (w .1), w .0)
+formed-complete Δ u int w = refl
+formed-complete Δ u junk w = refl
+formed-complete Δ u (var k) w = kind-complete value w
+formed-complete Δ u (tuple a) w = formed-complete Δ aTuple a w
+formed-complete Δ u (pointer a) w = formed-complete Δ aStack a w
+formed-complete Δ u (code q a r) w = rw (formed-complete (q ++ Δ) aStack a (w .0), formed-complete (q ++ Δ) aFile r (w .1), w .2)
+formed-complete Δ u nil w = refl
+formed-complete Δ u (push t a) w = rw (formed-complete Δ u t (w .0), formed-complete Δ u a (w .1))
+formed-complete Δ u (svar k a) w = rw (kind-complete stack (w .1), formed-complete Δ u a (w .2), w .0)
+formed-complete Δ u (gap a) w = rw (formed-complete Δ u a (w .1), w .0)
 
 -- arguments that are well-formed are arguments for their own letters, and for no others
 pub args-sound : (Δ : List Kind) (A : List Arg) → formedArgs Δ A ≡ true → Args Δ A (map kindOf A)
@@ -200,10 +201,10 @@ unfolding formedArgs formedArg kindOf
 args-sound Δ [] e = noargs
 args-sound Δ (arg κ t ∷ A) e = let k = and-inv _ _ e in more (formed-sound Δ aStack t (k .0)) (args-sound Δ A (k .1))
 
-pub args-is : {Δ : List Kind} {A : List Arg} {q : List Kind} → Args Δ A q → formedArgs Δ A ≡ true
+pub args-complete : {Δ : List Kind} {A : List Arg} {q : List Kind} → Args Δ A q → formedArgs Δ A ≡ true
 unfolding formedArgs formedArg
-args-is noargs = refl
-args-is {Δ} (more {t = t} w a) = rw (formed-is Δ aStack t w, args-is a)
+args-complete noargs = refl
+args-complete {Δ} (more {t = t} w a) = rw (formed-complete Δ aStack t w, args-complete a)
 
 pub args-letters : {Δ : List Kind} {A : List Arg} {q : List Kind} → Args Δ A q → map kindOf A ≡ q
 unfolding kindOf
