@@ -65,10 +65,11 @@ abbrev pub rowsIn : RowTable → ℕ → List Row
 rowsIn τ n = rowsFrom τ 0 n
 
 -- ---- operands
--- An operand has five entries: its base's kind (0 register, 1 literal, 2 label) and number, where its arguments start in `args` and how
--- many there are (none: it is plain), and the resulting row.
+-- An operand has four entries: its base's kind (0 register, 1 literal, 2 label), the count of its arguments (none: it is plain), the
+-- resulting row, and one that is not used; its base's number stands in `numbers`, its arguments in `args` from 8 v on.
 pub record OperandTable : Type 0 where
   pub operands : List ℕ
+  pub numbers : List ℕ
   pub args : List ℕ
 
 unfoldable pub baseOf : ℕ → ℕ → Base
@@ -82,9 +83,7 @@ operandOf b (a ∷ ts) t = inst b (a ∷ ts) t
 
 unfoldable pub operandAt : OperandTable → ℕ → Operand
 operandAt ω v =
-    operandOf (baseOf (cell 5 (ω .operands) v 0) (cell 5 (ω .operands) v 1))
-    (span (ω .args) (cell 5 (ω .operands) v 2) (cell 5 (ω .operands) v 3))
-    (cell 5 (ω .operands) v 4)
+    operandOf (baseOf (cell 4 (ω .operands) v 0) (getD (ω .numbers) v 0)) (span (ω .args) (8 * v) (cell 4 (ω .operands) v 1)) (cell 4 (ω .operands) v 2)
 
 unfoldable pub operandsAt : OperandTable → ℕ → ℕ → List Operand
 operandsAt ω v zero = []
