@@ -211,7 +211,7 @@ exec P σ (ssp d i s t) = only heightKind (at (σ .registers) d) (λ p. unless s
 exec P σ (jmp v) = jump P σ (wordOf (σ .registers) v)
 exec P σ (halt t) = stop halted
 
-abbrev execNext : Bodies → State → Option Instr → Result State
+abbrev pub execNext : Bodies → State → Option Instr → Result State
 execNext P σ none = stop stuck
 execNext P σ (some x) = exec P σ x
 

@@ -134,7 +134,7 @@ unfoldable pub wanted : List Block → ℕ
 wanted [] = 0
 wanted (B ∷ Bs) = declared (B .regs)
 
-abbrev barredBy : ℕ → Option Refusal → Option Refusal
+abbrev pub barredBy : ℕ → Option Refusal → Option Refusal
 barredBy rows none = none
 barredBy rows (some r) = when (leb (r .number) 6 || eqb (r .line) (suc rows)) r
 
@@ -154,14 +154,14 @@ initial xs σ = record {
   position = 0;
 }
 
-abbrev startOn : Program → Option (List ℕ) → ℕ → State → Outcome
+abbrev pub startOn : Program → Option (List ℕ) → ℕ → State → Outcome
 startOn P none m σ = refuse σ 15 0
 startOn P (some xs) m σ =
     cond (eqb (length xs) (wanted (P .blocks)))
     (cond (longEnough σ) (outcome (run (bodies P) (budget m) (initial xs σ))) (refuse σ 16 0))
     (refuse σ 15 0)
 
-abbrev startUnless : Option Refusal → Program → Option (List ℕ) → ℕ → State → Outcome
+abbrev pub startUnless : Option Refusal → Program → Option (List ℕ) → ℕ → State → Outcome
 startUnless none P xs m σ = startOn P xs m σ
 startUnless (some r) P xs m σ = refuse σ (r .number) (r .line)
 
@@ -169,7 +169,7 @@ startUnless (some r) P xs m σ = refuse σ (r .number) (r .line)
 unfoldable pub starting : List ℕ → List ℕ → ℕ → State → Outcome
 starting text samples m σ = startUnless (barred text) (programOf text) (samplesOf samples) m σ
 
-abbrev continueUnless : Option Refusal → Program → ℕ → State → Outcome
+abbrev pub continueUnless : Option Refusal → Program → ℕ → State → Outcome
 continueUnless none P m σ = cond (longEnough σ && goodForm (bodies P) σ) (outcome (run (bodies P) (budget m) σ)) (refuse σ 16 0)
 continueUnless (some r) P m σ = refuse σ (r .number) (r .line)
 

@@ -43,7 +43,7 @@ unfoldable pub lowest : ℕ → List Fault → ℕ
 lowest n [] = n
 lowest n (f ∷ fs) = lowest (min n (numberOf f)) fs
 
-abbrev refuse : ℕ → ℕ → List Fault → Refusal
+abbrev pub refuse : ℕ → ℕ → List Fault → Refusal
 refuse n line fs = record { number = n; line = line; items = cond (eqb n 10) (itemsOf fs) [] }
 
 -- "then the lowest line": the first line, counted from n, on which a fault stands
@@ -52,7 +52,7 @@ lowestLine n [] = none
 lowestLine n ([] ∷ ls) = lowestLine (suc n) ls
 lowestLine n ((f ∷ fs) ∷ ls) = some (refuse (lowest (numberOf f) fs) n (f ∷ fs))
 
-abbrev orElse : Option Refusal → Option Refusal → Option Refusal
+abbrev pub orElse : Option Refusal → Option Refusal → Option Refusal
 orElse none s = s
 orElse (some r) s = some r
 

@@ -15,7 +15,7 @@ pub data Row : Type 0 where
   rowK rowA : ℕ → ℕ → Row
   rowC : List Kind → ℕ → List (Option ℕ) → Row
 
--- A literal is kept as its bits, a number below 2^32 (Number.antt of crate text).
+-- A literal is kept as its bits, a number below 2^32 (`literal` of crate text).
 pub data Base : Type 0 where
   reg lit lab : ℕ → Base
 

@@ -92,7 +92,7 @@ operandsAt ω v (suc n) = operandAt ω v ∷ operandsAt ω (suc v) n
 -- ---- instructions
 -- An instruction has eight entries: its code, in the order of the forms (add 0 .. halt 22), its numbers in the order of the text, at most
 -- four, where its operands start and how many there are, and one that is not used.
-abbrev instrFrom : OperandTable → ℕ → ℕ → ℕ → ℕ → ℕ → ℕ → ℕ → Instr
+abbrev pub instrFrom : OperandTable → ℕ → ℕ → ℕ → ℕ → ℕ → ℕ → ℕ → Instr
 instrFrom ω k a b c d v n =
     cond (eqb k 0) (aop add a b (operandAt ω v))
     (cond (eqb k 1) (aop sub a b (operandAt ω v))

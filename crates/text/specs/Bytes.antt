@@ -22,7 +22,7 @@ sameBytes (b ∷ s) [] = false
 sameBytes (b ∷ s) (c ∷ t) = eqb b c && sameBytes s t
 
 -- ---- parts
-abbrev part : Bool → ℕ → List (List ℕ) → List (List ℕ)
+abbrev pub part : Bool → ℕ → List (List ℕ) → List (List ℕ)
 part true b ps = [] ∷ ps
 part false b [] = (b ∷ []) ∷ []
 part false b (p ∷ ps) = (b ∷ p) ∷ ps

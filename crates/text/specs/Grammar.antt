@@ -11,7 +11,7 @@ use Rattle.syntax.specs.Syntax.{Kind, value, stack, Row, rowI, rowN, rowE, rowV
 use Rattle.syntax.specs.Partial.{bind, when}
 use Rattle.text.specs.Bytes.{bytes, sameBytes, split, Line, ended, unended, fieldsOf, number, literal}
 
-abbrev Field : Type 0
+abbrev pub Field : Type 0
 Field = List ℕ
 
 -- how the fields after a line's first are read
@@ -75,7 +75,7 @@ unfoldable pub carrier : Field → Option Base
 carrier [] = none
 carrier (b ∷ s) = cond (eqb b (code "#")) (bind (number 0 63 s) (λ l. some (lab l))) (bind (register (b ∷ s)) (λ r. some (reg r)))
 
-abbrev orLiteral : Option Base → Field → Option Base
+abbrev pub orLiteral : Option Base → Field → Option Base
 orLiteral none f = bind (literal f) (λ n. some (lit n))
 orLiteral (some b) f = some b
 
@@ -84,7 +84,7 @@ unfoldable pub carried : List Field → Field → Option Operand
 carried [] t = none
 carried (b ∷ ts) t = bind (carrier b) (λ c. bind (each rowNumber ts) (λ rs. bind (rowNumber t) (λ r. when (leb 1 (length ts) && leb (length ts) 8) (inst c rs r))))
 
-abbrev fromParts : List Field → Option Operand
+abbrev pub fromParts : List Field → Option Operand
 fromParts [] = none
 fromParts (b ∷ []) = bind (orLiteral (carrier b) b) (λ c. some (plain c))
 fromParts (l ∷ t ∷ []) = carried (split (code ":") l) t
@@ -99,17 +99,17 @@ pub record Named : Type 0 where
   pub name : String
   pub fields : Form
 
-abbrev named : String → Form → Named
+abbrev pub named : String → Form → Named
 named s f = record { name = s; fields = f }
 
-abbrev arith : Arith → Form
+abbrev pub arith : Arith → Form
 arith o = do
   d ← register
   s ← register
   v ← operand
   end (instr (aop o d s v))
 
-abbrev branch : Branch → Form
+abbrev pub branch : Branch → Form
 branch o = do
   r ← register
   v ← operand

@@ -83,11 +83,11 @@ lineFaults p n none = fault 1 ∷ []
 lineFaults p n (some e) = given (not (inOrder p e)) 2 ++ given (tooMany n e) 3
 
 -- what follows a line of no form is never given: a lower line has a fault
-abbrev after : Place → Option Entry → Place
+abbrev pub after : Place → Option Entry → Place
 after p none = p
 after p (some e) = placeAfter e
 
-abbrev with-one : Counts → Option Entry → Counts
+abbrev pub with-one : Counts → Option Entry → Counts
 with-one n none = n
 with-one n (some e) = counted n e
 

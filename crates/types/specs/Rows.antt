@@ -82,7 +82,7 @@ pub record Ref : Type 0 where
   pub sort : Sort
   pub row : ℕ
 
-abbrev ref : Sort → ℕ → Ref
+abbrev pub ref : Sort → ℕ → Ref
 ref s r = record { sort = s; row = r }
 
 unfoldable pub knownRefs : List (Option ℕ) → List Ref
@@ -115,10 +115,10 @@ pub record Names : Type 0 where
   pub given : List ℕ
   pub operands : List Operand
 
-abbrev operand : Operand → Names
+abbrev pub operand : Operand → Names
 operand v = record { given = []; operands = v ∷ [] }
 
-abbrev only : List ℕ → Names
+abbrev pub only : List ℕ → Names
 only ts = record { given = ts; operands = [] }
 
 unfoldable pub names : Instr → Names
@@ -163,7 +163,7 @@ unfoldable pub allOfSort : List Row → List Ref → Bool
 allOfSort rows [] = true
 allOfSort rows (r ∷ rs) = isSort (r .sort) (getElem? rows (r .row)) && allOfSort rows rs
 
-abbrev rowsIn : List Ref → List ℕ
+abbrev pub rowsIn : List Ref → List ℕ
 rowsIn rs = map (λ r. r .row) rs
 
 -- "A row's size is 1 plus the sizes of the rows it names, counted each time", by the sizes of the rows before it

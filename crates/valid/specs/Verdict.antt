@@ -25,7 +25,7 @@ unfoldable pub instrCount : List Block → ℕ
 instrCount [] = 0
 instrCount (B ∷ Bs) = length (B .body) + instrCount Bs
 
-abbrev answer : Program → Option Refusal → Verdict
+abbrev pub answer : Program → Option Refusal → Verdict
 answer P none = accepted (length (P .blocks)) (instrCount (P .blocks))
 answer P (some r) = refused r
 
