@@ -120,7 +120,7 @@ module _ (P : Program) (Δ : List Kind) where
   base-given g (lit n) = gives ⊢int
   base-given g (lab l) = go (getElem? (P .blocks) l) refl
     where
-      go : (o : Option Block) → getElem? (P .blocks) l ≡ o → Gives (OfBase P Δ g (lab l)) (orFault 4 (labelType P Δ o))
+      go : (o : Option Block) → getElem? (P .blocks) l ≡ o → Gives (OfBase P Δ g (lab l)) (orFault 9 (labelType P Δ o))
       go none e = unfold orFault labelType in faulty
       go (some B) e = unfold orFault labelType in gives (⊢label B e)
 

@@ -4,3 +4,4 @@ pub mod Judge
 pub mod Unique
 pub mod Order
 pub mod Accept
+pub mod Numbers

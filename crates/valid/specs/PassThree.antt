@@ -190,7 +190,7 @@ module _ (P : Program) (Δ : List Kind) where
   unfoldable pub base : Ty stack → Base → Judged (Ty value)
   base g (reg r) = known g r
   base g (lit n) = holds int
-  base g (lab l) = orFault 4 (labelType (getElem? (P .blocks) l))
+  base g (lab l) = orFault 9 (labelType (getElem? (P .blocks) l))
 
   -- the letters left, if there are no more arguments than letters and each is of its letter
   unfoldable pub lettersLeft : List Arg → List Kind → Option (List Kind)
