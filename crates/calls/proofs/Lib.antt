@@ -1,0 +1,9 @@
+pub mod All
+pub mod Lines
+pub mod Samples
+pub mod Startable
+pub mod Tuples
+pub mod Form
+pub mod Kept
+pub mod GoodForm
+pub mod Budgets

@@ -1,0 +1,3 @@
+pub mod Regs
+pub mod Sp
+pub mod Told

@@ -1,0 +1,151 @@
+-- What row r of a table of rows means: the meaning of its form, read in the table of the types of all rows. The inductions over the rows
+-- stay here: callers cite `type-is`, `type-more`, `length-types` and, for the kinds, `kind-is` and `as-kind`.
+use Prim.Native.Nat.{ℕ, suc, _+_, _<_}
+use native.Mathlib.Nat.{add-zero}
+use native.Mathlib.Omega.{arith}
+use mathlib.Core.Path.{_≡_, refl, ap, ap₂, sym, _∙_}
+use mathlib.Core.Bool.{true, cond}
+use mathlib.Core.Option.{Option, none, some}
+use mathlib.Core.List.{List, [], _∷_, _++_, map, reverse, append-assoc}
+use lib.ListN.{length, getD, take, drop, take-append-drop, length-append, List·getD-append}
+use lib.Seq.{split-at, length-take-le, getD-at}
+use borrow.Author.Tests.{ltb-true}
+use Rattle.syntax.specs.Syntax.{Kind, value, stack, Row, rowI, rowN, rowE, rowV, rowX, rowP, rowU, rowK, rowA, rowC}
+use Rattle.types.specs.Types.{junk, tuple, pointer, code, push, gap, join, Arg, arg, kindOf, ofKind}
+use Rattle.types.specs.Rows.{typeAt, components, registers, meaning, meanings, typesOf, isValue, Ref, knownRefs, rowRefs, allBelow}
+use Rattle.types.proofs.Equal.{and-inv}
+
+-- the rows that a row names
+abbrev pub named : Row → List ℕ
+named x = map (λ (r : Ref). r .row) (rowRefs x)
+
+-- what stands at r in a table of types
+abbrev pub typeIn : List Arg → ℕ → Arg
+typeIn A r = getD A r (arg value junk)
+
+-- ---- the table of types grows behind
+meanings-append : (A : List Arg) (xs ys : List Row) → meanings A (xs ++ ys) ≡ meanings (meanings A xs) ys
+unfolding meanings
+meanings-append A [] ys = refl
+meanings-append A (x ∷ xs) ys = meanings-append (A ++ meaning A x ∷ []) xs ys
+
+meanings-length : (A : List Arg) (xs : List Row) → length (meanings A xs) ≡ length A + length xs
+unfolding meanings
+meanings-length A [] = sym (add-zero (length A))
+meanings-length A (x ∷ xs) =
+    let h = meanings-length (A ++ meaning A x ∷ []) xs in
+    let k = length-append A (meaning A x ∷ []) in
+    omega arith
+
+meanings-low : (A : List Arg) (xs : List Row) (r : ℕ) → r < length A → typeIn (meanings A xs) r ≡ typeIn A r
+unfolding meanings
+meanings-low A [] r h = refl
+meanings-low A (x ∷ xs) r h =
+    let k = length-append A (meaning A x ∷ []) in
+    meanings-low (A ++ meaning A x ∷ []) xs r (omega arith) ∙ List·getD-append A (meaning A x ∷ []) (arg value junk) r h
+
+-- each row has one type
+pub length-types : (rows : List Row) → length (typesOf rows) ≡ length rows
+unfolding typesOf
+length-types rows = let h = meanings-length [] rows in omega arith
+
+-- one more row
+pub types-snoc : (rows : List Row) (x : Row) → typesOf (rows ++ x ∷ []) ≡ typesOf rows ++ meaning (typesOf rows) x ∷ []
+unfolding typesOf meanings
+types-snoc rows x = meanings-append [] rows (x ∷ [])
+
+-- rows appended behind change nothing for the rows before them
+pub type-more : (rows more : List Row) (r : ℕ) → r < length rows → typeIn (typesOf (rows ++ more)) r ≡ typeIn (typesOf rows) r
+unfolding typesOf
+type-more rows more r h =
+    let k = length-types rows in
+    ap (λ A. typeIn A r) (meanings-append [] rows more) ∙ meanings-low (meanings [] rows) more r (omega arith)
+
+-- row r means what its form means in the table of the rows before it, whatever it names
+pub type-before : (rows : List Row) (r : ℕ) (d : Row) → r < length rows → typeIn (typesOf rows) r ≡ meaning (typesOf (take r rows)) (getD rows r d)
+type-before rows r d h =
+    let A : List Row = take r rows in
+    let x : Row = getD rows r d in
+    let n : length A ≡ r = length-take-le r rows (omega arith) in
+    let m = length-types A in
+    let k = length-append A (x ∷ []) in
+    ap (λ l. typeIn (typesOf l) r) (split-at rows r d h ∙ sym (append-assoc A (x ∷ []) (drop (suc r) rows)))
+    ∙ type-more (A ++ x ∷ []) (drop (suc r) rows) r (omega arith)
+    ∙ ap (λ l. typeIn l r) (types-snoc A x)
+    ∙ getD-at (typesOf A) (meaning (typesOf A) x) [] (arg value junk) r (omega arith)
+
+-- ---- a form's meaning looks at the rows that it names, and at no others
+module _ (n : ℕ) (A B : List Arg) (same : (t : ℕ) → t < n → typeIn A t ≡ typeIn B t) where
+  at-same : (κ : Kind) (t : ℕ) → t < n → typeAt κ A t ≡ typeAt κ B t
+  unfolding typeAt
+  at-same κ t h = ap (ofKind κ) (same t h)
+
+  components-same : (ts : List ℕ) → allBelow n (map (λ (r : Ref). r .row) (rowRefs (rowU ts))) ≡ true → components A ts ≡ components B ts
+  unfolding components allBelow rowRefs
+  components-same [] e = refl
+  components-same (t ∷ ts) e =
+      let k = and-inv _ _ e in
+      ap₂ push (at-same value t (ltb-true t n (k .0))) (components-same ts (k .1))
+
+  registers-same : (rs : List (Option ℕ)) → allBelow n (map (λ (r : Ref). r .row) (knownRefs rs)) ≡ true → registers A rs ≡ registers B rs
+  unfolding registers allBelow knownRefs
+  registers-same [] e = refl
+  registers-same (none ∷ rs) e = ap gap (registers-same rs e)
+  registers-same (some t ∷ rs) e =
+      let k = and-inv _ _ e in
+      ap₂ push (at-same value t (ltb-true t n (k .0))) (registers-same rs (k .1))
+
+  pub meaning-same : (x : Row) → allBelow n (named x) ≡ true → meaning A x ≡ meaning B x
+  unfolding meaning allBelow rowRefs
+  meaning-same rowI e = refl
+  meaning-same rowN e = refl
+  meaning-same (rowV k) e = refl
+  meaning-same (rowU ts) e = ap (λ a. arg value (tuple a)) (components-same ts e)
+  meaning-same (rowP s) e = ap (λ a. arg value (pointer a)) (at-same stack s (ltb-true s n (and-inv _ _ e .0)))
+  meaning-same (rowC q s rs) e =
+      let k = and-inv _ _ e in
+      ap₂ (λ a r. arg value (code (reverse q) a r)) (at-same stack s (ltb-true s n (k .0))) (registers-same rs (k .1))
+  meaning-same rowE e = refl
+  meaning-same (rowX k) e = refl
+  meaning-same (rowK t s) e =
+      let k = and-inv _ _ e in
+      ap₂ (λ u a. arg stack (push u a)) (at-same value t (ltb-true t n (k .0))) (at-same stack s (ltb-true s n (and-inv _ _ (k .1) .0)))
+  meaning-same (rowA a b) e =
+      let k = and-inv _ _ e in
+      ap₂ (λ x y. arg stack (join x y)) (at-same stack a (ltb-true a n (k .0))) (at-same stack b (ltb-true b n (and-inv _ _ (k .1) .0)))
+
+-- row r, which names lower rows, means what its form means in the table of all rows
+pub type-is : (rows : List Row) (r : ℕ) (d : Row) → r < length rows → allBelow r (named (getD rows r d)) ≡ true → typeIn (typesOf rows) r ≡ meaning (typesOf rows) (getD rows r d)
+type-is rows r d h e = type-before rows r d h ∙ meaning-same r (typesOf (take r rows)) (typesOf rows) lower (getD rows r d) e
+  where
+    lower : (t : ℕ) → t < r → typeIn (typesOf (take r rows)) t ≡ typeIn (typesOf rows) t
+    lower t l =
+        let n = length-take-le r rows (omega arith) in
+        sym (ap (λ x. typeIn (typesOf x) t) (sym (take-append-drop r rows)) ∙ type-more (take r rows) (drop r rows) t (omega arith))
+
+-- ---- kinds
+pub kind-is : (A : List Arg) (x : Row) → kindOf (meaning A x) ≡ cond (isValue x) value stack
+unfolding kindOf meaning isValue
+kind-is A rowI = refl
+kind-is A rowN = refl
+kind-is A (rowV k) = refl
+kind-is A (rowU ts) = refl
+kind-is A (rowP s) = refl
+kind-is A (rowC q s rs) = refl
+kind-is A rowE = refl
+kind-is A (rowX k) = refl
+kind-is A (rowK t s) = refl
+kind-is A (rowA a b) = refl
+
+-- an argument of the kind that is asked for is that type
+pub as-kind : (κ : Kind) (a : Arg) → kindOf a ≡ κ → a ≡ arg κ (ofKind κ a)
+unfolding kindOf ofKind
+as-kind value (arg value t) e = refl
+as-kind value (arg stack t) e = let z : _≡_ {A = ℕ} 0 1 = cc in absurd (omega arith)
+as-kind stack (arg value t) e = let z : _≡_ {A = ℕ} 0 1 = cc in absurd (omega arith)
+as-kind stack (arg stack t) e = refl
+
+-- a row of the kind that is asked for, read at that kind
+pub type-at : (κ : Kind) (rows : List Row) (r : ℕ) (d : Row) → r < length rows → cond (isValue (getD rows r d)) value stack ≡ κ → typeIn (typesOf rows) r ≡ arg κ (typeAt κ (typesOf rows) r)
+unfolding typeAt
+type-at κ rows r d h e = as-kind κ (typeIn (typesOf rows) r) (ap kindOf (type-before rows r d h) ∙ kind-is (typesOf (take r rows)) (getD rows r d) ∙ e)
