@@ -1,0 +1,912 @@
+use borrow.Author.Needs.{needs}
+use mathlib.Core.Path.{_≡_, sym, _∙_, ap}
+use Prim.Native.Nat.{_+_, _*_, _-_, _≤_}
+use native.Mathlib.Omega.{arith}
+use Rattle.rows.specs.Read.{tab}
+use Rattle.rows.proofs.Laws.{ok-form}
+use Rattle.measure.proofs.Laws.{ok-v, ok-slot, spent-none, spent-stack, spent-value, under-value, under-stack, parts-end, parts-next}
+use Prim.Native.Nat.{ℕ, _<_}
+use borrow.Fn.Kinds.{In}
+use borrow.Fn.PlainCycle.{Measures, is, falls, and}
+use Rattle.measure.proofs.spend_parts.Reads as spend-parts
+use Rattle.measure.proofs.spend_parts.Kinds as spend-parts-kinds
+use Rattle.measure.proofs.+spend_parts+spend_row+spend_stack+spend_value.Lts-spend_parts as spend-parts-lts
+use Rattle.measure.proofs.spend_row.Reads as spend-row
+use Rattle.measure.proofs.spend_row.Kinds as spend-row-kinds
+use Rattle.measure.proofs.+spend_parts+spend_row+spend_stack+spend_value.Lts-spend_row as spend-row-lts
+use Rattle.measure.proofs.spend_stack.Reads as spend-stack
+use Rattle.measure.proofs.spend_stack.Kinds as spend-stack-kinds
+use Rattle.measure.proofs.+spend_parts+spend_row+spend_stack+spend_value.Lts-spend_stack as spend-stack-lts
+use Rattle.measure.proofs.spend_value.Reads as spend-value
+use Rattle.measure.proofs.spend_value.Kinds as spend-value-kinds
+use Rattle.measure.proofs.+spend_parts+spend_row+spend_stack+spend_value.Lts-spend_value as spend-value-lts
+use Rattle.rows.proofs.is_stack.Reads as is-stack-reads
+use Rattle.rows.proofs.part.Reads as part-reads
+use Rattle.rows.proofs.read_stack.Reads as read-stack-reads
+use Rattle.rows.proofs.read_value.Reads as read-value-reads
+use Rattle.measure.proofs.+spend_parts+spend_row+spend_stack+spend_value.{statement}
+use Rattle.measure.proofs.+spend_parts+spend_row+spend_stack+spend_value.Tie.{close}
+
+abbrev μ-spend-parts : Measures 2 spend-parts-kinds.ps ℕ
+μ-spend-parts κs a = 131072 * a .1 .1 .0 + a .1 .1 .1 .1 .1 .0
+
+abbrev μ-spend-row : Measures 2 spend-row-kinds.ps ℕ
+μ-spend-row κs a = 131072 * a .1 .1 .0 + 131071
+
+abbrev μ-spend-stack : Measures 2 spend-stack-kinds.ps ℕ
+μ-spend-stack κs a = 131072 * a .1 .1 .0 + 70000
+
+abbrev μ-spend-value : Measures 2 spend-value-kinds.ps ℕ
+μ-spend-value κs a = 131072 * a .1 .1 .0 + 70000
+
+abbrev spend-parts-at : ℕ → In 2 spend-parts-kinds.ps
+spend-parts-at t =
+    and 2 spend-parts-kinds.ps (is 2 spend-parts-kinds.ps μ-spend-parts t) spend-parts.Pre
+
+abbrev spend-parts-below : ℕ → In 2 spend-parts-kinds.ps
+spend-parts-below t =
+    and 2 spend-parts-kinds.ps (falls 2 spend-parts-kinds.ps _<_ μ-spend-parts t) spend-parts.Pre
+
+abbrev spend-row-at : ℕ → In 2 spend-row-kinds.ps
+spend-row-at t = and 2 spend-row-kinds.ps (is 2 spend-row-kinds.ps μ-spend-row t) spend-row.Pre
+
+abbrev spend-row-below : ℕ → In 2 spend-row-kinds.ps
+spend-row-below t =
+    and 2 spend-row-kinds.ps (falls 2 spend-row-kinds.ps _<_ μ-spend-row t) spend-row.Pre
+
+abbrev spend-stack-at : ℕ → In 2 spend-stack-kinds.ps
+spend-stack-at t =
+    and 2 spend-stack-kinds.ps (is 2 spend-stack-kinds.ps μ-spend-stack t) spend-stack.Pre
+
+abbrev spend-stack-below : ℕ → In 2 spend-stack-kinds.ps
+spend-stack-below t =
+    and 2 spend-stack-kinds.ps (falls 2 spend-stack-kinds.ps _<_ μ-spend-stack t) spend-stack.Pre
+
+abbrev spend-value-at : ℕ → In 2 spend-value-kinds.ps
+spend-value-at t =
+    and 2 spend-value-kinds.ps (is 2 spend-value-kinds.ps μ-spend-value t) spend-value.Pre
+
+abbrev spend-value-below : ℕ → In 2 spend-value-kinds.ps
+spend-value-below t =
+    and 2 spend-value-kinds.ps (falls 2 spend-value-kinds.ps _<_ μ-spend-value t) spend-value.Pre
+
+-- src/lib.rt:84:9
+spend-parts-returns : (t : ℕ) → spend-parts-lts.Need-returns (
+  part-reads.Asked,
+  part-reads.Learnt,
+  spend-parts-below t,
+  spend-parts.Post,
+  spend-row-below t,
+  spend-row.Post,
+) (spend-parts-at t) spend-parts.Post
+spend-parts-returns t c =
+    let q = parts-end (tab ((c .before .before .before .args) .rows .now) ((c .before .before .before .args) .parts .now)) ((c .before .before .before .args) .file) ((c .before .before .before .args) .h) ((c .before .before .before .args) .p) ((c .before .before .before .args) .n) ((c .if1) .taken) in
+    omega arith
+
+-- src/lib.rt:86:9
+spend-parts-part-requires : (t : ℕ) → spend-parts-lts.Need-part-requires (
+  part-reads.Asked,
+  part-reads.Learnt,
+  spend-parts-below t,
+  spend-parts.Post,
+  spend-row-below t,
+  spend-row.Post,
+) (spend-parts-at t) spend-parts.Post
+spend-parts-part-requires t c κs = (c .before .before .before .pre) .1 .0
+
+-- src/lib.rt:88:56
+spend-parts-enum-told : (t : ℕ) → spend-parts-lts.Need-enum-told (
+  part-reads.Asked,
+  part-reads.Learnt,
+  spend-parts-below t,
+  spend-parts.Post,
+  spend-row-below t,
+  spend-row.Post,
+) (spend-parts-at t) spend-parts.Post
+spend-parts-enum-told t c = search needs
+
+-- src/lib.rt:88:56
+spend-parts-add-spend-parts : (t : ℕ) → spend-parts-lts.Need-add-spend-parts (
+  part-reads.Asked,
+  part-reads.Learnt,
+  spend-parts-below t,
+  spend-parts.Post,
+  spend-row-below t,
+  spend-row.Post,
+) (spend-parts-at t) spend-parts.Post
+spend-parts-add-spend-parts t c =
+    let t0 = (c .before .before .before .before .before .before .pre) .0 in
+    let r0 = (c .before .before .before .before .before .before .pre) .1 .0 in
+    let r1 = (c .before .before .before .before .before .before .pre) .1 .1 in
+    let r2 = (c .before .before .before .before .before .before .pre) .1 .2 in
+    let r3 = (c .before .before .before .before .before .before .pre) .1 .3 in
+    let nz = (c .before .before .before .if1) .left in
+    omega arith
+
+-- src/lib.rt:88:63
+spend-parts-sub-spend-parts : (t : ℕ) → spend-parts-lts.Need-sub-spend-parts (
+  part-reads.Asked,
+  part-reads.Learnt,
+  spend-parts-below t,
+  spend-parts.Post,
+  spend-row-below t,
+  spend-row.Post,
+) (spend-parts-at t) spend-parts.Post
+spend-parts-sub-spend-parts t c =
+    let t0 = (c .before .before .before .before .before .before .pre) .0 in
+    let r0 = (c .before .before .before .before .before .before .pre) .1 .0 in
+    let r1 = (c .before .before .before .before .before .before .pre) .1 .1 in
+    let r2 = (c .before .before .before .before .before .before .pre) .1 .2 in
+    let r3 = (c .before .before .before .before .before .before .pre) .1 .3 in
+    let nz = (c .before .before .before .if1) .left in
+    omega arith
+
+-- src/lib.rt:88:22
+spend-parts-spend-parts-requires : (t : ℕ) → spend-parts-lts.Need-spend-parts-requires (
+  part-reads.Asked,
+  part-reads.Learnt,
+  spend-parts-below t,
+  spend-parts.Post,
+  spend-row-below t,
+  spend-row.Post,
+) (spend-parts-at t) spend-parts.Post
+spend-parts-spend-parts-requires t c κs =
+    let t0 = (c .before .before .before .before .before .before .pre) .0 in
+    let r0 = (c .before .before .before .before .before .before .pre) .1 .0 in
+    let r1 = (c .before .before .before .before .before .before .pre) .1 .1 in
+    let r2 = (c .before .before .before .before .before .before .pre) .1 .2 in
+    let r3 = (c .before .before .before .before .before .before .pre) .1 .3 in
+    let nz = (c .before .before .before .if1) .left in
+    (omega arith, (r0, r1, omega arith, omega arith))
+
+-- src/lib.rt:89:21
+spend-parts-enum-known-s : (t : ℕ) → spend-parts-lts.Need-enum-known-s (
+  part-reads.Asked,
+  part-reads.Learnt,
+  spend-parts-below t,
+  spend-parts.Post,
+  spend-row-below t,
+  spend-row.Post,
+) (spend-parts-at t) spend-parts.Post
+spend-parts-enum-known-s t c = search needs
+
+-- src/lib.rt:90:17
+spend-parts-spend-row-requires : (t : ℕ) → spend-parts-lts.Need-spend-row-requires (
+  part-reads.Asked,
+  part-reads.Learnt,
+  spend-parts-below t,
+  spend-parts.Post,
+  spend-row-below t,
+  spend-row.Post,
+) (spend-parts-at t) spend-parts.Post
+spend-parts-spend-row-requires t c κs =
+    let t0 = (c .before .before .before .before .before .before .before .pre) .0 in
+    let r0 = (c .before .before .before .before .before .before .before .pre) .1 .0 in
+    let r1 = (c .before .before .before .before .before .before .before .pre) .1 .1 in
+    let r2 = (c .before .before .before .before .before .before .before .pre) .1 .2 in
+    let r3 = (c .before .before .before .before .before .before .before .pre) .1 .3 in
+    let nz = (c .before .before .before .before .if1) .left in
+    let ok = ok-slot ((c .before .before .before .before .before .before .before .args) .h) ((c .before .before .before .part) .ensures .1) ((c .before .s) .given .1) in
+    (omega arith, omega arith)
+
+-- src/lib.rt:91:47
+spend-parts-add-spend-parts-2 : (t : ℕ) → spend-parts-lts.Need-add-spend-parts-2 (
+  part-reads.Asked,
+  part-reads.Learnt,
+  spend-parts-below t,
+  spend-parts.Post,
+  spend-row-below t,
+  spend-row.Post,
+) (spend-parts-at t) spend-parts.Post
+spend-parts-add-spend-parts-2 t c =
+    let t0 = (c .before .before .before .before .before .before .before .before .pre) .0 in
+    let r0 = (c .before .before .before .before .before .before .before .before .pre) .1 .0 in
+    let r1 = (c .before .before .before .before .before .before .before .before .pre) .1 .1 in
+    let r2 = (c .before .before .before .before .before .before .before .before .pre) .1 .2 in
+    let r3 = (c .before .before .before .before .before .before .before .before .pre) .1 .3 in
+    let nz = (c .before .before .before .before .before .if1) .left in
+    omega arith
+
+-- src/lib.rt:91:54
+spend-parts-sub-spend-parts-2 : (t : ℕ) → spend-parts-lts.Need-sub-spend-parts-2 (
+  part-reads.Asked,
+  part-reads.Learnt,
+  spend-parts-below t,
+  spend-parts.Post,
+  spend-row-below t,
+  spend-row.Post,
+) (spend-parts-at t) spend-parts.Post
+spend-parts-sub-spend-parts-2 t c =
+    let t0 = (c .before .before .before .before .before .before .before .before .pre) .0 in
+    let r0 = (c .before .before .before .before .before .before .before .before .pre) .1 .0 in
+    let r1 = (c .before .before .before .before .before .before .before .before .pre) .1 .1 in
+    let r2 = (c .before .before .before .before .before .before .before .before .pre) .1 .2 in
+    let r3 = (c .before .before .before .before .before .before .before .before .pre) .1 .3 in
+    let nz = (c .before .before .before .before .before .if1) .left in
+    omega arith
+
+-- src/lib.rt:91:13
+spend-parts-spend-parts-requires-2 : (t : ℕ) → spend-parts-lts.Need-spend-parts-requires-2 (
+  part-reads.Asked,
+  part-reads.Learnt,
+  spend-parts-below t,
+  spend-parts.Post,
+  spend-row-below t,
+  spend-row.Post,
+) (spend-parts-at t) spend-parts.Post
+spend-parts-spend-parts-requires-2 t c κs =
+    let t0 = (c .before .before .before .before .before .before .before .before .pre) .0 in
+    let r0 = (c .before .before .before .before .before .before .before .before .pre) .1 .0 in
+    let r1 = (c .before .before .before .before .before .before .before .before .pre) .1 .1 in
+    let r2 = (c .before .before .before .before .before .before .before .before .pre) .1 .2 in
+    let r3 = (c .before .before .before .before .before .before .before .before .pre) .1 .3 in
+    let nz = (c .before .before .before .before .before .if1) .left in
+    (omega arith, (r0, r1, omega arith, omega arith))
+
+-- src/lib.rt:79:1
+spend-parts-returns-2 : (t : ℕ) → spend-parts-lts.Need-returns-2 (
+  part-reads.Asked,
+  part-reads.Learnt,
+  spend-parts-below t,
+  spend-parts.Post,
+  spend-row-below t,
+  spend-row.Post,
+) (spend-parts-at t) spend-parts.Post
+spend-parts-returns-2 t c =
+    let q = parts-next (tab ((c .before .before .before .before .before .before .before .args) .rows .now) ((c .before .before .before .before .before .before .before .args) .parts .now)) ((c .before .before .before .before .before .before .before .args) .file) ((c .before .before .before .before .before .before .before .args) .h) ((c .before .before .before .before .before .before .before .args) .p) ((c .before .before .before .before .before .before .before .args) .n) ((c .before .before .before .before .if1) .left) ((c .before .before .before .part) .ensures .0) ((c .before .enum-told) .given .1) in
+    let e = (c .spend-parts) .ensures in
+    omega arith
+
+-- src/lib.rt:79:1
+spend-parts-returns-3 : (t : ℕ) → spend-parts-lts.Need-returns-3 (
+  part-reads.Asked,
+  part-reads.Learnt,
+  spend-parts-below t,
+  spend-parts.Post,
+  spend-row-below t,
+  spend-row.Post,
+) (spend-parts-at t) spend-parts.Post
+spend-parts-returns-3 t c =
+    let q = parts-next (tab ((c .before .before .before .before .before .before .before .before .before .args) .rows .now) ((c .before .before .before .before .before .before .before .before .before .args) .parts .now)) ((c .before .before .before .before .before .before .before .before .before .args) .file) ((c .before .before .before .before .before .before .before .before .before .args) .h) ((c .before .before .before .before .before .before .before .before .before .args) .p) ((c .before .before .before .before .before .before .before .before .before .args) .n) ((c .before .before .before .before .before .before .if1) .left) ((c .before .before .before .before .before .part) .ensures .0) ((c .before .before .before .s) .given .1) in
+    let e = (c .before .spend-row) .ensures in
+    let g = (c .spend-parts2) .ensures in
+    omega arith
+
+-- src/lib.rt:26:9
+spend-row-returns : (t : ℕ) → spend-row-lts.Need-returns (
+  is-stack-reads.Asked,
+  is-stack-reads.Learnt,
+  spend-stack-below t,
+  spend-stack.Post,
+  spend-value-below t,
+  spend-value.Post,
+) (spend-row-at t) spend-row.Post
+spend-row-returns t c = spent-none (tab ((c .before .before .before .args) .rows .now) ((c .before .before .before .args) .parts .now)) ((c .before .before .before .args) .h) ((c .before .before .before .args) .left) ((c .if1) .taken)
+
+-- src/lib.rt:29:9
+spend-row-returns-2 : (t : ℕ) → spend-row-lts.Need-returns-2 (
+  is-stack-reads.Asked,
+  is-stack-reads.Learnt,
+  spend-stack-below t,
+  spend-stack.Post,
+  spend-value-below t,
+  spend-value.Post,
+) (spend-row-at t) spend-row.Post
+spend-row-returns-2 t c =
+    let z = (c .if2) .taken in
+    omega arith
+
+-- src/lib.rt:31:29
+spend-row-sub-is-stack : (t : ℕ) → spend-row-lts.Need-sub-is-stack (
+  is-stack-reads.Asked,
+  is-stack-reads.Learnt,
+  spend-stack-below t,
+  spend-stack.Post,
+  spend-value-below t,
+  spend-value.Post,
+) (spend-row-at t) spend-row.Post
+spend-row-sub-is-stack t c = search needs
+
+-- src/lib.rt:31:8
+spend-row-is-stack-requires : (t : ℕ) → spend-row-lts.Need-is-stack-requires (
+  is-stack-reads.Asked,
+  is-stack-reads.Learnt,
+  spend-stack-below t,
+  spend-stack.Post,
+  spend-value-below t,
+  spend-value.Post,
+) (spend-row-at t) spend-row.Post
+spend-row-is-stack-requires t c κs =
+    let t1 = (c .before .before .before .before .pre) .1 in
+    omega arith
+
+-- src/lib.rt:32:44
+spend-row-sub-spend-stack : (t : ℕ) → spend-row-lts.Need-sub-spend-stack (
+  is-stack-reads.Asked,
+  is-stack-reads.Learnt,
+  spend-stack-below t,
+  spend-stack.Post,
+  spend-value-below t,
+  spend-value.Post,
+) (spend-row-at t) spend-row.Post
+spend-row-sub-spend-stack t c = search needs
+
+-- src/lib.rt:32:9
+spend-row-spend-stack-requires : (t : ℕ) → spend-row-lts.Need-spend-stack-requires (
+  is-stack-reads.Asked,
+  is-stack-reads.Learnt,
+  spend-stack-below t,
+  spend-stack.Post,
+  spend-value-below t,
+  spend-value.Post,
+) (spend-row-at t) spend-row.Post
+spend-row-spend-stack-requires t c κs =
+    let t0 = (c .before .before .before .before .before .before .pre) .0 in
+    let t1 = (c .before .before .before .before .before .before .pre) .1 in
+    (omega arith, t1)
+
+-- src/lib.rt:32:9
+spend-row-returns-3 : (t : ℕ) → spend-row-lts.Need-returns-3 (
+  is-stack-reads.Asked,
+  is-stack-reads.Learnt,
+  spend-stack-below t,
+  spend-stack.Post,
+  spend-value-below t,
+  spend-value.Post,
+) (spend-row-at t) spend-row.Post
+spend-row-returns-3 t c = spent-stack (tab ((c .before .before .before .before .before .before .before .args) .rows .now) ((c .before .before .before .before .before .before .before .args) .parts .now)) ((c .before .before .before .before .before .before .before .args) .h) ((c .before .before .before .before .before .before .before .args) .left) ((c .before .before .before .before .if1) .left) ((c .before .before .before .if2) .left) ((c .before .before .is-stack) .ensures) ((c .before .if3) .taken) ((c .spend-stack) .ensures)
+
+-- src/lib.rt:34:33
+spend-row-sub-spend-value : (t : ℕ) → spend-row-lts.Need-sub-spend-value (
+  is-stack-reads.Asked,
+  is-stack-reads.Learnt,
+  spend-stack-below t,
+  spend-stack.Post,
+  spend-value-below t,
+  spend-value.Post,
+) (spend-row-at t) spend-row.Post
+spend-row-sub-spend-value t c = search needs
+
+-- src/lib.rt:34:5
+spend-row-spend-value-requires : (t : ℕ) → spend-row-lts.Need-spend-value-requires (
+  is-stack-reads.Asked,
+  is-stack-reads.Learnt,
+  spend-stack-below t,
+  spend-stack.Post,
+  spend-value-below t,
+  spend-value.Post,
+) (spend-row-at t) spend-row.Post
+spend-row-spend-value-requires t c κs =
+    let t0 = (c .before .before .before .before .before .before .pre) .0 in
+    let t1 = (c .before .before .before .before .before .before .pre) .1 in
+    (omega arith, t1)
+
+-- src/lib.rt:21:1
+spend-row-returns-4 : (t : ℕ) → spend-row-lts.Need-returns-4 (
+  is-stack-reads.Asked,
+  is-stack-reads.Learnt,
+  spend-stack-below t,
+  spend-stack.Post,
+  spend-value-below t,
+  spend-value.Post,
+) (spend-row-at t) spend-row.Post
+spend-row-returns-4 t c = spent-value (tab ((c .before .before .before .before .before .before .before .args) .rows .now) ((c .before .before .before .before .before .before .before .args) .parts .now)) ((c .before .before .before .before .before .before .before .args) .h) ((c .before .before .before .before .before .before .before .args) .left) ((c .before .before .before .before .if1) .left) ((c .before .before .before .if2) .left) ((c .before .before .is-stack) .ensures) ((c .before .if3) .left) ((c .spend-value) .ensures)
+
+-- src/lib.rt:62:9
+spend-stack-read-stack-requires : (t : ℕ) → spend-stack-lts.Need-read-stack-requires (
+  read-stack-reads.Asked,
+  read-stack-reads.Learnt,
+  spend-row-below t,
+  spend-row.Post,
+) (spend-stack-at t) spend-stack.Post
+spend-stack-read-stack-requires t c κs =
+    let t1 = (c .before .before .pre) .1 in
+    (t1, omega arith)
+
+-- src/lib.rt:64:21
+spend-stack-enum-told : (t : ℕ) → spend-stack-lts.Need-enum-told (
+  read-stack-reads.Asked,
+  read-stack-reads.Learnt,
+  spend-row-below t,
+  spend-row.Post,
+) (spend-stack-at t) spend-stack.Post
+spend-stack-enum-told t c = search needs
+
+-- src/lib.rt:65:27
+spend-stack-enum-told-2 : (t : ℕ) → spend-stack-lts.Need-enum-told-2 (
+  read-stack-reads.Asked,
+  read-stack-reads.Learnt,
+  spend-row-below t,
+  spend-row.Post,
+) (spend-stack-at t) spend-stack.Post
+spend-stack-enum-told-2 t c = search needs
+
+-- src/lib.rt:66:28
+spend-stack-enum-told-3 : (t : ℕ) → spend-stack-lts.Need-enum-told-3 (
+  read-stack-reads.Asked,
+  read-stack-reads.Learnt,
+  spend-row-below t,
+  spend-row.Post,
+) (spend-stack-at t) spend-stack.Post
+spend-stack-enum-told-3 t c = search needs
+
+-- src/lib.rt:67:19
+spend-stack-enum-known-n : (t : ℕ) → spend-stack-lts.Need-enum-known-n (
+  read-stack-reads.Asked,
+  read-stack-reads.Learnt,
+  spend-row-below t,
+  spend-row.Post,
+) (spend-stack-at t) spend-stack.Post
+spend-stack-enum-known-n t c = search needs
+
+-- src/lib.rt:68:17
+spend-stack-spend-row-requires : (t : ℕ) → spend-stack-lts.Need-spend-row-requires (
+  read-stack-reads.Asked,
+  read-stack-reads.Learnt,
+  spend-row-below t,
+  spend-row.Post,
+) (spend-stack-at t) spend-stack.Post
+spend-stack-spend-row-requires t c κs =
+    let ok = ok-form 0 ((c .before .before .before .before .before .before .args) .h) ((c .before .before .before .read-stack) .ensures .1) ((c .before .n) .given .1) in
+    let t0 = (c .before .before .before .before .before .before .pre) .0 in
+    let t1 = (c .before .before .before .before .before .before .pre) .1 in
+    let o = ok .0 in
+    (omega arith, omega arith)
+
+-- src/lib.rt:69:13
+spend-stack-spend-row-requires-2 : (t : ℕ) → spend-stack-lts.Need-spend-row-requires-2 (
+  read-stack-reads.Asked,
+  read-stack-reads.Learnt,
+  spend-row-below t,
+  spend-row.Post,
+) (spend-stack-at t) spend-stack.Post
+spend-stack-spend-row-requires-2 t c κs =
+    let ok = ok-form 0 ((c .before .before .before .before .before .before .before .args) .h) ((c .before .before .before .before .read-stack) .ensures .1) ((c .before .before .n) .given .1) in
+    let t0 = (c .before .before .before .before .before .before .before .pre) .0 in
+    let t1 = (c .before .before .before .before .before .before .before .pre) .1 in
+    let o = ok .1 in
+    (omega arith, omega arith)
+
+-- src/lib.rt:71:19
+spend-stack-enum-known-n-2 : (t : ℕ) → spend-stack-lts.Need-enum-known-n-2 (
+  read-stack-reads.Asked,
+  read-stack-reads.Learnt,
+  spend-row-below t,
+  spend-row.Post,
+) (spend-stack-at t) spend-stack.Post
+spend-stack-enum-known-n-2 t c = search needs
+
+-- src/lib.rt:72:17
+spend-stack-spend-row-requires-3 : (t : ℕ) → spend-stack-lts.Need-spend-row-requires-3 (
+  read-stack-reads.Asked,
+  read-stack-reads.Learnt,
+  spend-row-below t,
+  spend-row.Post,
+) (spend-stack-at t) spend-stack.Post
+spend-stack-spend-row-requires-3 t c κs =
+    let ok = ok-form 0 ((c .before .before .before .before .before .before .args) .h) ((c .before .before .before .read-stack) .ensures .1) ((c .before .n2) .given .1) in
+    let t0 = (c .before .before .before .before .before .before .pre) .0 in
+    let t1 = (c .before .before .before .before .before .before .pre) .1 in
+    let o = ok .0 in
+    (omega arith, omega arith)
+
+-- src/lib.rt:73:13
+spend-stack-spend-row-requires-4 : (t : ℕ) → spend-stack-lts.Need-spend-row-requires-4 (
+  read-stack-reads.Asked,
+  read-stack-reads.Learnt,
+  spend-row-below t,
+  spend-row.Post,
+) (spend-stack-at t) spend-stack.Post
+spend-stack-spend-row-requires-4 t c κs =
+    let ok = ok-form 0 ((c .before .before .before .before .before .before .before .args) .h) ((c .before .before .before .before .read-stack) .ensures .1) ((c .before .before .n2) .given .1) in
+    let t0 = (c .before .before .before .before .before .before .before .pre) .0 in
+    let t1 = (c .before .before .before .before .before .before .before .pre) .1 in
+    let o = ok .1 in
+    (omega arith, omega arith)
+
+-- src/lib.rt:58:1
+spend-stack-returns : (t : ℕ) → spend-stack-lts.Need-returns (
+  read-stack-reads.Asked,
+  read-stack-reads.Learnt,
+  spend-row-below t,
+  spend-row.Post,
+) (spend-stack-at t) spend-stack.Post
+spend-stack-returns t c =
+    let q = under-stack (tab ((c .before .before .before .before .before .args) .rows .now) ((c .before .before .before .before .before .args) .parts .now)) ((c .before .before .before .before .before .args) .h) ((c .before .before .read-stack) .ensures .0) ((c .enum-told) .given .1) in
+    omega arith
+
+-- src/lib.rt:58:1
+spend-stack-returns-2 : (t : ℕ) → spend-stack-lts.Need-returns-2 (
+  read-stack-reads.Asked,
+  read-stack-reads.Learnt,
+  spend-row-below t,
+  spend-row.Post,
+) (spend-stack-at t) spend-stack.Post
+spend-stack-returns-2 t c =
+    let q = under-stack (tab ((c .before .before .before .before .before .args) .rows .now) ((c .before .before .before .before .before .args) .parts .now)) ((c .before .before .before .before .before .args) .h) ((c .before .before .read-stack) .ensures .0) ((c .enum-told2) .given .1) in
+    omega arith
+
+-- src/lib.rt:58:1
+spend-stack-returns-3 : (t : ℕ) → spend-stack-lts.Need-returns-3 (
+  read-stack-reads.Asked,
+  read-stack-reads.Learnt,
+  spend-row-below t,
+  spend-row.Post,
+) (spend-stack-at t) spend-stack.Post
+spend-stack-returns-3 t c =
+    let q = under-stack (tab ((c .before .before .before .before .before .args) .rows .now) ((c .before .before .before .before .before .args) .parts .now)) ((c .before .before .before .before .before .args) .h) ((c .before .before .read-stack) .ensures .0) ((c .enum-told3) .given .1) in
+    omega arith
+
+-- src/lib.rt:58:1
+spend-stack-returns-4 : (t : ℕ) → spend-stack-lts.Need-returns-4 (
+  read-stack-reads.Asked,
+  read-stack-reads.Learnt,
+  spend-row-below t,
+  spend-row.Post,
+) (spend-stack-at t) spend-stack.Post
+spend-stack-returns-4 t c =
+    let q = under-stack (tab ((c .before .before .before .before .before .before .before .before .args) .rows .now) ((c .before .before .before .before .before .before .before .before .args) .parts .now)) ((c .before .before .before .before .before .before .before .before .args) .h) ((c .before .before .before .before .before .read-stack) .ensures .0) ((c .before .before .before .n) .given .1) in
+    let e = (c .before .spend-row) .ensures in
+    let g = (c .spend-row2) .ensures in
+    omega arith
+
+-- src/lib.rt:58:1
+spend-stack-returns-5 : (t : ℕ) → spend-stack-lts.Need-returns-5 (
+  read-stack-reads.Asked,
+  read-stack-reads.Learnt,
+  spend-row-below t,
+  spend-row.Post,
+) (spend-stack-at t) spend-stack.Post
+spend-stack-returns-5 t c =
+    let q = under-stack (tab ((c .before .before .before .before .before .before .before .before .args) .rows .now) ((c .before .before .before .before .before .before .before .before .args) .parts .now)) ((c .before .before .before .before .before .before .before .before .args) .h) ((c .before .before .before .before .before .read-stack) .ensures .0) ((c .before .before .before .n2) .given .1) in
+    let e = (c .before .spend-row3) .ensures in
+    let g = (c .spend-row4) .ensures in
+    omega arith
+
+-- src/lib.rt:42:9
+spend-value-read-value-requires : (t : ℕ) → spend-value-lts.Need-read-value-requires (
+  read-value-reads.Asked,
+  read-value-reads.Learnt,
+  spend-parts-below t,
+  spend-parts.Post,
+  spend-row-below t,
+  spend-row.Post,
+) (spend-value-at t) spend-value.Post
+spend-value-read-value-requires t c κs =
+    let t1 = (c .before .before .pre) .1 in
+    (t1, omega arith)
+
+-- src/lib.rt:44:21
+spend-value-enum-told : (t : ℕ) → spend-value-lts.Need-enum-told (
+  read-value-reads.Asked,
+  read-value-reads.Learnt,
+  spend-parts-below t,
+  spend-parts.Post,
+  spend-row-below t,
+  spend-row.Post,
+) (spend-value-at t) spend-value.Post
+spend-value-enum-told t c = search needs
+
+-- src/lib.rt:45:22
+spend-value-enum-told-2 : (t : ℕ) → spend-value-lts.Need-enum-told-2 (
+  read-value-reads.Asked,
+  read-value-reads.Learnt,
+  spend-parts-below t,
+  spend-parts.Post,
+  spend-row-below t,
+  spend-row.Post,
+) (spend-value-at t) spend-value.Post
+spend-value-enum-told-2 t c = search needs
+
+-- src/lib.rt:46:27
+spend-value-enum-told-3 : (t : ℕ) → spend-value-lts.Need-enum-told-3 (
+  read-value-reads.Asked,
+  read-value-reads.Learnt,
+  spend-parts-below t,
+  spend-parts.Post,
+  spend-row-below t,
+  spend-row.Post,
+) (spend-value-at t) spend-value.Post
+spend-value-enum-told-3 t c = search needs
+
+-- src/lib.rt:47:28
+spend-value-enum-told-4 : (t : ℕ) → spend-value-lts.Need-enum-told-4 (
+  read-value-reads.Asked,
+  read-value-reads.Learnt,
+  spend-parts-below t,
+  spend-parts.Post,
+  spend-row-below t,
+  spend-row.Post,
+) (spend-value-at t) spend-value.Post
+spend-value-enum-told-4 t c = search needs
+
+-- src/lib.rt:48:20
+spend-value-enum-known-n : (t : ℕ) → spend-value-lts.Need-enum-known-n (
+  read-value-reads.Asked,
+  read-value-reads.Learnt,
+  spend-parts-below t,
+  spend-parts.Post,
+  spend-row-below t,
+  spend-row.Post,
+) (spend-value-at t) spend-value.Post
+spend-value-enum-known-n t c = search needs
+
+-- src/lib.rt:48:29
+spend-value-spend-parts-requires : (t : ℕ) → spend-value-lts.Need-spend-parts-requires (
+  read-value-reads.Asked,
+  read-value-reads.Learnt,
+  spend-parts-below t,
+  spend-parts.Post,
+  spend-row-below t,
+  spend-row.Post,
+) (spend-value-at t) spend-value.Post
+spend-value-spend-parts-requires t c κs =
+    let ok = ok-v 0 ((c .before .before .before .before .before .before .args) .h) ((c .before .before .before .read-value) .ensures .1) ((c .before .n) .given .1) in
+    let t0 = (c .before .before .before .before .before .before .pre) .0 in
+    let t1 = (c .before .before .before .before .before .before .pre) .1 in
+    let o0 = ok .0 in
+    let o1 = ok .1 in
+    (omega arith, (ok .2, t1, o1, omega arith))
+
+-- src/lib.rt:49:22
+spend-value-enum-known-n-2 : (t : ℕ) → spend-value-lts.Need-enum-known-n-2 (
+  read-value-reads.Asked,
+  read-value-reads.Learnt,
+  spend-parts-below t,
+  spend-parts.Post,
+  spend-row-below t,
+  spend-row.Post,
+) (spend-value-at t) spend-value.Post
+spend-value-enum-known-n-2 t c = search needs
+
+-- src/lib.rt:49:28
+spend-value-spend-row-requires : (t : ℕ) → spend-value-lts.Need-spend-row-requires (
+  read-value-reads.Asked,
+  read-value-reads.Learnt,
+  spend-parts-below t,
+  spend-parts.Post,
+  spend-row-below t,
+  spend-row.Post,
+) (spend-value-at t) spend-value.Post
+spend-value-spend-row-requires t c κs =
+    let ok = ok-v 0 ((c .before .before .before .before .before .before .args) .h) ((c .before .before .before .read-value) .ensures .1) ((c .before .n2) .given .1) in
+    let t0 = (c .before .before .before .before .before .before .pre) .0 in
+    let t1 = (c .before .before .before .before .before .before .pre) .1 in
+    (omega arith, omega arith)
+
+-- src/lib.rt:50:19
+spend-value-enum-known-n-3 : (t : ℕ) → spend-value-lts.Need-enum-known-n-3 (
+  read-value-reads.Asked,
+  read-value-reads.Learnt,
+  spend-parts-below t,
+  spend-parts.Post,
+  spend-row-below t,
+  spend-row.Post,
+) (spend-value-at t) spend-value.Post
+spend-value-enum-known-n-3 t c = search needs
+
+-- src/lib.rt:51:17
+spend-value-spend-row-requires-2 : (t : ℕ) → spend-value-lts.Need-spend-row-requires-2 (
+  read-value-reads.Asked,
+  read-value-reads.Learnt,
+  spend-parts-below t,
+  spend-parts.Post,
+  spend-row-below t,
+  spend-row.Post,
+) (spend-value-at t) spend-value.Post
+spend-value-spend-row-requires-2 t c κs =
+    let ok = ok-v 0 ((c .before .before .before .before .before .before .args) .h) ((c .before .before .before .read-value) .ensures .1) ((c .before .n3) .given .1) in
+    let t0 = (c .before .before .before .before .before .before .pre) .0 in
+    let t1 = (c .before .before .before .before .before .before .pre) .1 in
+    let o0 = ok .0 in
+    (omega arith, omega arith)
+
+-- src/lib.rt:52:13
+spend-value-spend-parts-requires-2 : (t : ℕ) → spend-value-lts.Need-spend-parts-requires-2 (
+  read-value-reads.Asked,
+  read-value-reads.Learnt,
+  spend-parts-below t,
+  spend-parts.Post,
+  spend-row-below t,
+  spend-row.Post,
+) (spend-value-at t) spend-value.Post
+spend-value-spend-parts-requires-2 t c κs =
+    let ok = ok-v 0 ((c .before .before .before .before .before .before .before .args) .h) ((c .before .before .before .before .read-value) .ensures .1) ((c .before .before .n3) .given .1) in
+    let t0 = (c .before .before .before .before .before .before .before .pre) .0 in
+    let t1 = (c .before .before .before .before .before .before .before .pre) .1 in
+    let o0 = ok .0 in
+    let o1 = ok .1 in
+    (omega arith, (omega arith, t1, omega arith, omega arith))
+
+-- src/lib.rt:38:1
+spend-value-returns : (t : ℕ) → spend-value-lts.Need-returns (
+  read-value-reads.Asked,
+  read-value-reads.Learnt,
+  spend-parts-below t,
+  spend-parts.Post,
+  spend-row-below t,
+  spend-row.Post,
+) (spend-value-at t) spend-value.Post
+spend-value-returns t c =
+    let q = under-value (tab ((c .before .before .before .before .before .args) .rows .now) ((c .before .before .before .before .before .args) .parts .now)) ((c .before .before .before .before .before .args) .h) ((c .before .before .read-value) .ensures .0) ((c .enum-told) .given .1) in
+    omega arith
+
+-- src/lib.rt:38:1
+spend-value-returns-2 : (t : ℕ) → spend-value-lts.Need-returns-2 (
+  read-value-reads.Asked,
+  read-value-reads.Learnt,
+  spend-parts-below t,
+  spend-parts.Post,
+  spend-row-below t,
+  spend-row.Post,
+) (spend-value-at t) spend-value.Post
+spend-value-returns-2 t c =
+    let q = under-value (tab ((c .before .before .before .before .before .args) .rows .now) ((c .before .before .before .before .before .args) .parts .now)) ((c .before .before .before .before .before .args) .h) ((c .before .before .read-value) .ensures .0) ((c .enum-told2) .given .1) in
+    omega arith
+
+-- src/lib.rt:38:1
+spend-value-returns-3 : (t : ℕ) → spend-value-lts.Need-returns-3 (
+  read-value-reads.Asked,
+  read-value-reads.Learnt,
+  spend-parts-below t,
+  spend-parts.Post,
+  spend-row-below t,
+  spend-row.Post,
+) (spend-value-at t) spend-value.Post
+spend-value-returns-3 t c =
+    let q = under-value (tab ((c .before .before .before .before .before .args) .rows .now) ((c .before .before .before .before .before .args) .parts .now)) ((c .before .before .before .before .before .args) .h) ((c .before .before .read-value) .ensures .0) ((c .enum-told3) .given .1) in
+    omega arith
+
+-- src/lib.rt:38:1
+spend-value-returns-4 : (t : ℕ) → spend-value-lts.Need-returns-4 (
+  read-value-reads.Asked,
+  read-value-reads.Learnt,
+  spend-parts-below t,
+  spend-parts.Post,
+  spend-row-below t,
+  spend-row.Post,
+) (spend-value-at t) spend-value.Post
+spend-value-returns-4 t c =
+    let q = under-value (tab ((c .before .before .before .before .before .args) .rows .now) ((c .before .before .before .before .before .args) .parts .now)) ((c .before .before .before .before .before .args) .h) ((c .before .before .read-value) .ensures .0) ((c .enum-told4) .given .1) in
+    omega arith
+
+-- src/lib.rt:38:1
+spend-value-returns-5 : (t : ℕ) → spend-value-lts.Need-returns-5 (
+  read-value-reads.Asked,
+  read-value-reads.Learnt,
+  spend-parts-below t,
+  spend-parts.Post,
+  spend-row-below t,
+  spend-row.Post,
+) (spend-value-at t) spend-value.Post
+spend-value-returns-5 t c =
+    let q = under-value (tab ((c .before .before .before .before .before .before .before .args) .rows .now) ((c .before .before .before .before .before .before .before .args) .parts .now)) ((c .before .before .before .before .before .before .before .args) .h) ((c .before .before .before .before .read-value) .ensures .0) ((c .before .before .n) .given .1) in
+    let e = (c .spend-parts) .ensures in
+    omega arith
+
+-- src/lib.rt:38:1
+spend-value-returns-6 : (t : ℕ) → spend-value-lts.Need-returns-6 (
+  read-value-reads.Asked,
+  read-value-reads.Learnt,
+  spend-parts-below t,
+  spend-parts.Post,
+  spend-row-below t,
+  spend-row.Post,
+) (spend-value-at t) spend-value.Post
+spend-value-returns-6 t c =
+    let q = under-value (tab ((c .before .before .before .before .before .before .before .args) .rows .now) ((c .before .before .before .before .before .before .before .args) .parts .now)) ((c .before .before .before .before .before .before .before .args) .h) ((c .before .before .before .before .read-value) .ensures .0) ((c .before .before .n2) .given .1) in
+    let e = (c .spend-row) .ensures in
+    omega arith
+
+-- src/lib.rt:38:1
+spend-value-returns-7 : (t : ℕ) → spend-value-lts.Need-returns-7 (
+  read-value-reads.Asked,
+  read-value-reads.Learnt,
+  spend-parts-below t,
+  spend-parts.Post,
+  spend-row-below t,
+  spend-row.Post,
+) (spend-value-at t) spend-value.Post
+spend-value-returns-7 t c =
+    let q = under-value (tab ((c .before .before .before .before .before .before .before .before .args) .rows .now) ((c .before .before .before .before .before .before .before .before .args) .parts .now)) ((c .before .before .before .before .before .before .before .before .args) .h) ((c .before .before .before .before .before .read-value) .ensures .0) ((c .before .before .before .n3) .given .1) in
+    let e = (c .before .spend-row2) .ensures in
+    let g = (c .spend-parts2) .ensures in
+    omega arith
+
+pub +spend-parts+spend-row+spend-stack+spend-value-spec : {M : Type 1} → statement M
++spend-parts+spend-row+spend-stack+spend-value-spec =
+    close μ-spend-parts μ-spend-row μ-spend-stack μ-spend-value (λ t. spend-parts-lts.spec (
+      part-reads.Asked,
+      part-reads.Learnt,
+      spend-parts-below t,
+      spend-parts.Post,
+      spend-row-below t,
+      spend-row.Post,
+    )
+    (spend-parts-at t)
+    spend-parts.Post
+    (spend-parts-returns t)
+    (spend-parts-part-requires t)
+    (spend-parts-enum-told t)
+    (spend-parts-add-spend-parts t)
+    (spend-parts-sub-spend-parts t)
+    (spend-parts-spend-parts-requires t)
+    (spend-parts-enum-known-s t)
+    (spend-parts-spend-row-requires t)
+    (spend-parts-add-spend-parts-2 t)
+    (spend-parts-sub-spend-parts-2 t)
+    (spend-parts-spend-parts-requires-2 t)
+    (spend-parts-returns-2 t)
+    (spend-parts-returns-3 t))
+    (λ t. spend-row-lts.spec (
+      is-stack-reads.Asked,
+      is-stack-reads.Learnt,
+      spend-stack-below t,
+      spend-stack.Post,
+      spend-value-below t,
+      spend-value.Post,
+    )
+    (spend-row-at t)
+    spend-row.Post
+    (spend-row-returns t)
+    (spend-row-returns-2 t)
+    (spend-row-sub-is-stack t)
+    (spend-row-is-stack-requires t)
+    (spend-row-sub-spend-stack t)
+    (spend-row-spend-stack-requires t)
+    (spend-row-returns-3 t)
+    (spend-row-sub-spend-value t)
+    (spend-row-spend-value-requires t)
+    (spend-row-returns-4 t))
+    (λ t. spend-stack-lts.spec (
+      read-stack-reads.Asked,
+      read-stack-reads.Learnt,
+      spend-row-below t,
+      spend-row.Post,
+    )
+    (spend-stack-at t)
+    spend-stack.Post
+    (spend-stack-read-stack-requires t)
+    (spend-stack-enum-told t)
+    (spend-stack-enum-told-2 t)
+    (spend-stack-enum-told-3 t)
+    (spend-stack-enum-known-n t)
+    (spend-stack-spend-row-requires t)
+    (spend-stack-spend-row-requires-2 t)
+    (spend-stack-enum-known-n-2 t)
+    (spend-stack-spend-row-requires-3 t)
+    (spend-stack-spend-row-requires-4 t)
+    (spend-stack-returns t)
+    (spend-stack-returns-2 t)
+    (spend-stack-returns-3 t)
+    (spend-stack-returns-4 t)
+    (spend-stack-returns-5 t))
+    λ t. spend-value-lts.spec (
+      read-value-reads.Asked,
+      read-value-reads.Learnt,
+      spend-parts-below t,
+      spend-parts.Post,
+      spend-row-below t,
+      spend-row.Post,
+    )
+    (spend-value-at t)
+    spend-value.Post
+    (spend-value-read-value-requires t)
+    (spend-value-enum-told t)
+    (spend-value-enum-told-2 t)
+    (spend-value-enum-told-3 t)
+    (spend-value-enum-told-4 t)
+    (spend-value-enum-known-n t)
+    (spend-value-spend-parts-requires t)
+    (spend-value-enum-known-n-2 t)
+    (spend-value-spend-row-requires t)
+    (spend-value-enum-known-n-3 t)
+    (spend-value-spend-row-requires-2 t)
+    (spend-value-spend-parts-requires-2 t)
+    (spend-value-returns t)
+    (spend-value-returns-2 t)
+    (spend-value-returns-3 t)
+    (spend-value-returns-4 t)
+    (spend-value-returns-5 t)
+    (spend-value-returns-6 t)
+    (spend-value-returns-7 t)

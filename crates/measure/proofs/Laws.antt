@@ -1,0 +1,117 @@
+-- Laws of sizes and of item counts.
+use mathlib.Core.Path.{_≡_, refl, ap, ap₂, sym, _∙_, subst}
+use mathlib.Core.Bool.{Bool, true, false, cond}
+use mathlib.Core.List.{List, [], _∷_, _++_, map}
+use Prim.Native.Nat.{ℕ, zero, suc, _+_, _-_, _*_, _<_, _≤_}
+use native.Mathlib.Omega.{arith}
+use native.Mathlib.Nat.{not-suc-le-zero, add-zero, zero-add}
+use native.Mathlib.Numerals.{add-one}
+use lib.Dec.{eqb, leb, ltb}
+use lib.ListN.{length, length-append, getD, set, List·getD-eq-default, List·getD-append}
+use lib.Seq.{getD-at, getD-set-same, getD-set-other}
+use borrow.Author.Tests.{eqb-true, eqb-false, eq-eqb, ne-eqb, leb-true, leb-false, ltb-true, ltb-false, le-leb, lt-leb, lt-ltb, le-ltb}
+use Rattle.syntax.specs.Syntax.{Kind, value, stack, Row, rowI, rowN, rowE, rowV, rowX, rowP, rowU, rowK, rowA, rowC}
+use Rattle.types.specs.Types.{Ty, nil, push, svar, gap, join, items}
+use Rattle.types.specs.Rows.{Sort, valueRow, stackRow, Ref, knownRefs, rowRefs, total, sizeOf, sizesFrom, sizesOf}
+use Rattle.types.proofs.Filling.{items-join}
+use Rattle.tables.specs.Tables.{RowTable, cell, span, knownOf, lettersAt, codeRowAt, rowFrom, rowAt, rowsFrom, rowsIn}
+use Rattle.rows.specs.declared.Val.{Val}
+use Rattle.rows.specs.declared.Val.the-variants.{Int, Junk, ValVar, ValFill, Tuple, Pointer, Code}
+use Rattle.rows.specs.declared.Stk.{Stk}
+use Rattle.rows.specs.declared.Stk.the-variants.{Nil, StkVar, StkFill, Push, Join}
+use Rattle.rows.specs.declared.Slot.{Slot}
+use Rattle.rows.specs.declared.Slot.the-variants.{Gap, Known}
+use Rattle.rows.specs.Read.{tab, lower, valueWith, stackWith, valueAt, stackAt, isStackAt, slotAt, placeV, placeS, OkV, OkSlot, buildV, buildS, valueTo, stackTo, meanV, meanS, itemsAt, CountedTo, Counted}
+use Rattle.rows.proofs.Laws.{LowV, LowS, lowV-at, lowS-at, slot-low, plain-value, plain-stack, stack-is}
+use Rattle.rows.proofs.Bridge.{rows-snoc, kind-value, counted-from}
+use Rattle.measure.specs.Size.{slotSize, partsSize, underV, underS, sizeTo, sizeAt, CountsFilled}
+
+-- ---- sizes that agree below h agree at row h
+module _ (h : ℕ) (f g : ℕ → ℕ) (e : (x : ℕ) → x < h → f x ≡ g x) where
+  same-slot : (s : Slot) → OkSlot h s → slotSize f s ≡ slotSize g s
+  same-slot Gap l = refl
+  same-slot (Known t) l = e t l
+
+  same-parts : (ps : List ℕ) (file : Bool) (p n : ℕ) → 0 < h → partsSize f ps file h p n ≡ partsSize g ps file h p n
+  unfolding partsSize
+  same-parts ps file p zero l = refl
+  same-parts ps file p (suc n) l = ap₂ _+_ (same-slot (slotAt file h (getD ps p 0)) (slot-low file h (getD ps p 0) l)) (same-parts ps file (suc p) n l)
+
+  same-underV : (ps : List ℕ) (n : Val) → LowV h n → underV f ps h n ≡ underV g ps h n
+  same-underV ps Int l = refl
+  same-underV ps Junk l = refl
+  same-underV ps (ValVar k) l = refl
+  same-underV ps (ValFill k) l = refl
+  same-underV ps (Tuple p n) l = same-parts ps false p n l
+  same-underV ps (Pointer x) l = e x l
+  same-underV ps (Code x p) l = ap₂ _+_ (e x l) (same-parts ps true p 8 (omega arith))
+
+  same-underS : (n : Stk) → LowS h n → underS f n ≡ underS g n
+  same-underS Nil l = refl
+  same-underS (StkVar k) l = refl
+  same-underS (StkFill k) l = refl
+  same-underS (Push t x) l = ap₂ _+_ (e t (l .0)) (e x (l .1))
+  same-underS (Join x y) l = ap₂ _+_ (e x (l .0)) (e y (l .1))
+
+module _ (τ : RowTable) where
+  same-size : (n m h : ℕ) → h < n → h < m → sizeTo n τ h ≡ sizeTo m τ h
+  unfolding sizeTo
+  same-size zero m h hn hm = absurd (not-suc-le-zero hn)
+  same-size (suc n) zero h hn hm = absurd (not-suc-le-zero hm)
+  same-size (suc n) (suc m) zero hn hm = refl
+  same-size (suc n) (suc m) (suc r) hn hm =
+      ap₂ (λ x y. suc (cond (isStackAt (τ .rows) r) x y)) (same-underS (suc r) (sizeTo n τ) (sizeTo m τ) (λ x l. same-size n m x (omega arith) (omega arith)) (stackAt (τ .rows) StkVar (suc r)) (lowS-at (τ .rows) (suc r)))
+      (same-underV (suc r) (sizeTo n τ) (sizeTo m τ) (λ x l. same-size n m x (omega arith) (omega arith)) (τ .parts) (valueAt (τ .rows) ValVar (suc r)) (lowV-at (τ .rows) (suc r)))
+
+  pub size-none : sizeAt τ 0 ≡ 0
+  unfolding sizeAt sizeTo
+  size-none = refl
+
+  pub size-is : (r : ℕ) → sizeAt τ (suc r) ≡ suc (cond (isStackAt (τ .rows) r) (underS (sizeAt τ) (stackAt (τ .rows) StkVar (suc r))) (underV (sizeAt τ) (τ .parts) (suc r) (valueAt (τ .rows) ValVar (suc r))))
+  unfolding sizeAt sizeTo
+  size-is r =
+      ap₂ (λ x y. suc (cond (isStackAt (τ .rows) r) x y)) (same-underS (suc r) (sizeTo (suc r) τ) (λ x. sizeTo (suc x) τ x) (λ x l. same-size (suc r) (suc x) x l (omega arith)) (stackAt (τ .rows) StkVar (suc r)) (lowS-at (τ .rows) (suc r)))
+      (same-underV (suc r) (sizeTo (suc r) τ) (λ x. sizeTo (suc x) τ x) (λ x l. same-size (suc r) (suc x) x l (omega arith)) (τ .parts) (valueAt (τ .rows) ValVar (suc r)) (lowV-at (τ .rows) (suc r)))
+
+  -- what is left after a row of either sort
+  pub spent-stack : (h left : ℕ) {b : Bool} {o : ℕ} → (h ≡ 0 → ⊥) → (left ≡ 0 → ⊥) → b ≡ isStackAt (τ .rows) (h - 1) → b ≡ true → o ≡ (left - 1) - underS (sizeAt τ) (stackAt (τ .rows) StkVar h) → o ≡ left - sizeAt τ h
+  spent-stack zero left z w e f g = absurd (z refl)
+  spent-stack (suc r) left z w e f g =
+      let q : isStackAt (τ .rows) r ≡ true = (let p : suc r - 1 ≡ r = omega arith in sym (rw p at e) ∙ f) in
+      let s : sizeAt τ (suc r) ≡ suc (underS (sizeAt τ) (stackAt (τ .rows) StkVar (suc r))) = size-is r ∙ rw q refl in
+      omega arith
+
+  pub spent-value : (h left : ℕ) {b : Bool} {o : ℕ} → (h ≡ 0 → ⊥) → (left ≡ 0 → ⊥) → b ≡ isStackAt (τ .rows) (h - 1) → b ≡ false → o ≡ (left - 1) - underV (sizeAt τ) (τ .parts) h (valueAt (τ .rows) ValVar h) → o ≡ left - sizeAt τ h
+  spent-value zero left z w e f g = absurd (z refl)
+  spent-value (suc r) left z w e f g =
+      let q : isStackAt (τ .rows) r ≡ false = (let p : suc r - 1 ≡ r = omega arith in sym (rw p at e) ∙ f) in
+      let s : sizeAt τ (suc r) ≡ suc (underV (sizeAt τ) (τ .parts) (suc r) (valueAt (τ .rows) ValVar (suc r))) = size-is r ∙ rw q refl in
+      omega arith
+
+  pub spent-none : (h left : ℕ) → h ≡ 0 → left ≡ left - sizeAt τ h
+  spent-none h left e = let q = size-none in let p : sizeAt τ h ≡ sizeAt τ 0 = ap (sizeAt τ) e in omega arith
+
+  -- the forms that the readers answer
+  pub under-value : (h : ℕ) {n k : Val} → n ≡ valueAt (τ .rows) (placeV 0 0 0) h → n ≡ k → underV (sizeAt τ) (τ .parts) h (valueAt (τ .rows) ValVar h) ≡ underV (sizeAt τ) (τ .parts) h k
+  under-value h e f = ap (underV (sizeAt τ) (τ .parts) h) (sym (plain-value (τ .rows) h) ∙ sym e ∙ f)
+
+  pub under-stack : (h : ℕ) {n k : Stk} → n ≡ stackAt (τ .rows) (placeS 0 0 0) h → n ≡ k → underS (sizeAt τ) (stackAt (τ .rows) StkVar h) ≡ underS (sizeAt τ) k
+  under-stack h e f = ap (underS (sizeAt τ)) (sym (plain-stack (τ .rows) h) ∙ sym e ∙ f)
+
+  pub parts-end : (file : Bool) (h p n : ℕ) → n ≡ 0 → partsSize (sizeAt τ) (τ .parts) file h p n ≡ 0
+  unfolding partsSize
+  parts-end file h p zero e = refl
+  parts-end file h p (suc n) e = absurd (omega arith)
+
+  pub parts-next : (file : Bool) (h p n : ℕ) {s k : Slot} → (n ≡ 0 → ⊥) → s ≡ slotAt file h (getD (τ .parts) p 0) → s ≡ k → partsSize (sizeAt τ) (τ .parts) file h p n ≡ slotSize (sizeAt τ) k + partsSize (sizeAt τ) (τ .parts) file h (p + 1) (n - 1)
+  unfolding partsSize
+  parts-next file h p zero z e f = absurd (z refl)
+  parts-next file h p (suc n) z e f =
+      let q : suc n - 1 ≡ n = omega arith in
+      rw (q, add-one p, ← f, e) refl
+
+pub ok-v : (m h : ℕ) {n k : Val} → OkV m h n → n ≡ k → OkV m h k
+ok-v m h o e = rw e at o
+
+pub ok-slot : (h : ℕ) {s k : Slot} → OkSlot h s → s ≡ k → OkSlot h k
+ok-slot h o e = rw e at o

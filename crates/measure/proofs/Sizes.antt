@@ -1,0 +1,145 @@
+-- The size of a row by its form is the size that crate types gives it.
+use mathlib.Core.Path.{_≡_, refl, ap, ap₂, sym, _∙_}
+use mathlib.Core.Bool.{Bool, true, false, cond}
+use mathlib.Core.List.{List, [], _∷_, _++_, map, reverse}
+use Prim.Native.Nat.{ℕ, zero, suc, _+_, _-_, _<_, _≤_}
+use native.Mathlib.Omega.{arith}
+use native.Mathlib.Nat.{not-suc-le-zero, add-zero, zero-add}
+use lib.Dec.{eqb, leb, ltb}
+use lib.ListN.{length, length-append, getD, List·getD-eq-default, List·getD-append}
+use lib.Seq.{getD-at}
+use borrow.Author.Tests.{eq-eqb, ne-eqb, leb-true, leb-false, ltb-true, ltb-false, le-leb, lt-ltb, le-ltb}
+use Rattle.syntax.specs.Syntax.{Row}
+use Rattle.types.specs.Rows.{Sort, valueRow, knownRefs, rowRefs, total, sizeOf, sizesFrom, sizesOf}
+use Rattle.tables.specs.Tables.{RowTable, cell, span, knownOf, codeRowAt, rowFrom, rowAt, rowsFrom, rowsIn}
+use Rattle.rows.specs.declared.Val.the-variants.{ValVar}
+use Rattle.rows.specs.declared.Stk.the-variants.{StkVar}
+use Rattle.rows.specs.Read.{lower, valueWith, stackWith, isStackAt, slotAt}
+use Rattle.rows.proofs.Bridge.{rows-snoc}
+use Rattle.measure.specs.Size.{slotSize, partsSize, underV, underS, sizeAt}
+use Rattle.measure.proofs.Laws.{size-none, size-is}
+
+sizes-append : (S : List ℕ) (xs ys : List Row) → sizesFrom S (xs ++ ys) ≡ sizesFrom (sizesFrom S xs) ys
+unfolding sizesFrom
+sizes-append S [] ys = refl
+sizes-append S (x ∷ xs) ys = sizes-append (S ++ sizeOf S x ∷ []) xs ys
+
+module _ (τ : RowTable) where
+  abbrev sizesIn : ℕ → List ℕ
+  sizesIn n = sizesOf (rowsIn τ n)
+
+  sizes-snoc : (n : ℕ) → sizesIn (suc n) ≡ sizesIn n ++ sizeOf (sizesIn n) (rowAt τ n) ∷ []
+  unfolding sizesOf sizesFrom
+  sizes-snoc n = ap (sizesFrom []) (rows-snoc τ 0 n ∙ ap (λ z. rowsFrom τ 0 n ++ rowAt τ z ∷ []) (zero-add n)) ∙ sizes-append [] (rowsFrom τ 0 n) (rowAt τ n ∷ [])
+
+  length-sizes : (n : ℕ) → length (sizesIn n) ≡ n
+  unfolding sizesOf sizesFrom rowsFrom
+  length-sizes zero = refl
+  length-sizes (suc n) =
+      let h = length-sizes n in
+      let g = length-append (sizesIn n) (sizeOf (sizesIn n) (rowAt τ n) ∷ []) in
+      ap length (sizes-snoc n) ∙ omega arith
+
+-- a row of kind k with the numbers a and b, S being the sizes of the rows before it
+module _ (τ : RowTable) (S : List ℕ) (n : ℕ) (ts : (x : ℕ) → getD S x 0 ≡ sizeAt τ (lower (suc n) x)) where
+  components-size : (a b : ℕ) → total S (map (λ x. record { sort = valueRow; row = x }) (span (τ .parts) a b)) ≡ partsSize (sizeAt τ) (τ .parts) false (suc n) a b
+  unfolding total span partsSize
+  components-size a zero = refl
+  components-size a (suc b) = ap₂ _+_ (ts (getD (τ .parts) a 0)) (components-size (suc a) b)
+
+  registers-size : (a b : ℕ) → total S (knownRefs (map knownOf (span (τ .parts) a b))) ≡ partsSize (sizeAt τ) (τ .parts) true (suc n) a b
+  unfolding total span partsSize knownRefs knownOf
+  registers-size a zero = refl
+  registers-size a (suc b) = go (getD (τ .parts) a 0) (registers-size (suc a) b)
+    where
+      go : (x : ℕ) → total S (knownRefs (map knownOf (span (τ .parts) (suc a) b))) ≡ partsSize (sizeAt τ) (τ .parts) true (suc n) (suc a) b
+          → total S (knownRefs (knownOf x ∷ map knownOf (span (τ .parts) (suc a) b))) ≡ slotSize (sizeAt τ) (slotAt true (suc n) x) + partsSize (sizeAt τ) (τ .parts) true (suc n) (suc a) b
+      go zero e = e ∙ omega arith
+      go (suc t) e = ap₂ _+_ (ts t) e
+
+  abbrev formed : ℕ → ℕ → ℕ → ℕ
+  formed k a b = cond (leb 6 k) (underS (sizeAt τ) (stackWith StkVar (suc n) k a b)) (underV (sizeAt τ) (τ .parts) (suc n) (valueWith ValVar (suc n) k a b))
+
+  two-size : (a b : ℕ) → getD S a 0 + (getD S b 0 + 0) ≡ sizeAt τ (lower (suc n) a) + sizeAt τ (lower (suc n) b)
+  two-size a b = let p = ts a in let q = ts b in omega arith
+
+  one-size : (a : ℕ) → getD S a 0 + 0 ≡ sizeAt τ (lower (suc n) a)
+  one-size a = let p = ts a in omega arith
+
+  row-high : (k a b : ℕ) → 9 ≤ k → total S (rowRefs (rowFrom (τ .parts) k a b)) ≡ formed k a b
+  unfolding total rowRefs rowFrom stackWith
+  row-high k a b h =
+      rw (
+        le-leb 6 k (omega arith),
+        le-ltb k 7 (omega arith),
+        ne-eqb k 0 (λ z. omega arith),
+        ne-eqb k 1 (λ z. omega arith),
+        ne-eqb k 2 (λ z. omega arith),
+        ne-eqb k 3 (λ z. omega arith),
+        ne-eqb k 4 (λ z. omega arith),
+        ne-eqb k 5 (λ z. omega arith),
+        ne-eqb k 6 (λ z. omega arith),
+        ne-eqb k 7 (λ z. omega arith),
+        ne-eqb k 8 (λ z. omega arith),
+      )
+      (two-size a b)
+
+  row-sized : (k a b : ℕ) → total S (rowRefs (rowFrom (τ .parts) k a b)) ≡ formed k a b
+  unfolding total rowRefs rowFrom codeRowAt valueWith stackWith
+  row-sized zero a b = refl
+  row-sized (suc zero) a b = refl
+  row-sized (suc (suc zero)) a b = refl
+  row-sized (suc (suc (suc zero))) a b = components-size a b
+  row-sized (suc (suc (suc (suc zero)))) a b = one-size a
+  row-sized (suc (suc (suc (suc (suc zero))))) a b = ap₂ _+_ (ts a) (registers-size b 8)
+  row-sized (suc (suc (suc (suc (suc (suc zero)))))) a b = refl
+  row-sized (suc (suc (suc (suc (suc (suc (suc zero))))))) a b = refl
+  row-sized (suc (suc (suc (suc (suc (suc (suc (suc zero)))))))) a b = two-size a b
+  row-sized (suc (suc (suc (suc (suc (suc (suc (suc (suc k))))))))) a b = row-high (suc (suc (suc (suc (suc (suc (suc (suc (suc k))))))))) a b (omega arith)
+
+module _ (τ : RowTable) where
+  abbrev Sized : ℕ → Type 0
+  Sized n = (x : ℕ) → x < n → getD (sizesIn τ n) x 0 ≡ sizeAt τ (suc x)
+
+  size-by : (n : ℕ) → Sized n → (x : ℕ) → getD (sizesIn τ n) x 0 ≡ sizeAt τ (lower (suc n) x)
+  size-by n h x = go (ltb (suc x) (suc n)) refl
+    where
+      go : (b : Bool) → ltb (suc x) (suc n) ≡ b → getD (sizesIn τ n) x 0 ≡ sizeAt τ (cond b (suc x) 0)
+      go true e = let l = ltb-true (suc x) (suc n) e in h x (omega arith)
+      go false e =
+          let l = ltb-false (suc x) (suc n) e in
+          let g = length-sizes τ n in
+          let q : length (sizesIn τ n) ≤ x = omega arith in
+          List·getD-eq-default (sizesIn τ n) 0 q ∙ sym (size-none τ)
+
+  size-step : (n : ℕ) → Sized n → sizeOf (sizesIn τ n) (rowAt τ n) ≡ sizeAt τ (suc n)
+  unfolding sizeOf rowAt
+  size-step n h = ap suc (row-sized τ (sizesIn τ n) n (size-by n h) (cell 4 (τ .rows) n 0) (cell 4 (τ .rows) n 1) (cell 4 (τ .rows) n 2)) ∙ sym (size-is τ n)
+
+  sizes-are : (n : ℕ) → Sized n
+  sizes-are zero x l = absurd (not-suc-le-zero l)
+  sizes-are (suc n) x l = rw (sizes-snoc τ n) (go (leb (suc x) n) refl (sizes-are n))
+    where
+      go : (b : Bool) → leb (suc x) n ≡ b → Sized n → getD (sizesIn τ n ++ sizeOf (sizesIn τ n) (rowAt τ n) ∷ []) x 0 ≡ sizeAt τ (suc x)
+      go true e h =
+          let k = leb-true (suc x) n e in
+          let g = length-sizes τ n in
+          List·getD-append (sizesIn τ n) (sizeOf (sizesIn τ n) (rowAt τ n) ∷ []) 0 x (omega arith) ∙ h x k
+      go false e h =
+          let k = leb-false (suc x) n e in
+          let q : x ≡ n = omega arith in
+          rw q (getD-at (sizesIn τ n) (sizeOf (sizesIn τ n) (rowAt τ n)) [] 0 n (length-sizes τ n) ∙ size-step n h)
+
+  -- the bridge: the size of row n by the rows before it
+  pub size-in : (n : ℕ) → sizeOf (sizesOf (rowsIn τ n)) (rowAt τ n) ≡ sizeAt τ (suc n)
+  size-in n = size-step n (sizes-are n)
+
+  pub over-limit : (r h o : ℕ) → h ≡ r + 1 → o ≡ 4097 - sizeAt τ h → eqb o 0 ≡ ltb 4096 (sizeOf (sizesOf (rowsIn τ r)) (rowAt τ r))
+  over-limit r h o e f = go (ltb 4096 (sizeAt τ (suc r))) refl ∙ ap (ltb 4096) (sym (size-in r))
+    where
+      q : sizeAt τ h ≡ sizeAt τ (suc r)
+      q = ap (sizeAt τ) (e ∙ omega arith)
+
+      go : (b : Bool) → ltb 4096 (sizeAt τ (suc r)) ≡ b → eqb o 0 ≡ b
+      go true g = let l = ltb-true 4096 (sizeAt τ (suc r)) g in eq-eqb o 0 (omega (arith, q))
+      go false g = let l = ltb-false 4096 (sizeAt τ (suc r)) g in ne-eqb o 0 (λ z. omega (arith, q))

@@ -1,0 +1,56 @@
+-- The size of a row by its form, and what counting its items promises. That the size is that of crate types is proved (proofs/Laws.antt).
+use Prim.Native.Nat.{ℕ, zero, suc, _+_, _≤_, _<_}
+use mathlib.Core.Path.{_≡_}
+use mathlib.Core.List.{List}
+use mathlib.Core.Bool.{Bool, true, false, cond}
+use lib.ListN.{length, getD}
+use Rattle.tables.specs.Tables.{RowTable, cell, rowsIn}
+use Rattle.rows.specs.Read.{tab, valueAt, stackAt, isStackAt, slotAt, Counted}
+use Rattle.rows.specs.declared.Val.{Val}
+use Rattle.rows.specs.declared.Val.the-variants.{Int, Junk, ValVar, ValFill, Tuple, Pointer, Code}
+use Rattle.rows.specs.declared.Stk.{Stk}
+use Rattle.rows.specs.declared.Stk.the-variants.{Nil, StkVar, StkFill, Push, Join}
+use Rattle.rows.specs.declared.Slot.{Slot}
+use Rattle.rows.specs.declared.Slot.the-variants.{Gap, Known}
+
+-- s being the sizes of lower rows
+abbrev pub slotSize : (ℕ → ℕ) → Slot → ℕ
+slotSize s Gap = 0
+slotSize s (Known t) = s t
+
+unfoldable pub partsSize : (ℕ → ℕ) → List ℕ → Bool → ℕ → ℕ → ℕ → ℕ
+partsSize s ps file h p zero = 0
+partsSize s ps file h p (suc n) = slotSize s (slotAt file h (getD ps p 0)) + partsSize s ps file h (suc p) n
+
+abbrev pub underV : (ℕ → ℕ) → List ℕ → ℕ → Val → ℕ
+underV s ps h Int = 0
+underV s ps h Junk = 0
+underV s ps h (ValVar k) = 0
+underV s ps h (ValFill j) = 0
+underV s ps h (Tuple p n) = partsSize s ps false h p n
+underV s ps h (Pointer x) = s x
+underV s ps h (Code x p) = s x + partsSize s ps true h p 8
+
+abbrev pub underS : (ℕ → ℕ) → Stk → ℕ
+underS s Nil = 0
+underS s (StkVar k) = 0
+underS s (StkFill j) = 0
+underS s (Push t x) = s t + s x
+underS s (Join x y) = s x + s y
+
+-- the first argument bounds the depth
+unfoldable pub sizeTo : ℕ → RowTable → ℕ → ℕ
+sizeTo zero τ h = 0
+sizeTo (suc n) τ zero = 0
+sizeTo (suc n) τ (suc r) = suc (cond (isStackAt (τ .rows) r) (underS (sizeTo n τ) (stackAt (τ .rows) StkVar (suc r))) (underV (sizeTo n τ) (τ .parts) (suc r) (valueAt (τ .rows) ValVar (suc r))))
+
+-- the size of row h: links fall, so this is deep enough
+unfoldable pub sizeAt : RowTable → ℕ → ℕ
+sizeAt τ h = sizeTo (suc h) τ h
+
+-- the first n rows are counted, and all rows are as before
+pub record CountsFilled (before after parts : List ℕ) (n : ℕ) : Type 0 where
+  pub counted : Counted (tab after parts) n
+  pub rows : rowsIn (tab after parts) n ≡ rowsIn (tab before parts) n
+  pub entries : (x k : ℕ) → k < 3 → cell 4 after x k ≡ cell 4 before x k
+  pub size : length after ≡ length before

@@ -1,0 +1,145 @@
+// Pass two's size of a row, with a limit, and the count of items of each stack row (entry 3 of its row).
+// A row's size is 1 plus the sizes of the rows that it names, counted each time; `size_over` says exactly whether it is above 4,096, and
+// stops as soon as it is. Value rows and stack rows are measured by two rules that call each other; the row number falls.
+// `count_items` asks for rows within the limit, and promises the counts and that the rows are as before.
+use rows::Slot;
+use rows::Stk;
+use rows::Val;
+ghost use mathlib.Core.Path.{_≡_};
+ghost use Prim.Native.Nat.{ℕ, suc, _+_, _-_, _*_, _≤_, _<_};
+ghost use lib.Dec.{ltb};
+ghost use lib.ListN.{length};
+ghost use Rattle.types.specs.Types.{items};
+ghost use Rattle.types.specs.Rows.{sizeOf, sizesOf};
+ghost use Rattle.tables.specs.Tables.{rowAt, rowsIn};
+ghost use Rattle.rows.specs.Read.{tab, valueAt, stackAt, meanS, itemsAt};
+ghost use Rattle.rows.specs.declared.Val.the-variants.{ValVar};
+ghost use Rattle.rows.specs.declared.Stk.the-variants.{StkVar};
+ghost use Rattle.measure.specs.Size.{sizeAt, partsSize, underV, underS, CountsFilled};
+
+// What is left of `left` after the size of row h, or 0. No row has no size.
+fn spend_row(rows: &[u16], parts: &[u16], h: usize, left: usize) -> usize
+    requires { ⌜ h ≤ 65536 ⌝ }
+    ensures { λ out. ⌜ out ≡ left - sizeAt (tab (now (rows .entry)) (now (parts .entry))) h ⌝ }
+{
+    if h == 0 {
+        return left;
+    }
+    if left == 0 {
+        return 0;
+    }
+    if rows::is_stack(rows, h - 1) {
+        return spend_stack(rows, parts, h, left - 1);
+    }
+    spend_value(rows, parts, h, left - 1)
+}
+
+// What is left after the rows that the value row h names.
+fn spend_value(rows: &[u16], parts: &[u16], h: usize, left: usize) -> usize
+    requires { ⌜ h ≤ 65536 ⌝ }
+    ensures { λ out. ⌜ out ≡ left - underV (sizeAt (tab (now (rows .entry)) (now (parts .entry)))) (now (parts .entry)) h (valueAt (now (rows .entry)) ValVar h) ⌝ }
+{
+    let n = rows::read_value(rows, h, 0, 0, 0);
+    match n {
+        Val::Int => left,
+        Val::Junk => left,
+        Val::ValVar(_) => left,
+        Val::ValFill(_) => left,
+        Val::Tuple(p, c) => spend_parts(rows, parts, h, false, p, c, left),
+        Val::Pointer(x) => spend_row(rows, parts, x, left),
+        Val::Code(x, p) => {
+            let e = spend_row(rows, parts, x, left);
+            spend_parts(rows, parts, h, true, p, 8, e)
+        }
+    }
+}
+
+// What is left after the rows that the stack row h names.
+fn spend_stack(rows: &[u16], parts: &[u16], h: usize, left: usize) -> usize
+    requires { ⌜ h ≤ 65536 ⌝ }
+    ensures { λ out. ⌜ out ≡ left - underS (sizeAt (tab (now (rows .entry)) (now (parts .entry)))) (stackAt (now (rows .entry)) StkVar h) ⌝ }
+{
+    let n = rows::read_stack(rows, h, 0, 0, 0);
+    match n {
+        Stk::Nil => left,
+        Stk::StkVar(_) => left,
+        Stk::StkFill(_) => left,
+        Stk::Push(t, x) => {
+            let e = spend_row(rows, parts, t, left);
+            spend_row(rows, parts, x, e)
+        }
+        Stk::Join(x, y) => {
+            let e = spend_row(rows, parts, x, left);
+            spend_row(rows, parts, y, e)
+        }
+    }
+}
+
+// What is left after the n parts of row h at p.
+fn spend_parts(
+    rows: &[u16],
+    parts: &[u16],
+    h: usize,
+    file: bool,
+    p: usize,
+    n: usize,
+    left: usize,
+) -> usize
+    requires { ⌜ (0 < h) × (h ≤ 65536) × (n ≤ 65535) × (p + n ≤ 131072) ⌝ }
+    ensures { λ out. ⌜ out ≡ left - partsSize (sizeAt (tab (now (rows .entry)) (now (parts .entry)))) (now (parts .entry)) file h p n ⌝ }
+{
+    if n == 0 {
+        return left;
+    }
+    let s = rows::part(parts, file, h, p);
+    match s {
+        Slot::Gap => spend_parts(rows, parts, h, file, p + 1, n - 1, left),
+        Slot::Known(t) => {
+            let e = spend_row(rows, parts, t, left);
+            spend_parts(rows, parts, h, file, p + 1, n - 1, e)
+        }
+    }
+}
+
+// Row r is larger than 4,096 (fault 6). Of the rows that it names only lower ones count.
+pub fn size_over(rows: &[u16], parts: &[u16], r: usize) -> bool
+    requires { ⌜ r ≤ 65535 ⌝ }
+    ensures { λ out. ⌜ out ≡ ltb 4096 (sizeOf (sizesOf (rowsIn (tab (now (rows .entry)) (now (parts .entry))) r)) (rowAt (tab (now (rows .entry)) (now (parts .entry))) r)) ⌝ }
+{
+    spend_row(rows, parts, r + 1, 4097) == 0
+}
+
+// The items of stack row h, from the counts of lower rows.
+fn count_row(rows: &[u16], parts: &[u16], h: usize) -> usize
+    requires { ⌜ (h ≤ 65536) × ((x : ℕ) → x < h → itemsAt (now rows) x ≡ items (meanS (tab (now rows) (now parts)) x)) ⌝ }
+    ensures { λ out. ⌜ out ≡ items (meanS (tab (now (rows .entry)) (now (parts .entry))) h) ⌝ }
+{
+    let n = rows::read_stack(rows, h, 0, 0, 0);
+    match n {
+        Stk::Nil => 0,
+        Stk::StkVar(_) => 1,
+        Stk::StkFill(_) => 0,
+        Stk::Push(_, x) => rows::item_count(rows, x) + 1,
+        Stk::Join(x, y) => rows::item_count(rows, x) + rows::item_count(rows, y),
+    }
+}
+
+fn narrow(x: usize) -> u16
+    requires { ⌜ x ≤ 65535 ⌝ }
+    ensures { λ out. ⌜ out ≡ x ⌝ }
+{
+    x as u16
+}
+
+// Writes the count of its items into each of the first n rows; a value row has none.
+pub fn count_items(rows: &mut [u16], parts: &[u16], n: usize)
+    requires { ⌜ (n ≤ 65536) × (4 * n ≤ length (now rows)) × ((x : ℕ) → x < n → sizeOf (sizesOf (rowsIn (tab (now rows) (now parts)) x)) (rowAt (tab (now rows) (now parts)) x) ≤ 4096) ⌝ }
+    ensures { λ _. ⌜ CountsFilled (now (rows .entry)) (now (rows .exit)) (now (parts .entry)) n ⌝ }
+{
+    let mut r = 0;
+    while r < n {
+        let c = count_row(rows, parts, r + 1);
+        rows[4 * r + 3] = narrow(c);
+        r += 1;
+    }
+}
