@@ -1,0 +1,34 @@
+-- Where the parts and the lines of a text stand, by the definitions of crate text.
+use Prim.Native.Nat.{ℕ, _<_, _≤_}
+use Prim.Native.Char.{code}
+use mathlib.Core.Path.{_≡_}
+use mathlib.Core.List.{List, [], _∷_, map}
+use lib.ListN.{length, getD, drop}
+use Rattle.text.specs.Bytes.{split, Line, ended, unended, linesOf}
+
+-- ---- parts
+abbrev pub firstOf : List (List ℕ) → List ℕ
+firstOf [] = []
+firstOf (p ∷ ps) = p
+
+-- the bytes up to the first byte c, or all of them
+unfoldable pub firstPart : ℕ → List ℕ → List ℕ
+firstPart c s = firstOf (split c s)
+
+-- ---- lines
+abbrev pub lf : ℕ
+lf = code "\n"
+
+unfoldable pub contents : Line → List ℕ
+contents (ended s) = s
+contents (unended s) = s
+
+-- line n, counted from 0, without its LF; empty where there is none
+unfoldable pub lineAt : List ℕ → ℕ → List ℕ
+lineAt text n = getD (map contents (linesOf text)) n []
+
+-- r is past the line at `at`, and the next one starts there
+pub record NextLine (text : List ℕ) (at r : ℕ) : Type 0 where
+  pub within : r ≤ length text
+  pub moves : at < length text → at < r
+  pub others : linesOf (drop r text) ≡ drop 1 (linesOf (drop at text))

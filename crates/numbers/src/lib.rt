@@ -1,0 +1,167 @@
+// Numbers of a field: decimal numbers within bounds, literals as bits, registers.
+// Promises: an answer stands, by `numberOf` of specs/Numbers.antt, for what `number`, `literal` and `register` of crate
+// text say of the whole field; reading stops as soon as the number is above its bound, however many digits follow.
+ghost use mathlib.Core.Path.{_≡_};
+ghost use mathlib.Core.Option.{some};
+ghost use Prim.Native.Nat.{_-_};
+ghost use lib.Dec.{leb};
+ghost use Rattle.syntax.specs.Bits.{modulus};
+ghost use Rattle.syntax.specs.Partial.{bind, when};
+ghost use Rattle.text.specs.Bytes.{number, literal};
+ghost use Rattle.text.specs.Grammar.{rowNumber, index, amount, register};
+ghost use Rattle.numbers.specs.Numbers.{numberOf, digitOf, upTo, zeroLed};
+
+// A number, or none.
+pub enum Number {
+    Value(u32),
+    Bad,
+}
+
+// A digit's value; 10 for any other byte.
+fn digit(b: u8) -> u64
+    ensures { λ r. ⌜ r ≡ digitOf b ⌝ }
+{
+    if b < b'0' {
+        return 10;
+    }
+    if b'9' < b {
+        return 10;
+    }
+    (b as u64) - 48
+}
+
+// The number that s spells if it is digits alone and the number is at most high; 0 for no digit at all.
+fn digits(s: &[u8], high: u32) -> Number
+    ensures { λ r. ⌜ numberOf r ≡ upTo high 0 (now (s .entry)) ⌝ }
+{
+    let top = high as u64;
+    let mut n: u64 = 0;
+    let mut i = 0;
+    while i < s.len() {
+        let d = digit(s[i]);
+        if 9 < d {
+            return Number::Bad;
+        }
+        n = n * 10 + d;
+        if top < n {
+            return Number::Bad;
+        }
+        i += 1;
+    }
+    Number::Value(n as u32)
+}
+
+// Of several bytes the first is a zero.
+fn zero_led(s: &[u8]) -> bool
+    ensures { λ r. ⌜ r ≡ zeroLed (now (s .entry)) ⌝ }
+{
+    if s.len() <= 1 {
+        return false;
+    }
+    s[0] == b'0'
+}
+
+// The number, if it is not below low.
+fn at_least(n: Number, low: u32) -> Number
+    ensures { λ r. ⌜ numberOf r ≡ bind (numberOf n) (λ v. when (leb low v) v) ⌝ }
+{
+    match n {
+        Number::Value(v) => {
+            if low <= v {
+                return Number::Value(v);
+            }
+            Number::Bad
+        }
+        Number::Bad => Number::Bad,
+    }
+}
+
+// A decimal number from low to high, without a leading zero.
+pub fn number_in(s: &[u8], low: u32, high: u32) -> Number
+    ensures { λ r. ⌜ numberOf r ≡ number low high (now (s .entry)) ⌝ }
+{
+    if s.len() == 0 {
+        return Number::Bad;
+    }
+    if zero_led(s) {
+        return Number::Bad;
+    }
+    at_least(digits(s, high), low)
+}
+
+// The bits of a number with its sign changed; of 0 there are none.
+fn negated(n: Number) -> Number
+    ensures { λ r. ⌜ numberOf r ≡ bind (numberOf n) (λ v. when (leb 1 v) (modulus - v)) ⌝ }
+{
+    match n {
+        Number::Value(v) => {
+            if 1 <= v {
+                return Number::Value(4294967295 - (v - 1));
+            }
+            Number::Bad
+        }
+        Number::Bad => Number::Bad,
+    }
+}
+
+// The bits of a literal of 32 signed bits; -0 is none.
+pub fn literal(s: &[u8]) -> Number
+    ensures { λ r. ⌜ numberOf r ≡ literal (now (s .entry)) ⌝ }
+{
+    if s.len() == 0 {
+        return Number::Bad;
+    }
+    if s[0] == b'-' {
+        return negated(number_in(&s[1..], 1, 2147483648));
+    }
+    number_in(s, 0, 2147483647)
+}
+
+// One less, and 0 for 0.
+fn less_one(n: Number) -> Number
+    ensures { λ r. ⌜ numberOf r ≡ bind (numberOf n) (λ v. some (v - 1)) ⌝ }
+{
+    match n {
+        Number::Value(v) => {
+            if 1 <= v {
+                return Number::Value(v - 1);
+            }
+            Number::Value(0)
+        }
+        Number::Bad => Number::Bad,
+    }
+}
+
+// Registers r1 to r8 are 0 to 7.
+pub fn register(s: &[u8]) -> Number
+    ensures { λ r. ⌜ numberOf r ≡ register (now (s .entry)) ⌝ }
+{
+    if s.len() == 0 {
+        return Number::Bad;
+    }
+    if s[0] == b'r' {
+        return less_one(number_in(&s[1..], 1, 8));
+    }
+    Number::Bad
+}
+
+// A row number, 0 to 511.
+pub fn row_number(s: &[u8]) -> Number
+    ensures { λ r. ⌜ numberOf r ≡ rowNumber (now (s .entry)) ⌝ }
+{
+    number_in(s, 0, 511)
+}
+
+// A variable's k, a component's or an item's index, or a label: 0 to 63.
+pub fn index(s: &[u8]) -> Number
+    ensures { λ r. ⌜ numberOf r ≡ index (now (s .entry)) ⌝ }
+{
+    number_in(s, 0, 63)
+}
+
+// A count of stack words, 0 to 64.
+pub fn amount(s: &[u8]) -> Number
+    ensures { λ r. ⌜ numberOf r ≡ amount (now (s .entry)) ⌝ }
+{
+    number_in(s, 0, 64)
+}
