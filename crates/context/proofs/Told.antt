@@ -4,10 +4,11 @@ use native.Mathlib.Omega.{arith}
 use mathlib.Core.Path.{_≡_, refl, ap, sym, _∙_}
 use mathlib.Core.Bool.{Bool, true, false, cond}
 use mathlib.Core.Option.{none, some}
-use mathlib.Core.List.{List, [], _∷_, _++_, append-nil}
+use mathlib.Core.List.{List, [], _∷_, _++_}
 use Rattle.syntax.specs.Fault.{Fault, numberOf, lowest}
 use Rattle.valid.specs.PassThree.{Judged, holds, fails, faultsOf, _▹_, _&_, orFault, need}
-use Rattle.context.specs.Least.{least, leastOf, gives, lacks, toldOf, answer}
+use Rattle.syntax.proofs.Least.{least, least-none, leastOf}
+use Rattle.context.specs.Told.{gives, lacks, toldOf, answer}
 
 absurd-told : {A B : Type 0} {x : A} {n : ℕ} → gives x ≡ lacks n → B
 absurd-told e = let z : _≡_ {A = ℕ} 0 1 = cc in absurd (omega arith)
@@ -23,24 +24,10 @@ unfolding lowest
 lowest-min m n [] = refl
 lowest-min m n (f ∷ fs) = let e : min (min m n) (numberOf f) ≡ min m (min n (numberOf f)) = omega arith in rw e (lowest-min m (min n (numberOf f)) fs)
 
-lowest-both : (n : ℕ) (fs : List Fault) (g : Fault) (gs : List Fault) → lowest n (fs ++ g ∷ gs) ≡ min (lowest n fs) (lowest (numberOf g) gs)
+pub lowest-both : (n : ℕ) (fs : List Fault) (g : Fault) (gs : List Fault) → lowest n (fs ++ g ∷ gs) ≡ min (lowest n fs) (lowest (numberOf g) gs)
 lowest-both n fs g gs = lowest-more n fs (g ∷ gs) ∙ unfold lowest in lowest-min (lowest n fs) (numberOf g) gs
 
--- no fault has the number 0
-abbrev pub Numbered : List Fault → Type 0
-Numbered [] = Unit
-Numbered (f ∷ fs) = (0 < numberOf f) × Numbered fs
-
-lowest-some : (n : ℕ) (fs : List Fault) → 0 < n → Numbered fs → 0 < lowest n fs
-unfolding lowest
-lowest-some n [] h q = h
-lowest-some n (f ∷ fs) h q = let p = q .0 in lowest-some (min n (numberOf f)) fs (omega arith) (q .1)
-
-pub least-none : (fs : List Fault) → Numbered fs → leastOf fs ≡ 0 → fs ≡ []
-unfolding leastOf
-least-none [] h e = refl
-least-none (f ∷ fs) h e = let p = lowest-some (numberOf f) fs (h .0) (h .1) in absurd (omega arith)
-
+-- the lesser of two numbers
 pub both-min : (a b : ℕ) → 0 < a → 0 < b → least a b ≡ min a b
 unfolding least
 both-min zero b h q = absurd (omega arith)
@@ -51,19 +38,8 @@ pub both-first : (a b : ℕ) → a ≡ 0 → b ≡ least a b
 unfolding least
 both-first a b e = rw e
 
-both-none : (a : ℕ) → least a 0 ≡ a
-unfolding least
-both-none zero = refl
-both-none (suc a) = refl
-
 pub both-second : (a b : ℕ) → b ≡ 0 → a ≡ least a b
-both-second a b e = rw e (sym (both-none a))
-
-pub least-append : (fs gs : List Fault) → Numbered fs → Numbered gs → leastOf (fs ++ gs) ≡ least (leastOf fs) (leastOf gs)
-unfolding leastOf
-least-append [] gs h q = unfold least in refl
-least-append (f ∷ fs) [] h q = ap (lowest (numberOf f)) (append-nil fs) ∙ sym (both-none (lowest (numberOf f) fs))
-least-append (f ∷ fs) (g ∷ gs) h q = lowest-both (numberOf f) fs g gs ∙ sym (both-min _ _ (lowest-some (numberOf f) fs (h .0) (h .1)) (lowest-some (numberOf g) gs (q .0) (q .1)))
+both-second a b e = rw e (sym (least-none a))
 
 -- ---- what the code answers
 -- the number that it answers is the least fault's

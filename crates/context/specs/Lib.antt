@@ -1,2 +1,2 @@
 pub mod Context
-pub mod Least
+pub mod Told

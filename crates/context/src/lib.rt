@@ -9,12 +9,12 @@ ghost use mathlib.Core.List.{List};
 ghost use lib.ListN.{length, getD};
 ghost use Rattle.syntax.specs.Partial.{when};
 ghost use Rattle.syntax.specs.Syntax.{value};
+ghost use Rattle.syntax.proofs.Least.{least};
 ghost use Rattle.types.specs.Types.{Arg, junk};
 ghost use Rattle.types.specs.Rows.{typeAt};
 ghost use Rattle.valid.specs.Rules.{junks};
 ghost use Rattle.valid.specs.PassThree.{itemAt, replaced, under};
 ghost use Rattle.context.specs.Context.{linked, regsOf, spOf, spAbove, areValues};
-ghost use Rattle.context.specs.Least.{least};
 
 // The lesser of two fault numbers, 0 standing for none.
 pub fn least(a: usize, b: usize) -> usize

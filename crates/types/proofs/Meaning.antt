@@ -1,19 +1,21 @@
 -- What row r of a table of rows means: the meaning of its form, read in the table of the types of all rows. The inductions over the rows
--- stay here: callers cite `type-is`, `type-more`, `length-types` and, for the kinds, `kind-is` and `as-kind`.
-use Prim.Native.Nat.{ℕ, suc, _+_, _<_}
-use native.Mathlib.Nat.{add-zero}
+-- stay here: callers cite `type-is`, `type-more` and `length-types`; `type-at` for a row read at its own kind; `rows-clear` for the premise.
+use Prim.Native.Nat.{ℕ, zero, suc, _+_, _<_}
+use native.Mathlib.Nat.{add-zero, zero-add, not-suc-le-zero, le-of-suc-le-suc}
 use native.Mathlib.Omega.{arith}
 use mathlib.Core.Path.{_≡_, refl, ap, ap₂, sym, _∙_}
-use mathlib.Core.Bool.{true, cond}
+use mathlib.Core.Bool.{Bool, true, false, not, cond}
 use mathlib.Core.Option.{Option, none, some}
-use mathlib.Core.List.{List, [], _∷_, _++_, map, reverse, append-assoc}
+use mathlib.Core.List.{List, [], _∷_, _++_, map, reverse, append-assoc, append-nil}
+use lib.Dec.{ltb}
 use lib.ListN.{length, getD, take, drop, take-append-drop, length-append, List·getD-append}
 use lib.Seq.{split-at, length-take-le, getD-at}
 use borrow.Author.Tests.{ltb-true}
 use Rattle.syntax.specs.Syntax.{Kind, value, stack, Row, rowI, rowN, rowE, rowV, rowX, rowP, rowU, rowK, rowA, rowC}
+use Rattle.syntax.specs.Fault.{Fault, given, Clear}
 use Rattle.types.specs.Types.{junk, tuple, pointer, code, push, gap, join, Arg, arg, kindOf, ofKind}
-use Rattle.types.specs.Rows.{typeAt, components, registers, meaning, meanings, typesOf, isValue, Ref, knownRefs, rowRefs, allBelow}
-use Rattle.types.proofs.Equal.{and-inv}
+use Rattle.types.specs.Rows.{typeAt, components, registers, meaning, meanings, typesOf, isValue, Ref, knownRefs, rowRefs, allBelow, allOfSort, sizeOf, rowFaults, rowsFaults}
+use Rattle.types.proofs.Equal.{and-inv, not-false}
 
 -- the rows that a row names
 abbrev pub named : Row → List ℕ
@@ -149,3 +151,27 @@ as-kind stack (arg stack t) e = refl
 pub type-at : (κ : Kind) (rows : List Row) (r : ℕ) (d : Row) → r < length rows → cond (isValue (getD rows r d)) value stack ≡ κ → typeIn (typesOf rows) r ≡ arg κ (typeAt κ (typesOf rows) r)
 unfolding typeAt
 type-at κ rows r d h e = as-kind κ (typeIn (typesOf rows) r) (ap kindOf (type-before rows r d h) ∙ kind-is (typesOf (take r rows)) (getD rows r d) ∙ e)
+
+-- ---- what pass two sees: a row with no fault names lower rows, of the sort needed
+none-given : (b : Bool) (n : ℕ) (fs : List Fault) → given b n ++ fs ≡ [] → (b ≡ false) × (fs ≡ [])
+unfolding given
+none-given true n fs e = let z : _≡_ {A = ℕ} 0 1 = cc in absurd (omega arith)
+none-given false n fs e = (refl, e)
+
+rows-seen : (before : List Row) (sizes : List ℕ) (rows : List Row) → Clear (rowsFaults before sizes rows) → (r : ℕ) (d : Row) → r < length rows → (allBelow (length before + r) (named (getD rows r d)) ≡ true) × (allOfSort (before ++ take r rows) (rowRefs (getD rows r d)) ≡ true)
+unfolding rowsFaults rowFaults
+rows-seen before sizes [] c r d h = absurd (not-suc-le-zero h)
+rows-seen before sizes (x ∷ rows) c zero d h =
+    let four : List Fault = given (not (allBelow (length before) (named x))) 4 in
+    let five : List Fault = given (not (allOfSort before (rowRefs x))) 5 in
+    let six : List Fault = given (ltb 4096 (sizeOf sizes x)) 6 in
+    let f = none-given (not (allBelow (length before) (named x))) 4 (five ++ six) (sym (append-assoc four five six) ∙ c .0) in
+    let g = none-given (not (allOfSort before (rowRefs x))) 5 six (f .1) in
+    rw (add-zero, append-nil) (not-false (allBelow (length before) (named x)) (f .0), not-false (allOfSort before (rowRefs x)) (g .0))
+rows-seen before sizes (x ∷ rows) c (suc r) d h =
+    let i = rows-seen (before ++ x ∷ []) (sizes ++ sizeOf sizes x ∷ []) rows (c .1) r d (le-of-suc-le-suc h) in
+    let n : length (before ++ x ∷ []) + r ≡ length before + suc r = omega (arith, length-append before (x ∷ [])) in
+    (rw n at (i .0), rw append-assoc at (i .1))
+
+pub rows-clear : (rows : List Row) → Clear (rowsFaults [] [] rows) → (r : ℕ) (d : Row) → r < length rows → (allBelow r (named (getD rows r d)) ≡ true) × (allOfSort (take r rows) (rowRefs (getD rows r d)) ≡ true)
+rows-clear rows c r d h = let s = rows-seen [] [] rows c r d h in (rw zero-add at (s .0), s .1)

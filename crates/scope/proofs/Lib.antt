@@ -1,0 +1,4 @@
+pub mod WellFormed
+pub mod Rows
+pub mod Laws
+pub mod Callers
