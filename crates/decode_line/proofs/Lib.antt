@@ -1,0 +1,6 @@
+pub mod Walk
+pub mod FormLaws
+pub mod FieldLaws
+pub mod PartLaws
+pub mod OperandLaws
+pub mod LineLaws

@@ -1,0 +1,4 @@
+pub mod Leaves
+pub mod Codes
+pub mod Forms
+pub mod Exec
