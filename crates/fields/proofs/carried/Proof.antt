@@ -13,7 +13,6 @@ use Rattle.numbers.proofs.Laws.{row-small, value-is, bad-is, part-from}
 use Rattle.fields.specs.Pieces.{orZero, rowCount, rowsIn}
 use Rattle.fields.proofs.Stores.{fits-next, fits-row}
 use Rattle.fields.proofs.Operands.{nothing-is, sides-alone, sides-base, sides-count, sides-row, sides-all}
-use borrow.Author.Needs.{needs}
 use Rattle.fields.proofs.carried.Statement.{statement}
 use Rattle.fields.proofs.carried.Tie as tie
 
@@ -79,7 +78,7 @@ row-number-requires : tie.Need-row-number-requires
 row-number-requires c κs = tt
 
 enum-known-r : tie.Need-enum-known-r
-enum-known-r c = search needs
+enum-known-r c = c .match .keys1
 
 sub-put-rows : tie.Need-sub-put-rows
 sub-put-rows c = add-one-le (c .before .before .before .before .before .before .before .before .before .before .before .if1 .left)
@@ -97,13 +96,13 @@ cast-t27 : tie.Need-cast-t27
 cast-t27 c = fits-row (row-small (c .before .before .before .before .before .before .before .before .before .before .before .before .before .before .before .before .before .before .before .before .before .args .t .now) (c .before .before .before .before .before .before .r .given .0 .0) (value-is (c .before .before .before .before .before .before .before .before .row-number .ensures) (c .before .before .before .before .before .before .r .given .1)))
 
 enum-told : tie.Need-enum-told
-enum-told c = search needs
+enum-told c = c .match .keys2
 
 no-operand-requires-4 : tie.Need-no-operand-requires-4
 no-operand-requires-4 c κs = tt
 
 same-length : tie.Need-same-length
-same-length c = search needs
+same-length c = c .before .before .put-rows .kept .1 .0
 
 returns-4 : tie.Need-returns-4
 returns-4 c =

@@ -1,11 +1,12 @@
 -- `fields::carrier` meets its contract.
 -- Assumes nothing.
+use native.Mathlib.Nat.{le-refl, pos-of-ne-zero}
+use lib.ListN.{length}
 use mathlib.Core.Path.{ap, _∙_}
 use Rattle.text.specs.Grammar.{index}
 use Rattle.numbers.proofs.Laws.{part-from}
 use Rattle.fields.specs.Pieces.{plainRead}
 use Rattle.fields.proofs.Operands.{carrier-none, carrier-label, carrier-register}
-use borrow.Author.Needs.{needs}
 use Rattle.fields.proofs.carrier.Statement.{statement}
 use Rattle.fields.proofs.carrier.Tie as tie
 
@@ -16,16 +17,16 @@ returns : tie.Need-returns
 returns c = c .no-operand .ensures ∙ carrier-none (c .before .before .before .args .f .now) (c .before .if1 .taken)
 
 shared-slice-read-if2 : tie.Need-shared-slice-read-if2
-shared-slice-read-if2 c = search needs
+shared-slice-read-if2 c = pos-of-ne-zero (c .before .if1 .left)
 
 sub-index : tie.Need-sub-index
-sub-index c = search needs
+sub-index c = pos-of-ne-zero (c .before .before .if1 .left)
 
 part-index-start : tie.Need-part-index-start
-part-index-start c = search needs
+part-index-start c = pos-of-ne-zero (c .before .before .if1 .left)
 
 part-index-end : tie.Need-part-index-end
-part-index-end c = search needs
+part-index-end c = le-refl (length (c .before .before .before .before .args .f .now))
 
 index-requires : tie.Need-index-requires
 index-requires c κs = tt

@@ -3,7 +3,6 @@
 use mathlib.Core.Path.{ap, sym}
 use Rattle.numbers.proofs.Laws.{value-is, bad-is}
 use Rattle.fields.specs.Pieces.{isSome}
-use borrow.Author.Needs.{needs}
 use Rattle.fields.proofs.is_row.Statement.{statement}
 use Rattle.fields.proofs.is_row.Tie as tie
 
@@ -11,10 +10,10 @@ row-number-requires : tie.Need-row-number-requires
 row-number-requires c κs = tt
 
 enum-told : tie.Need-enum-told
-enum-told c = search needs
+enum-told c = c .match .keys1
 
 enum-told-2 : tie.Need-enum-told-2
-enum-told-2 c = search needs
+enum-told-2 c = c .match .keys2
 
 returns : tie.Need-returns
 returns c = sym (ap isSome (value-is (c .before .before .row-number .ensures) (c .enum-told .given .1)))

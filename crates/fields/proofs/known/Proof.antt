@@ -4,7 +4,6 @@ use mathlib.Core.Path.{sym, _∙_}
 use native.Mathlib.Omega.{arith}
 use Rattle.numbers.proofs.Laws.{row-small, value-is, bad-is}
 use Rattle.fields.proofs.CodeRows.{known-nothing, known-row, known-bad}
-use borrow.Author.Needs.{needs}
 use Rattle.fields.proofs.known.Statement.{statement}
 use Rattle.fields.proofs.known.Tie as tie
 
@@ -18,13 +17,13 @@ row-number-requires : tie.Need-row-number-requires
 row-number-requires c κs = tt
 
 enum-known-t : tie.Need-enum-known-t
-enum-known-t c = search needs
+enum-known-t c = c .match .keys1
 
 add-t6 : tie.Need-add-t6
 add-t6 c = omega (arith, row-small (c .before .before .before .before .before .before .before .args .f .now) (c .before .t .given .0 .0) (value-is (c .before .before .before .row-number .ensures) (c .before .t .given .1)))
 
 enum-told : tie.Need-enum-told
-enum-told c = search needs
+enum-told c = c .match .keys2
 
 returns-2 : tie.Need-returns-2
 returns-2 c = known-row (c .before .before .before .before .before .before .before .args .f .now) (c .before .t .given .0 .0) (sym (c .before .before .before .before .before .is-dash .ensures) ∙ c .before .before .before .before .if1 .left) (value-is (c .before .before .before .row-number .ensures) (c .before .t .given .1))

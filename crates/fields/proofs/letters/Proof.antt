@@ -4,7 +4,6 @@ use mathlib.Core.Path.{ap, sym, _∙_}
 use lib.Seq.{sets}
 use Rattle.numbers.proofs.Laws.{value-is, bad-is}
 use Rattle.fields.proofs.CodeRows.{dash-count, dash-codes, count-is, codes-bad, codes-are}
-use borrow.Author.Needs.{needs}
 use Rattle.fields.proofs.letters.Statement.{statement}
 use Rattle.fields.proofs.letters.Tie as tie
 
@@ -21,16 +20,16 @@ letter-count-requires : tie.Need-letter-count-requires
 letter-count-requires c κs = tt
 
 enum-known-n : tie.Need-enum-known-n
-enum-known-n c = search needs
+enum-known-n c = c .match .keys1
 
 put-letters-requires : tie.Need-put-letters-requires
 put-letters-requires c κs = tt
 
 enum-told : tie.Need-enum-told
-enum-told c = search needs
+enum-told c = c .match .keys2
 
 same-length : tie.Need-same-length
-same-length c = search needs
+same-length c = c .before .before .put-letters .kept .1 .0
 
 returns-2 : tie.Need-returns-2
 returns-2 c =

@@ -17,7 +17,6 @@ use Rattle.numbers.proofs.Laws.{part-from}
 use Rattle.fields.specs.Answers.{answerOf, argsOf}
 use Rattle.fields.proofs.Stores.{fits-next}
 use Rattle.fields.proofs.Operands.{nothing-is, plain-is, field-plain, field-more, field-sides}
-use borrow.Author.Needs.{needs}
 use Rattle.fields.proofs.operand.Statement.{statement}
 use Rattle.fields.proofs.operand.Tie as tie
 
@@ -73,7 +72,7 @@ carried-requires : tie.Need-carried-requires
 carried-requires c κs = tt
 
 same-length : tie.Need-same-length
-same-length c = search needs
+same-length c = c .before .before .carried .kept .1 .1 .0
 
 returns-3 : tie.Need-returns-3
 returns-3 c =

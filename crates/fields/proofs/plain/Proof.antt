@@ -4,15 +4,14 @@ use mathlib.Core.Path.{ap, sym, _∙_}
 use Rattle.numbers.specs.Numbers.{numberOf}
 use Rattle.numbers.specs.declared.Number.{Number}
 use Rattle.fields.specs.Pieces.{plainRead}
-use borrow.Author.Needs.{needs}
 use Rattle.fields.proofs.plain.Statement.{statement}
 use Rattle.fields.proofs.plain.Tie as tie
 
 enum-known-n : tie.Need-enum-known-n
-enum-known-n c = search needs
+enum-known-n c = c .match .keys1
 
 enum-told : tie.Need-enum-told
-enum-told c = search needs
+enum-told c = c .match .keys2
 
 no-operand-requires : tie.Need-no-operand-requires
 no-operand-requires c κs = tt

@@ -4,7 +4,6 @@ use mathlib.Core.Path.{ap, sym}
 use Rattle.numbers.proofs.Laws.{row-small, value-is, bad-is}
 use Rattle.fields.specs.Pieces.{orZero}
 use Rattle.fields.proofs.Stores.{fits-row}
-use borrow.Author.Needs.{needs}
 use Rattle.fields.proofs.row_of.Statement.{statement}
 use Rattle.fields.proofs.row_of.Tie as tie
 
@@ -12,13 +11,13 @@ row-number-requires : tie.Need-row-number-requires
 row-number-requires c κs = tt
 
 enum-known-t : tie.Need-enum-known-t
-enum-known-t c = search needs
+enum-known-t c = c .match .keys1
 
 cast-result : tie.Need-cast-result
 cast-result c = fits-row (row-small (c .before .before .before .before .before .args .f .now) (c .before .t .given .0 .0) (value-is (c .before .before .before .row-number .ensures) (c .before .t .given .1)))
 
 enum-told : tie.Need-enum-told
-enum-told c = search needs
+enum-told c = c .match .keys2
 
 returns : tie.Need-returns
 returns c = sym (ap orZero (value-is (c .before .before .before .row-number .ensures) (c .before .t .given .1)))

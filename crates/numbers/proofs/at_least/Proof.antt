@@ -11,7 +11,7 @@ use Rattle.numbers.proofs.at_least.Statement.{statement}
 use Rattle.numbers.proofs.at_least.Tie as tie
 
 enum-known-n : tie.Need-enum-known-n
-enum-known-n c = search needs
+enum-known-n c = c .match .keys1
 
 returns : tie.Need-returns
 returns c =
@@ -20,7 +20,7 @@ returns c =
     with-value (λ (x : ℕ). when (leb (a .low) x) x) (a .n) v (some v) (c .before .before .n .given .1) (simp (le-leb (a .low) v (c .if1 .taken)))
 
 enum-told : tie.Need-enum-told
-enum-told c = search needs
+enum-told c = c .match .keys2
 
 returns-2 : tie.Need-returns-2
 returns-2 c =

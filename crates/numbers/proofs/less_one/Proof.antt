@@ -10,7 +10,7 @@ use Rattle.numbers.proofs.less_one.Statement.{statement}
 use Rattle.numbers.proofs.less_one.Tie as tie
 
 enum-known-n : tie.Need-enum-known-n
-enum-known-n c = search needs
+enum-known-n c = c .match .keys1
 
 returns : tie.Need-returns
 returns c =
@@ -19,7 +19,7 @@ returns c =
     with-value (λ (x : ℕ). some (x - 1)) (a .n) v (some (v - 1)) (c .before .before .n .given .1) refl
 
 enum-told : tie.Need-enum-told
-enum-told c = search needs
+enum-told c = c .match .keys2
 
 returns-2 : tie.Need-returns-2
 returns-2 c =

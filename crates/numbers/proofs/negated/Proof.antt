@@ -14,7 +14,7 @@ use Rattle.numbers.proofs.negated.Statement.{statement}
 use Rattle.numbers.proofs.negated.Tie as tie
 
 enum-known-n : tie.Need-enum-known-n
-enum-known-n c = search needs
+enum-known-n c = c .match .keys1
 
 sub-t6 : tie.Need-sub-t6
 sub-t6 c = search needs
@@ -27,7 +27,7 @@ returns c =
     with-value (λ (x : ℕ). when (leb 1 x) (modulus - x)) (a .n) v (some (4294967295 - (v - 1))) (c .before .before .n .given .1) (simp (le-leb 1 v (c .if1 .taken)) (ap {B = Option ℕ} some q))
 
 enum-told : tie.Need-enum-told
-enum-told c = search needs
+enum-told c = c .match .keys2
 
 returns-2 : tie.Need-returns-2
 returns-2 c =

@@ -1,0 +1,41 @@
+-- Laws of the small answers: a line's fault, what is in use behind it, and the answer at the end of the text.
+-- Assumes nothing.
+use mathlib.Core.Path.{_≡_, ap, sym, _∙_}
+use mathlib.Core.Bool.{Bool, true, false, not, cond}
+use Prim.Native.Nat.{ℕ, _≤_}
+use borrow.Author.Tests.{eq-eqb, ne-eqb, not-true, not-false}
+use Rattle.decode_store.specs.Lines.{operandCount, usedAfter}
+use Rattle.decode_store.specs.declared.Used.{Used}
+use Rattle.decode_store.specs.declared.Line.{Line}
+use Rattle.decode.specs.Decoded.{faultyRead, lastRead, faultOf, lineFault}
+use Rattle.decode.specs.declared.Read.{Read}
+
+-- ---- order before number
+pub out-of-order : (i t : Bool) → not i ≡ true → 2 ≡ faultOf i t
+out-of-order i t e = ap (λ (b : Bool). faultOf b t) (sym (not-true i e))
+
+pub in-order : (i t : Bool) (n : ℕ) → not i ≡ false → n ≡ cond t 3 0 → n ≡ faultOf i t
+in-order i t n e h = h ∙ ap (λ (b : Bool). faultOf b t) (sym (not-false i e))
+
+pub full : (t : Bool) → t ≡ true → _≡_ {A = ℕ} 3 (cond t 3 0)
+full t e = ap (λ (b : Bool). cond b 3 0) (sym e)
+
+pub not-full : (t : Bool) → t ≡ false → _≡_ {A = ℕ} 0 (cond t 3 0)
+not-full t e = ap (λ (b : Bool). cond b 3 0) (sym e)
+
+-- ---- by what a line is
+pub fault-as : {l m : Line} (p : ℕ) (u : Used) {n : ℕ} → l ≡ m → n ≡ lineFault m p u → n ≡ lineFault l p u
+fault-as p u e h = h ∙ ap (λ (x : Line). lineFault x p u) (sym e)
+
+pub used-as : {l m : Line} (u : Used) {v : Used} → l ≡ m → v ≡ usedAfter u m → v ≡ usedAfter u l
+used-as u e h = h ∙ ap (usedAfter u) (sym e)
+
+pub count-as : {l m : Line} → l ≡ m → operandCount l ≤ 16 → operandCount m ≤ 16
+count-as {l} {m} e h = rw (← e) h
+
+-- ---- at the end of the text
+pub end-inside : (p n : ℕ) (u : Used) (r : Read) → p ≡ 1 → r ≡ faultyRead 2 n → r ≡ lastRead p n u
+end-inside p n u r e h = h ∙ ap (λ (b : Bool). cond b (faultyRead 2 n) (record { fault = 0; line = 0; rows = u .rows; blocks = u .blocks; instrs = u .instrs })) (sym (eq-eqb p 1 e))
+
+pub end-outside : (p n : ℕ) (u : Used) → (p ≡ 1 → ⊥) → record { fault = 0; line = 0; rows = u .rows; blocks = u .blocks; instrs = u .instrs } ≡ lastRead p n u
+end-outside p n u e = ap (λ (b : Bool). cond b (faultyRead 2 n) (record { fault = 0; line = 0; rows = u .rows; blocks = u .blocks; instrs = u .instrs })) (sym (ne-eqb p 1 e))

@@ -1,0 +1,4 @@
+pub mod FaultLaws
+pub mod GrowthLaws
+pub mod LoopLaws
+pub mod AnswerLaws

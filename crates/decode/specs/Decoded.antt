@@ -1,0 +1,70 @@
+-- What decoding a text answers, and what it leaves in the tables.
+use Prim.Native.Nat.{ℕ, zero, suc, _≤_, _<_}
+use mathlib.Core.Path.{_≡_}
+use mathlib.Core.Bool.{Bool, not, cond}
+use mathlib.Core.Option.{Option, none, some}
+use mathlib.Core.List.{List, []}
+use lib.Dec.{eqb, leb}
+use Rattle.syntax.specs.Fault.{Refusal, lowestLine}
+use Rattle.text.specs.PassOne.{Place, atRows, inBlock, behindBlock, passOne, entriesOf, rowsOf, listingsOf}
+use Rattle.tables.specs.Tables.{cell, rowsIn, blocksFrom}
+use Rattle.decode_store.specs.Store.{Store, rowTable, operandsOf}
+use Rattle.decode_store.specs.declared.Used.{Used}
+use Rattle.decode_store.specs.declared.Line.{Line}
+use Rattle.decode_store.specs.declared.Line.the-variants.{NoForm, Row, Block, Instruction, Last}
+use Rattle.decode.specs.declared.Read.{Read}
+
+abbrev pub noneUsed : Used
+noneUsed = record { rows = 0; blocks = 0; instrs = 0; operands = 0 }
+
+-- the fault that an answer names; 0 for none
+abbrev pub refusalOf : Read → Option Refusal
+refusalOf r = cond (eqb (r .fault) 0) none (some (record { number = r .fault; line = r .line; items = [] }))
+
+abbrev pub faultyRead : ℕ → ℕ → Read
+faultyRead n line = record { fault = n; line = line; rows = 0; blocks = 0; instrs = 0 }
+
+-- at the end of the text, at a place and with what is in use there
+abbrev pub lastRead : ℕ → ℕ → Used → Read
+lastRead place line u = cond (eqb place 1) (faultyRead 2 line) (record { fault = 0; line = 0; rows = u .rows; blocks = u .blocks; instrs = u .instrs })
+
+-- The tables stand for the text. A block's second entry is where its instructions start: the first at 0, each later one behind an
+-- instruction of the block before it.
+pub record Decoded (text : List ℕ) (σ : Store) (r : Read) : Type 0 where
+  pub rows : rowsIn (rowTable σ) (r .rows) ≡ rowsOf (entriesOf text)
+  pub blocks : blocksFrom (σ .blocks) (σ .instrs) (operandsOf σ) (r .instrs) 0 (r .blocks) ≡ listingsOf (entriesOf text)
+  pub few-rows : r .rows ≤ 512
+  pub few-blocks : r .blocks ≤ 64
+  pub few-instrs : r .instrs ≤ 1024
+  pub first : 0 < r .blocks → cell 2 (σ .blocks) 0 1 ≡ 0
+  pub rising : (l : ℕ) → suc l < r .blocks → cell 2 (σ .blocks) l 1 < cell 2 (σ .blocks) (suc l) 1
+  pub within : (l : ℕ) → l < r .blocks → cell 2 (σ .blocks) l 1 < r .instrs
+
+-- r names the fault of pass one; where there is none, the tables stand for the text
+pub record ReadIs (text : List ℕ) (σ : Store) (r : Read) : Type 0 where
+  pub fault : refusalOf r ≡ lowestLine 0 (passOne text)
+  pub decoded : r .fault ≡ 0 → Decoded text σ r
+
+-- ---- the places of a line, as numbers
+abbrev pub placeOf : ℕ → Place
+placeOf zero = atRows
+placeOf (suc zero) = inBlock
+placeOf (suc (suc n)) = behindBlock
+
+abbrev pub placeBehind : Line → ℕ → ℕ
+placeBehind NoForm p = p
+placeBehind Row p = 0
+placeBehind Block p = 1
+placeBehind (Instruction n) p = 1
+placeBehind (Last n) p = 2
+
+-- ---- a line's fault, 0 for none
+abbrev pub faultOf : Bool → Bool → ℕ
+faultOf in-order full = cond in-order (cond full 3 0) 2
+
+abbrev pub lineFault : Line → ℕ → Used → ℕ
+lineFault NoForm p u = 1
+lineFault Row p u = faultOf (eqb p 0) (leb 512 (u .rows))
+lineFault Block p u = faultOf (not (eqb p 1)) (leb 64 (u .blocks))
+lineFault (Instruction n) p u = faultOf (eqb p 1) (leb 1024 (u .instrs))
+lineFault (Last n) p u = faultOf (eqb p 1) (leb 1024 (u .instrs))

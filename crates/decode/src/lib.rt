@@ -1,0 +1,172 @@
+// A text into tables, in one pass over its lines.
+// Promises: the answer names the fault of pass one that document 01 gives, on every text; where there is none, the tables
+// stand for the text (`ReadIs` of specs/Decoded.antt).
+ghost use mathlib.Core.Path.{_≡_};
+ghost use Prim.Native.Nat.{_≤_};
+ghost use Rattle.decode_store.specs.Store.{store, Room, Few};
+ghost use Rattle.decode_store.specs.Lines.{operandCount, usedAfter};
+ghost use Rattle.decode.specs.Decoded.{faultOf, lineFault, placeBehind, noneUsed, faultyRead, lastRead, ReadIs};
+use decode_store::Line;
+use decode_store::Used;
+
+// The fault of pass one and its line, 0 and 0 for none; then how many rows, blocks and instructions there are.
+pub struct Read {
+    pub fault: u8,
+    pub line: usize,
+    pub rows: usize,
+    pub blocks: usize,
+    pub instrs: usize,
+}
+
+// Out of order comes before too many.
+fn fault_of(in_order: bool, full: bool) -> u8
+    ensures { λ r. ⌜ r ≡ faultOf in_order full ⌝ }
+{
+    if !in_order {
+        return 2;
+    }
+    if full {
+        return 3;
+    }
+    0
+}
+
+// A line's fault, 0 for none. The place: 0 among the type lines, 1 in a block that has not ended, 2 behind one that has.
+fn line_fault(l: Line, place: u8, u: Used) -> u8
+    ensures { λ r. ⌜ r ≡ lineFault l place u ⌝ }
+{
+    match l {
+        Line::NoForm => 1,
+        Line::Row => fault_of(place == 0, 512 <= u.rows),
+        Line::Block => fault_of(place != 1, 64 <= u.blocks),
+        Line::Instruction(_) => fault_of(place == 1, 1024 <= u.instrs),
+        Line::Last(_) => fault_of(place == 1, 1024 <= u.instrs),
+    }
+}
+
+fn place_behind(l: Line, place: u8) -> u8
+    ensures { λ r. ⌜ r ≡ placeBehind l place ⌝ }
+{
+    match l {
+        Line::NoForm => place,
+        Line::Row => 0,
+        Line::Block => 1,
+        Line::Instruction(_) => 1,
+        Line::Last(_) => 2,
+    }
+}
+
+fn with_instr(u: Used, n: usize) -> Used
+    requires { ⌜ Few u × (n ≤ 16) ⌝ }
+    ensures { λ r. ⌜ r ≡ usedAfter u (Line.Instruction n) ⌝ }
+{
+    Used {
+        rows: u.rows,
+        blocks: u.blocks,
+        instrs: u.instrs + 1,
+        operands: u.operands + n,
+    }
+}
+
+// What is in use behind the line.
+fn used_after(u: Used, l: Line) -> Used
+    requires { ⌜ Few u × (operandCount l ≤ 16) ⌝ }
+    ensures { λ r. ⌜ r ≡ usedAfter u l ⌝ }
+{
+    match l {
+        Line::NoForm => u,
+        Line::Row => Used {
+            rows: u.rows + 1,
+            blocks: u.blocks,
+            instrs: u.instrs,
+            operands: u.operands,
+        },
+        Line::Block => Used {
+            rows: u.rows,
+            blocks: u.blocks + 1,
+            instrs: u.instrs,
+            operands: u.operands,
+        },
+        Line::Instruction(n) => with_instr(u, n),
+        Line::Last(n) => with_instr(u, n),
+    }
+}
+
+fn faulty(fault: u8, line: usize) -> Read
+    ensures { λ r. ⌜ r ≡ faultyRead fault line ⌝ }
+{
+    Read {
+        fault,
+        line,
+        rows: 0,
+        blocks: 0,
+        instrs: 0,
+    }
+}
+
+// What is read at the end of the text: a block that has not ended is a fault one line further on.
+fn end_of_text(place: u8, line: usize, u: Used) -> Read
+    ensures { λ r. ⌜ r ≡ lastRead place line u ⌝ }
+{
+    if place == 1 {
+        return faulty(2, line);
+    }
+    Read {
+        fault: 0,
+        line: 0,
+        rows: u.rows,
+        blocks: u.blocks,
+        instrs: u.instrs,
+    }
+}
+
+fn unused() -> Used
+    ensures { λ r. ⌜ r ≡ noneUsed ⌝ }
+{
+    Used {
+        rows: 0,
+        blocks: 0,
+        instrs: 0,
+        operands: 0,
+    }
+}
+
+// One pass over the text, line by line, into the tables.
+pub fn read_text(
+    text: &[u8],
+    rows: &mut [u16],
+    parts: &mut [u16],
+    operands: &mut [u16],
+    numbers: &mut [u32],
+    args: &mut [u16],
+    instrs: &mut [u16],
+    blocks: &mut [u16],
+) -> Read
+    requires { ⌜ Room (store (now rows) (now parts) (now operands) (now numbers) (now args) (now instrs) (now blocks)) ⌝ }
+    ensures { λ r. ⌜ ReadIs (now (text .entry)) (store (now (rows .exit)) (now (parts .exit)) (now (operands .exit)) (now (numbers .exit)) (now (args .exit)) (now (instrs .exit)) (now (blocks .exit))) r ⌝ }
+{
+    if 65536 < text.len() {
+        return faulty(3, 0);
+    }
+    let mut u = unused();
+    let mut at = 0;
+    let mut line = 1;
+    let mut place: u8 = 0;
+    while at < text.len() {
+        let e = lines::line_end(text, at);
+        if text.len() <= e {
+            return faulty(1, line);
+        }
+        let s = &text[at..e];
+        let l = decode_store::read_line(s, rows, parts, operands, numbers, args, instrs, blocks, u);
+        let f = line_fault(l, place, u);
+        if f != 0 {
+            return faulty(f, line);
+        }
+        u = used_after(u, l);
+        place = place_behind(l, place);
+        at = e + 1;
+        line += 1;
+    }
+    end_of_text(place, line, u)
+}

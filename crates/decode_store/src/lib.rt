@@ -1,0 +1,139 @@
+// One line of a text into the tables: what its fields say is stored at the first places that are not in use.
+// Promises: behind the line the tables say what it says (`LineIs` of specs/Lines.antt), and what was in use is kept.
+ghost use mathlib.Core.Path.{_≡_};
+ghost use mathlib.Core.List.{[], _∷_};
+ghost use Prim.Native.Nat.{_+_, _*_, _≤_, _<_};
+ghost use lib.ListN.{length};
+ghost use lib.Seq.{sets};
+ghost use Rattle.decode_line.specs.Fields.{fieldsFrom};
+ghost use Rattle.decode_line.specs.Answers.{operandTable, OperandRoom, FormIs};
+ghost use Rattle.decode_store.specs.Store.{store, Room, Few};
+ghost use Rattle.decode_store.specs.Lines.{LineIs, Stored};
+use decode_line::Said;
+
+// How many places of the tables are in use.
+pub struct Used {
+    pub rows: usize,
+    pub blocks: usize,
+    pub instrs: usize,
+    pub operands: usize,
+}
+
+// What a line is: an instruction with the number of its operands, the last of a block apart.
+pub enum Line {
+    NoForm,
+    Row,
+    Block,
+    Instruction(usize),
+    Last(usize),
+}
+
+fn put_row(rows: &mut [u16], r: usize, kind: u16, a: u16, b: u16)
+    requires { ⌜ 4 * r + 4 ≤ length (now rows) ⌝ }
+    ensures { λ _. ⌜ now (rows .exit) ≡ sets (now (rows .entry)) (4 * r) (kind ∷ a ∷ b ∷ []) ⌝ }
+{
+    let i = 4 * r;
+    rows[i] = kind;
+    rows[i + 1] = a;
+    rows[i + 2] = b;
+}
+
+fn put_block(blocks: &mut [u16], l: usize, code: u16, start: u16)
+    requires { ⌜ 2 * l + 2 ≤ length (now blocks) ⌝ }
+    ensures { λ _. ⌜ now (blocks .exit) ≡ sets (now (blocks .entry)) (2 * l) (code ∷ start ∷ []) ⌝ }
+{
+    let i = 2 * l;
+    blocks[i] = code;
+    blocks[i + 1] = start;
+}
+
+fn put_instr(instrs: &mut [u16], j: usize, code: u16, s: Said, v: u16)
+    requires { ⌜ 8 * j + 8 ≤ length (now instrs) ⌝ }
+    ensures { λ _. ⌜ now (instrs .exit) ≡ sets (now (instrs .entry)) (8 * j) (code ∷ s .a ∷ s .b ∷ s .c ∷ s .d ∷ v ∷ s .count ∷ []) ⌝ }
+{
+    let i = 8 * j;
+    instrs[i] = code;
+    instrs[i + 1] = s.a;
+    instrs[i + 2] = s.b;
+    instrs[i + 3] = s.c;
+    instrs[i + 4] = s.d;
+    instrs[i + 5] = v;
+    instrs[i + 6] = s.count;
+}
+
+// Stores what the fields of a line say, at the first place that is not in use.
+fn put_line(
+    code: usize,
+    s: Said,
+    rows: &mut [u16],
+    instrs: &mut [u16],
+    blocks: &mut [u16],
+    u: Used,
+) -> Line
+    requires { ⌜ (code < 34) × (2052 ≤ length (now rows)) × (8200 ≤ length (now instrs)) × (130 ≤ length (now blocks)) × Few u ⌝ }
+    ensures { λ r. ⌜ Stored code s u (now (rows .entry)) (now (instrs .entry)) (now (blocks .entry)) (now (rows .exit)) (now (instrs .exit)) (now (blocks .exit)) r ⌝ }
+{
+    if code < 10 {
+        put_row(rows, u.rows, code as u16, s.a, s.b);
+        return Line::Row;
+    }
+    if code == 10 {
+        put_block(blocks, u.blocks, s.a, u.instrs as u16);
+        return Line::Block;
+    }
+    put_instr(instrs, u.instrs, (code - 11) as u16, s, u.operands as u16);
+    if code < 32 {
+        return Line::Instruction(s.count as usize);
+    }
+    Line::Last(s.count as usize)
+}
+
+// The fields behind a line's first, which ends at f: the rest of the line goes to their reader.
+fn read_rest(
+    line: &[u8],
+    f: usize,
+    code: usize,
+    parts: &mut [u16],
+    operands: &mut [u16],
+    numbers: &mut [u32],
+    args: &mut [u16],
+    u: Used,
+) -> Said
+    requires { ⌜ (code < 34) × (f ≤ length (now line)) × (17 * 513 ≤ length (now parts)) × OperandRoom 16400 (length (now operands)) (length (now numbers)) (length (now args)) × Few u ⌝ }
+    ensures { λ r. ⌜ FormIs code (fieldsFrom (now (line .entry)) (f + 1)) (17 * u .rows) (u .operands) (now (parts .entry)) (now (parts .exit)) (operandTable (now (operands .entry)) (now (numbers .entry)) (now (args .entry))) (operandTable (now (operands .exit)) (now (numbers .exit)) (now (args .exit))) r ⌝ }
+{
+    let p = 17 * u.rows;
+    let v = u.operands;
+    if f < line.len() {
+        let b = f + 1;
+        return decode_line::read_form(&line[b..], 0, code, parts, p, operands, numbers, args, v);
+    }
+    decode_line::read_form(&line[f..], 1, code, parts, p, operands, numbers, args, v)
+}
+
+// One line, read into the first places of the tables that are not in use.
+pub fn read_line(
+    line: &[u8],
+    rows: &mut [u16],
+    parts: &mut [u16],
+    operands: &mut [u16],
+    numbers: &mut [u32],
+    args: &mut [u16],
+    instrs: &mut [u16],
+    blocks: &mut [u16],
+    u: Used,
+) -> Line
+    requires { ⌜ Room (store (now rows) (now parts) (now operands) (now numbers) (now args) (now instrs) (now blocks)) × Few u ⌝ }
+    ensures { λ r. ⌜ LineIs (now (line .entry)) u (store (now (rows .entry)) (now (parts .entry)) (now (operands .entry)) (now (numbers .entry)) (now (args .entry)) (now (instrs .entry)) (now (blocks .entry))) (store (now (rows .exit)) (now (parts .exit)) (now (operands .exit)) (now (numbers .exit)) (now (args .exit)) (now (instrs .exit)) (now (blocks .exit))) r ⌝ }
+{
+    let f = fields::field_end(line, 0);
+    let code = fields::name_code(&line[0..f]);
+    if 34 <= code {
+        return Line::NoForm;
+    }
+    let s = read_rest(line, f, code, parts, operands, numbers, args, u);
+    if !s.ok {
+        return Line::NoForm;
+    }
+    put_line(code, s, rows, instrs, blocks, u)
+}

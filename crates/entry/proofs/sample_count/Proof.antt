@@ -1,0 +1,52 @@
+use native.Mathlib.Omega.{arith}
+use Rattle.entry.proofs.Laws.{link-ok, code-low, other-samples, code-samples}
+use borrow.Author.Needs.{needs}
+use Rattle.entry.proofs.sample_count.Statement.{statement}
+use Rattle.entry.proofs.sample_count.Tie as tie
+use Rattle.entry.proofs.sample_count.Reads as reads
+use Rattle.entry.proofs.sample_count.Lts as lts
+use Rattle.entry.proofs.first_register.Reads as first-register-reads
+use Rattle.rows.proofs.link.Reads as link-reads
+use Rattle.rows.proofs.read_value.Reads as read-value-reads
+
+-- src/lib.rt:187:24
+add-link : tie.Need-add-link
+add-link c = search needs
+
+-- src/lib.rt:187:9
+link-requires : tie.Need-link-requires
+link-requires c κs = search needs
+
+-- src/lib.rt:188:9
+read-value-requires : tie.Need-read-value-requires
+read-value-requires c κs = link-ok ((c .before .before .before .args) .n) ((c .before .before .before .args) .c) ((c .link) .result) ((c .link) .ensures) ((c .before .before .before .pre) .0)
+
+-- src/lib.rt:189:22
+enum-known-v : tie.Need-enum-known-v
+enum-known-v c = search needs
+
+-- src/lib.rt:190:9
+returns : tie.Need-returns
+returns c = λ xs. other-samples ((c .before .before .before .before .before .args) .rows .now) ((c .before .before .before .before .before .args) .parts .now) ((c .before .before .before .before .before .args) .n) ((c .before .before .before .before .before .args) .c) ((c .before .before .link) .result) ((c .before .before .link) .ensures) ((c .before .read-value) .ensures .0) xs ((c .match) .keys2)
+
+-- src/lib.rt:192:5
+first-register-requires : tie.Need-first-register-requires
+first-register-requires c κs =
+    let k = code-low ((c .before .before .before .before .before .before .before .args) .rows .now) ((c .before .before .before .before .before .before .before .args) .parts .now) ((c .before .before .before .before .before .before .before .args) .n) ((c .before .before .before .before .before .before .before .args) .c) ((c .before .before .before .before .link) .result) ((c .before .before .before .before .link) .ensures) ((c .before .before .before .read-value) .ensures .0) ((c .before .v) .given .1) ((c .before .before .before .read-value) .ensures .1) in
+    (k .2, link-ok ((c .before .before .before .before .before .before .before .args) .n) ((c .before .before .before .before .before .before .before .args) .c) ((c .before .before .before .before .link) .result) ((c .before .before .before .before .link) .ensures) ((c .before .before .before .before .before .before .before .pre) .0) .0)
+
+-- src/lib.rt:183:1
+returns-2 : tie.Need-returns-2
+returns-2 c = λ xs. code-samples ((c .before .before .before .before .before .before .before .before .args) .rows .now) ((c .before .before .before .before .before .before .before .before .args) .parts .now) ((c .before .before .before .before .before .before .before .before .args) .n) ((c .before .before .before .before .before .before .before .before .args) .c) ((c .before .before .before .before .before .link) .result) ((c .before .before .before .before .before .link) .ensures) ((c .before .before .before .before .read-value) .ensures .0) xs ((c .first-register) .result) ((c .before .before .v) .given .1) ((c .first-register) .ensures)
+
+pub sample-count-spec : {M : Type 1} → statement M
+sample-count-spec =
+    tie.close
+    (tie.spec
+    add-link
+    link-requires
+    read-value-requires
+    enum-known-v
+    returns
+    first-register-requires
+    returns-2)

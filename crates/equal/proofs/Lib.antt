@@ -1,0 +1,7 @@
+pub mod Laws
+pub mod Meets
+pub mod Items
+pub mod Values
+pub mod Stacks
+pub mod Plain
+pub mod Fill

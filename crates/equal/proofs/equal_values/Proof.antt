@@ -1,0 +1,38 @@
+use mathlib.Core.Path.{_≡_, refl, sym, _∙_, ap}
+use Prim.Native.Nat.{_+_, _-_}
+use native.Mathlib.Omega.{arith}
+use lib.ListN.{length}
+use Rattle.rows.specs.Read.{tab, argsOf}
+use Rattle.equal.proofs.Plain.{link-few, tabled-plain, values-are}
+use borrow.Author.Needs.{needs}
+use borrow.Author.Needs.{needs}
+use Rattle.equal.proofs.equal_values.Statement.{statement}
+use Rattle.equal.proofs.equal_values.Tie as tie
+use Rattle.equal.proofs.equal_values.Reads as reads
+use Rattle.equal.proofs.equal_values.Lts as lts
+use Rattle.equal.proofs.eq_value.Reads as eq-value-reads
+use Rattle.equal.proofs.link_of.Reads as link-of-reads
+
+-- src/lib.rt:447:9
+link-of-requires : tie.Need-link-of-requires
+link-of-requires c κs = (c .before .before .pre) .few
+
+-- src/lib.rt:448:9
+link-of-requires-2 : tie.Need-link-of-requires-2
+link-of-requires-2 c κs = (c .before .before .before .pre) .few
+
+-- src/lib.rt:449:5
+eq-value-requires : tie.Need-eq-value-requires
+eq-value-requires c κs =
+    let fw = (c .before .before .before .before .pre) .few in
+    let a = link-few (tab ((c .before .before .before .before .args) .rows .now) ((c .before .before .before .before .args) .parts .now)) ((c .before .before .before .before .args) .rows .now) ((c .before .before .before .before .args) .n) ((c .before .before .before .before .pre)) ((c .before .link-of) .result) ((c .before .before .before .before .args) .l) ((c .before .link-of) .ensures) in
+    let b = link-few (tab ((c .before .before .before .before .args) .rows .now) ((c .before .before .before .before .args) .parts .now)) ((c .before .before .before .before .args) .rows .now) ((c .before .before .before .before .args) .n) ((c .before .before .before .before .pre)) ((c .link-of2) .result) ((c .before .before .before .before .args) .r) ((c .link-of2) .ensures) in
+    (tabled-plain (tab ((c .before .before .before .before .args) .rows .now) ((c .before .before .before .before .args) .parts .now)) ((c .before .before .before .before .args) .rows .now) ((c .before .before .before .before .args) .n) ((c .before .before .before .before .pre)) ((c .before .link-of) .result) ((c .link-of2) .result) ((c .before .before .before .before .args) .l) ((c .before .before .before .before .args) .r) ((c .before .link-of) .ensures) ((c .link-of2) .ensures), omega arith, omega arith)
+
+-- src/lib.rt:443:1
+returns : tie.Need-returns
+returns c = values-are (tab ((c .before .before .before .before .before .args) .rows .now) ((c .before .before .before .before .before .args) .parts .now)) ((c .before .before .before .before .before .args) .rows .now) ((c .before .before .before .before .before .args) .n) ((c .before .before .before .before .before .pre)) ((c .before .before .link-of) .result) ((c .before .link-of2) .result) ((c .before .before .before .before .before .args) .l) ((c .before .before .before .before .before .args) .r) ((c .before .before .link-of) .ensures) ((c .before .link-of2) .ensures) ((c .eq-value) .ensures)
+
+pub equal-values-spec : {M : Type 1} → statement M
+equal-values-spec =
+    tie.close (tie.spec link-of-requires link-of-requires-2 eq-value-requires returns)

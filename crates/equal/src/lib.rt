@@ -1,0 +1,686 @@
+// Equality of the types that rows stand for (crate rows). A stack is compared as its list of items, so that two rows of different
+// shape can be equal. The left row stands in a context: some of its variables are filled by argument rows, the others are raised. The
+// right row is only raised. Value rows and stack rows are compared by rules that call each other; the row number falls.
+// Promised: the test `same` of crate types of the two types, and, for `filled`, that no argument is of the wrong kind where it fills.
+// Asked: that the count of its items stands in each row (crate measure). Row numbers are links, as in crate rows.
+use rows::Item;
+use rows::Slot;
+use rows::Stk;
+use rows::Val;
+ghost use mathlib.Core.Path.{_≡_};
+ghost use mathlib.Core.Bool.{true, false, cond};
+ghost use mathlib.Core.List.{[], _∷_, map};
+ghost use Prim.Native.Nat.{ℕ, suc, _+_, _-_, _*_, _≤_, _<_};
+ghost use lib.Dec.{eqb};
+ghost use lib.ListN.{length, getD};
+ghost use Rattle.types.specs.Types.{junk, items, arg};
+ghost use Rattle.syntax.specs.Syntax.{value, stack};
+ghost use Rattle.types.specs.Equal.{same, sameLetters};
+ghost use Rattle.types.specs.Rows.{typeAt, typesOf, allBelow};
+ghost use Rattle.tables.specs.Tables.{letterOf, rowsIn};
+ghost use Rattle.rows.specs.Read.{tab, lower, argsOf, stackUnder, meanS, Counted};
+ghost use Rattle.equal.specs.declared.Pair.the-variants.{Same, Differ, Tuples};
+ghost use Rattle.equal.specs.Pairs.{pairInt, pairJunk, pairValVar, pairTuple, pairPointer, pairCode, pairOf, gapWith, rowWith, slotsOf, varIs, lettersFrom};
+ghost use Rattle.equal.specs.Fit.{Room, Tabled, AtSame, fitValues, fitCodes, fitParts, fitStacks, big, fillsTo, fillCodes};
+
+// What is left to compare of two value rows.
+pub enum Pair {
+    Same,
+    Differ,
+    Filled(usize),
+    Tuples(usize, usize, usize),
+    Pointers(usize, usize),
+    Codes(usize, usize, usize, usize),
+}
+
+// What is left to compare of two parts.
+pub enum Heads {
+    Gaps,
+    Apart,
+    Both(usize, usize),
+}
+
+fn with_int(w: Val) -> Pair
+    ensures { λ out. ⌜ out ≡ pairInt w ⌝ }
+{
+    match w {
+        Val::Int => Pair::Same,
+        Val::Junk => Pair::Differ,
+        Val::ValVar(_) => Pair::Differ,
+        Val::ValFill(_) => Pair::Differ,
+        Val::Tuple(_, _) => Pair::Differ,
+        Val::Pointer(_) => Pair::Differ,
+        Val::Code(_, _) => Pair::Differ,
+    }
+}
+
+fn with_junk(w: Val) -> Pair
+    ensures { λ out. ⌜ out ≡ pairJunk w ⌝ }
+{
+    match w {
+        Val::Int => Pair::Differ,
+        Val::Junk => Pair::Same,
+        Val::ValVar(_) => Pair::Differ,
+        Val::ValFill(_) => Pair::Differ,
+        Val::Tuple(_, _) => Pair::Differ,
+        Val::Pointer(_) => Pair::Differ,
+        Val::Code(_, _) => Pair::Differ,
+    }
+}
+
+fn with_var(k: usize, w: Val) -> Pair
+    ensures { λ out. ⌜ out ≡ pairValVar k w ⌝ }
+{
+    match w {
+        Val::Int => Pair::Differ,
+        Val::Junk => Pair::Differ,
+        Val::ValVar(i) => if_same(k, i),
+        Val::ValFill(_) => Pair::Differ,
+        Val::Tuple(_, _) => Pair::Differ,
+        Val::Pointer(_) => Pair::Differ,
+        Val::Code(_, _) => Pair::Differ,
+    }
+}
+
+fn with_tuple(p: usize, n: usize, w: Val) -> Pair
+    ensures { λ out. ⌜ out ≡ pairTuple p n w ⌝ }
+{
+    match w {
+        Val::Int => Pair::Differ,
+        Val::Junk => Pair::Differ,
+        Val::ValVar(_) => Pair::Differ,
+        Val::ValFill(_) => Pair::Differ,
+        Val::Tuple(q, m) => if_long(p, q, n, m),
+        Val::Pointer(_) => Pair::Differ,
+        Val::Code(_, _) => Pair::Differ,
+    }
+}
+
+fn with_pointer(x: usize, w: Val) -> Pair
+    ensures { λ out. ⌜ out ≡ pairPointer x w ⌝ }
+{
+    match w {
+        Val::Int => Pair::Differ,
+        Val::Junk => Pair::Differ,
+        Val::ValVar(_) => Pair::Differ,
+        Val::ValFill(_) => Pair::Differ,
+        Val::Tuple(_, _) => Pair::Differ,
+        Val::Pointer(y) => Pair::Pointers(x, y),
+        Val::Code(_, _) => Pair::Differ,
+    }
+}
+
+fn with_code(x: usize, p: usize, w: Val) -> Pair
+    ensures { λ out. ⌜ out ≡ pairCode x p w ⌝ }
+{
+    match w {
+        Val::Int => Pair::Differ,
+        Val::Junk => Pair::Differ,
+        Val::ValVar(_) => Pair::Differ,
+        Val::ValFill(_) => Pair::Differ,
+        Val::Tuple(_, _) => Pair::Differ,
+        Val::Pointer(_) => Pair::Differ,
+        Val::Code(y, q) => Pair::Codes(x, p, y, q),
+    }
+}
+
+fn if_same(k: usize, i: usize) -> Pair
+    ensures { λ out. ⌜ out ≡ cond (eqb k i) Same Differ ⌝ }
+{
+    if k == i {
+        return Pair::Same;
+    }
+    Pair::Differ
+}
+
+fn if_long(p: usize, q: usize, n: usize, m: usize) -> Pair
+    ensures { λ out. ⌜ out ≡ cond (eqb n m) (Tuples p q n) Differ ⌝ }
+{
+    if n == m {
+        return Pair::Tuples(p, q, n);
+    }
+    Pair::Differ
+}
+
+fn pair_up(n: Val, w: Val) -> Pair
+    ensures { λ out. ⌜ out ≡ pairOf n w ⌝ }
+{
+    match n {
+        Val::Int => with_int(w),
+        Val::Junk => with_junk(w),
+        Val::ValVar(k) => with_var(k, w),
+        Val::ValFill(j) => Pair::Filled(j),
+        Val::Tuple(p, c) => with_tuple(p, c, w),
+        Val::Pointer(x) => with_pointer(x, w),
+        Val::Code(x, p) => with_code(x, p, w),
+    }
+}
+
+fn gap_with(y: Slot) -> Heads
+    ensures { λ out. ⌜ out ≡ gapWith y ⌝ }
+{
+    match y {
+        Slot::Gap => Heads::Gaps,
+        Slot::Known(_) => Heads::Apart,
+    }
+}
+
+fn row_with(t: usize, y: Slot) -> Heads
+    ensures { λ out. ⌜ out ≡ rowWith t y ⌝ }
+{
+    match y {
+        Slot::Gap => Heads::Apart,
+        Slot::Known(u) => Heads::Both(t, u),
+    }
+}
+
+fn two_slots(x: Slot, y: Slot) -> Heads
+    ensures { λ out. ⌜ out ≡ slotsOf x y ⌝ }
+{
+    match x {
+        Slot::Gap => gap_with(y),
+        Slot::Known(t) => row_with(t, y),
+    }
+}
+
+// Item `it` is the stack variable k.
+fn is_var(k: usize, it: Item) -> bool
+    ensures { λ out. ⌜ out ≡ varIs k it ⌝ }
+{
+    match it {
+        Item::NoItem => false,
+        Item::ValItem(_) => false,
+        Item::VarItem(i) => k == i,
+    }
+}
+
+fn same_letter(x: usize, y: usize) -> bool
+    ensures { λ out. ⌜ out ≡ sameLetters (letterOf x ∷ []) (letterOf y ∷ []) ⌝ }
+{
+    if x == 0 {
+        return y == 0;
+    }
+    y != 0
+}
+
+// The a letters at p and the b letters at q are the same.
+fn same_letters(parts: &[u16], p: usize, a: usize, q: usize, b: usize) -> bool
+    requires { ⌜ (p + a ≤ 262144) × (q + b ≤ 262144) ⌝ }
+    ensures { λ out. ⌜ out ≡ sameLetters (lettersFrom (now (parts .entry)) p a) (lettersFrom (now (parts .entry)) q b) ⌝ }
+{
+    if a == 0 {
+        return b == 0;
+    }
+    if b == 0 {
+        return false;
+    }
+    let x = rows::at(parts, p);
+    let y = rows::at(parts, q);
+    if same_letter(x, y) {
+        return same_letters(parts, p + 1, a - 1, q + 1, b - 1);
+    }
+    false
+}
+
+// The same row from its first item on in the same context, with no arguments.
+fn same_place(
+    m: usize,
+    by: usize,
+    d: usize,
+    l: usize,
+    by2: usize,
+    d2: usize,
+    r: usize,
+    j: usize,
+) -> bool
+    ensures { λ out. ⌜ (out ≡ true → AtSame m by d l by2 d2 r j) ⌝ }
+{
+    if l != r {
+        return false;
+    }
+    if m != 0 {
+        return false;
+    }
+    if by != by2 {
+        return false;
+    }
+    if d != d2 {
+        return false;
+    }
+    j == 0
+}
+
+fn minus(a: usize, b: usize) -> usize
+    ensures { λ out. ⌜ out ≡ a - b ⌝ }
+{
+    if a < b {
+        return 0;
+    }
+    a - b
+}
+
+// What is left of `left` after the items of stack row l in its context, or 0.
+fn less_items(
+    rows: &[u16],
+    parts: &[u16],
+    args: &[u16],
+    m: usize,
+    by: usize,
+    d: usize,
+    l: usize,
+    left: usize,
+) -> usize
+    requires { ⌜ Tabled (tab (now rows) (now parts)) (now args) m l 0 × (by + d ≤ 1099511627776) ⌝ }
+    ensures { λ out. ⌜ out ≡ left - items (stackUnder (tab (now (rows .entry)) (now (parts .entry))) (argsOf (tab (now (rows .entry)) (now (parts .entry))) (now (args .entry)) m) by d l) ⌝ }
+{
+    let c = rows::item_count(rows, l);
+    if c == 0 {
+        return left;
+    }
+    if m == 0 {
+        return minus(left, c);
+    }
+    let n = rows::read_stack(rows, l, m, by, d);
+    match n {
+        Stk::Nil => left,
+        Stk::StkVar(_) => minus(left, 1),
+        Stk::StkFill(i) => {
+            let a = rows::at(args, i);
+            minus(left, rows::item_count(rows, a + 1))
+        }
+        Stk::Push(_, x) => less_items(rows, parts, args, m, by, d, x, minus(left, 1)),
+        Stk::Join(x, y) => {
+            let e = less_items(rows, parts, args, m, by, d, x, left);
+            less_items(rows, parts, args, m, by, d, y, e)
+        }
+    }
+}
+
+// Stack row l in its context has c items.
+fn has_items(
+    rows: &[u16],
+    parts: &[u16],
+    args: &[u16],
+    m: usize,
+    by: usize,
+    d: usize,
+    l: usize,
+    c: usize,
+) -> bool
+    requires { ⌜ Tabled (tab (now rows) (now parts)) (now args) m l 0 × (by + d ≤ 1099511627776) × (c ≤ 65535) ⌝ }
+    ensures { λ out. ⌜ out ≡ eqb (items (stackUnder (tab (now (rows .entry)) (now (parts .entry))) (argsOf (tab (now (rows .entry)) (now (parts .entry))) (now (args .entry)) m) by d l)) c ⌝ }
+{
+    less_items(rows, parts, args, m, by, d, l, c + 1) == 1
+}
+
+// Of the n items of stack rows x and y in their context, those of x. The row with fewer items of its own is counted.
+fn first_items(
+    rows: &[u16],
+    parts: &[u16],
+    args: &[u16],
+    m: usize,
+    by: usize,
+    d: usize,
+    x: usize,
+    y: usize,
+    n: usize,
+) -> usize
+    requires { ⌜ Tabled (tab (now rows) (now parts)) (now args) m x y × (by + d ≤ 1099511627776) × (n ≡ items (stackUnder (tab (now rows) (now parts)) (argsOf (tab (now rows) (now parts)) (now args) m) by d x) + items (stackUnder (tab (now rows) (now parts)) (argsOf (tab (now rows) (now parts)) (now args) m) by d y)) ⌝ }
+    ensures { λ out. ⌜ out ≡ items (stackUnder (tab (now (rows .entry)) (now (parts .entry))) (argsOf (tab (now (rows .entry)) (now (parts .entry))) (now (args .entry)) m) by d x) ⌝ }
+{
+    if n == 0 {
+        return 0;
+    }
+    let a = rows::item_count(rows, x);
+    let b = rows::item_count(rows, y);
+    if a <= b {
+        return n - less_items(rows, parts, args, m, by, d, x, n);
+    }
+    less_items(rows, parts, args, m, by, d, y, n)
+}
+
+// Value row l, its first m variables past d filled by the rows args and later ones raised by `by`, equals value row r, raised by by2 past d2.
+fn eq_value(
+    rows: &[u16],
+    parts: &[u16],
+    args: &[u16],
+    m: usize,
+    by: usize,
+    d: usize,
+    l: usize,
+    by2: usize,
+    d2: usize,
+    r: usize,
+) -> bool
+    requires { ⌜ Tabled (tab (now rows) (now parts)) (now args) m l r × Room m by d l × Room 0 by2 d2 r ⌝ }
+    ensures { λ out. ⌜ out ≡ fitValues (tab (now (rows .entry)) (now (parts .entry))) (argsOf (tab (now (rows .entry)) (now (parts .entry))) (now (args .entry)) m) by d l by2 d2 r ⌝ }
+{
+    if same_place(m, by, d, l, by2, d2, r, 0) {
+        return true;
+    }
+    let v = rows::read_value(rows, l, m, by, d);
+    let w = rows::read_value(rows, r, 0, by2, d2);
+    let p = pair_up(v, w);
+    match p {
+        Pair::Same => true,
+        Pair::Differ => false,
+        Pair::Filled(j) => {
+            let a = rows::at(args, j);
+            if rows::is_stack(rows, a) {
+                return false;
+            }
+            eq_value(rows, parts, args, 0, d, 0, a + 1, by2, d2, r)
+        }
+        Pair::Tuples(a, b, c) => eq_parts(
+            rows,
+            parts,
+            args,
+            m,
+            by,
+            d,
+            l,
+            by2,
+            d2,
+            r,
+            false,
+            a,
+            b,
+            c,
+        ),
+        Pair::Pointers(x, y) => {
+            let c = rows::item_count(rows, y);
+            if has_items(rows, parts, args, m, by, d, x, c) {
+                return eq_stack(rows, parts, args, m, by, d, x, by2, d2, y, 0, c);
+            }
+            false
+        }
+        Pair::Codes(x, a, y, b) => eq_code(rows, parts, args, m, by, d, l, by2, d2, r, x, a, y, b),
+    }
+}
+
+// The code type of row l with the stack x and its registers at p equals that of row r with y and q.
+fn eq_code(
+    rows: &[u16],
+    parts: &[u16],
+    args: &[u16],
+    m: usize,
+    by: usize,
+    d: usize,
+    l: usize,
+    by2: usize,
+    d2: usize,
+    r: usize,
+    x: usize,
+    p: usize,
+    y: usize,
+    q: usize,
+) -> bool
+    requires { ⌜ Tabled (tab (now rows) (now parts)) (now args) m l r × Room m by d l × Room 0 by2 d2 r × (x < l) × (p ≤ 65535) × (y < r) × (q ≤ 65535) ⌝ }
+    ensures { λ out. ⌜ out ≡ fitCodes (tab (now (rows .entry)) (now (parts .entry))) (argsOf (tab (now (rows .entry)) (now (parts .entry))) (now (args .entry)) m) by d l x p by2 d2 r y q ⌝ }
+{
+    let a = rows::letter_count(parts, p);
+    let b = rows::letter_count(parts, q);
+    if same_letters(parts, p + 9, a, q + 9, b) {
+        let c = rows::item_count(rows, y);
+        if has_items(rows, parts, args, m, by, a + d, x, c) {
+            if eq_stack(rows, parts, args, m, by, a + d, x, by2, b + d2, y, 0, c) {
+                return eq_parts(
+                    rows,
+                    parts,
+                    args,
+                    m,
+                    by,
+                    a + d,
+                    l,
+                    by2,
+                    b + d2,
+                    r,
+                    true,
+                    p,
+                    q,
+                    8,
+                );
+            }
+            return false;
+        }
+        return false;
+    }
+    false
+}
+
+// The n parts of row l at p equal those of row r at q: registers if `file`, else components.
+fn eq_parts(
+    rows: &[u16],
+    parts: &[u16],
+    args: &[u16],
+    m: usize,
+    by: usize,
+    d: usize,
+    l: usize,
+    by2: usize,
+    d2: usize,
+    r: usize,
+    file: bool,
+    p: usize,
+    q: usize,
+    n: usize,
+) -> bool
+    requires { ⌜ Tabled (tab (now rows) (now parts)) (now args) m l r × (by + d + 65536 * l + big m ≤ 1099511693312) × (by2 + d2 + 65536 * r ≤ 1099511693312) × (0 < l) × (0 < r) × (n ≤ 65535) × (p + n ≤ 131072) × (q + n ≤ 131072) ⌝ }
+    ensures { λ out. ⌜ out ≡ fitParts (tab (now (rows .entry)) (now (parts .entry))) (argsOf (tab (now (rows .entry)) (now (parts .entry))) (now (args .entry)) m) by d file l p by2 d2 r q n ⌝ }
+{
+    if n == 0 {
+        return true;
+    }
+    let h = two_slots(rows::part(parts, file, l, p), rows::part(parts, file, r, q));
+    match h {
+        Heads::Gaps => eq_parts(
+            rows,
+            parts,
+            args,
+            m,
+            by,
+            d,
+            l,
+            by2,
+            d2,
+            r,
+            file,
+            p + 1,
+            q + 1,
+            n - 1,
+        ),
+        Heads::Apart => false,
+        Heads::Both(t, u) => {
+            if eq_value(rows, parts, args, m, by, d, t, by2, d2, u) {
+                return eq_parts(
+                    rows,
+                    parts,
+                    args,
+                    m,
+                    by,
+                    d,
+                    l,
+                    by2,
+                    d2,
+                    r,
+                    file,
+                    p + 1,
+                    q + 1,
+                    n - 1,
+                );
+            }
+            false
+        }
+    }
+}
+
+// Stack row l, which has n items in its context, matches stack row r from item j on.
+fn eq_stack(
+    rows: &[u16],
+    parts: &[u16],
+    args: &[u16],
+    m: usize,
+    by: usize,
+    d: usize,
+    l: usize,
+    by2: usize,
+    d2: usize,
+    r: usize,
+    j: usize,
+    n: usize,
+) -> bool
+    requires { ⌜ Tabled (tab (now rows) (now parts)) (now args) m l r × Room m by d l × Room 0 by2 d2 r × (j + n ≤ 65535) × (n ≡ items (stackUnder (tab (now rows) (now parts)) (argsOf (tab (now rows) (now parts)) (now args) m) by d l)) ⌝ }
+    ensures { λ out. ⌜ out ≡ fitStacks (tab (now (rows .entry)) (now (parts .entry))) (argsOf (tab (now (rows .entry)) (now (parts .entry))) (now (args .entry)) m) by d l by2 d2 r j ⌝ }
+{
+    if rows::item_count(rows, l) == 0 {
+        return true;
+    }
+    if same_place(m, by, d, l, by2, d2, r, j) {
+        return true;
+    }
+    let x = rows::trim(rows, parts, l);
+    let w = rows::narrow(rows, parts, r, j, n);
+    eq_items(rows, parts, args, m, by, d, x, by2, d2, w.row, w.at, n)
+}
+
+// The same by the form of row l.
+fn eq_items(
+    rows: &[u16],
+    parts: &[u16],
+    args: &[u16],
+    m: usize,
+    by: usize,
+    d: usize,
+    l: usize,
+    by2: usize,
+    d2: usize,
+    r: usize,
+    j: usize,
+    n: usize,
+) -> bool
+    requires { ⌜ Tabled (tab (now rows) (now parts)) (now args) m l r × Room m by d l × Room 0 by2 d2 r × (j + n ≤ 65535) × (n ≡ items (stackUnder (tab (now rows) (now parts)) (argsOf (tab (now rows) (now parts)) (now args) m) by d l)) ⌝ }
+    ensures { λ out. ⌜ out ≡ fitStacks (tab (now (rows .entry)) (now (parts .entry))) (argsOf (tab (now (rows .entry)) (now (parts .entry))) (now (args .entry)) m) by d l by2 d2 r j ⌝ }
+{
+    let s = rows::read_stack(rows, l, m, by, d);
+    match s {
+        Stk::Nil => true,
+        Stk::StkVar(k) => is_var(k, rows::item_at(rows, parts, by2, d2, r, j)),
+        Stk::StkFill(i) => {
+            let a = rows::at(args, i);
+            if rows::is_stack(rows, a) {
+                return eq_stack(rows, parts, args, 0, d, 0, a + 1, by2, d2, r, j, n);
+            }
+            false
+        }
+        Stk::Push(t, x) => {
+            let it = rows::item_at(rows, parts, by2, d2, r, j);
+            match it {
+                Item::NoItem => false,
+                Item::ValItem(u) => {
+                    if eq_value(rows, parts, args, m, by, d, t, by2, d2, u) {
+                        return eq_stack(rows, parts, args, m, by, d, x, by2, d2, r, j + 1, n - 1);
+                    }
+                    false
+                }
+                Item::VarItem(_) => false,
+            }
+        }
+        Stk::Join(x, y) => {
+            let c = first_items(rows, parts, args, m, by, d, x, y, n);
+            if eq_stack(rows, parts, args, m, by, d, x, by2, d2, r, j, c) {
+                return eq_stack(rows, parts, args, m, by, d, y, by2, d2, r, j + c, n - c);
+            }
+            false
+        }
+    }
+}
+
+// The link to row x of n rows: none if there is no such row.
+fn link_of(n: usize, x: usize) -> usize
+    requires { ⌜ n ≤ 65536 ⌝ }
+    ensures { λ out. ⌜ out ≡ lower (n + 1) x ⌝ }
+{
+    if x < n {
+        return x + 1;
+    }
+    0
+}
+
+// The value types of rows l and r, of n rows, are equal.
+pub fn equal_values(rows: &[u16], parts: &[u16], n: usize, l: usize, r: usize) -> bool
+    requires { ⌜ Counted (tab (now rows) (now parts)) n ⌝ }
+    ensures { λ out. ⌜ out ≡ same (typeAt value (typesOf (rowsIn (tab (now (rows .entry)) (now (parts .entry))) n)) l) (typeAt value (typesOf (rowsIn (tab (now (rows .entry)) (now (parts .entry))) n)) r) ⌝ }
+{
+    let x = link_of(n, l);
+    let y = link_of(n, r);
+    eq_value(rows, parts, rows, 0, 0, 0, x, 0, 0, y)
+}
+
+// The stack types of rows l and r, of n rows, are equal.
+pub fn equal_stacks(rows: &[u16], parts: &[u16], n: usize, l: usize, r: usize) -> bool
+    requires { ⌜ Counted (tab (now rows) (now parts)) n ⌝ }
+    ensures { λ out. ⌜ out ≡ same (typeAt stack (typesOf (rowsIn (tab (now (rows .entry)) (now (parts .entry))) n)) l) (typeAt stack (typesOf (rowsIn (tab (now (rows .entry)) (now (parts .entry))) n)) r) ⌝ }
+{
+    let x = link_of(n, l);
+    let y = link_of(n, r);
+    let c = rows::item_count(rows, y);
+    if rows::item_count(rows, x) == c {
+        return eq_stack(rows, parts, rows, 0, 0, 0, x, 0, 0, y, 0, c);
+    }
+    false
+}
+
+// The code type of row l with the stack x and its registers at p, filled by args, is that of row r with y and q.
+fn fill_code(
+    rows: &[u16],
+    parts: &[u16],
+    args: &[u16],
+    l: usize,
+    r: usize,
+    x: usize,
+    p: usize,
+    y: usize,
+    q: usize,
+) -> bool
+    requires { ⌜ Tabled (tab (now rows) (now parts)) (now args) (length (now args)) l r × (x < l) × (p ≤ 65535) × (y < r) × (q ≤ 65535) ⌝ }
+    ensures { λ out. ⌜ out ≡ fillCodes (tab (now (rows .entry)) (now (parts .entry))) (now (args .entry)) l x p r y q ⌝ }
+{
+    let m = args.len();
+    let a = rows::letter_count(parts, p);
+    let b = rows::letter_count(parts, q);
+    if a < m {
+        return false;
+    }
+    if same_letters(parts, p + 9, a - m, q + 9, b) {
+        let c = rows::item_count(rows, y);
+        if has_items(rows, parts, args, m, 0, a - m, x, c) {
+            if eq_stack(rows, parts, args, m, 0, a - m, x, 0, b, y, 0, c) {
+                return eq_parts(rows, parts, args, m, 0, a - m, l, 0, b, r, true, p, q, 8);
+            }
+            return false;
+        }
+        return false;
+    }
+    false
+}
+
+// The code type of row c, of n rows, its first variables filled by the rows args (in the order of their variables), is the type of row t.
+// False if c is no code row, if there are more arguments than letters, or if an argument of the wrong kind would fill a variable.
+pub fn filled(rows: &[u16], parts: &[u16], n: usize, c: usize, args: &[u16], t: usize) -> bool
+    requires { ⌜ Counted (tab (now rows) (now parts)) n × (allBelow n (now args) ≡ true) ⌝ }
+    ensures { λ out. ⌜ out ≡ fillsTo (map (λ (x : ℕ). getD (typesOf (rowsIn (tab (now (rows .entry)) (now (parts .entry))) n)) x (arg value junk)) (now (args .entry))) (typeAt value (typesOf (rowsIn (tab (now (rows .entry)) (now (parts .entry))) n)) c) (typeAt value (typesOf (rowsIn (tab (now (rows .entry)) (now (parts .entry))) n)) t) ⌝ }
+{
+    let l = link_of(n, c);
+    let r = link_of(n, t);
+    let v = rows::read_value(rows, l, 0, 0, 0);
+    let w = rows::read_value(rows, r, 0, 0, 0);
+    let p = pair_up(v, w);
+    match p {
+        Pair::Same => false,
+        Pair::Differ => false,
+        Pair::Filled(_) => false,
+        Pair::Tuples(_, _, _) => false,
+        Pair::Pointers(_, _) => false,
+        Pair::Codes(x, a, y, b) => fill_code(rows, parts, args, l, r, x, a, y, b),
+    }
+}

@@ -1,0 +1,50 @@
+-- A start and a continuation, from what loading the text answers.
+use Prim.Native.Nat.{ℕ}
+use mathlib.Core.Path.{_≡_, refl, ap, sym, _∙_}
+use mathlib.Core.Bool.{false}
+use mathlib.Core.Option.{Option, none, some}
+use mathlib.Core.List.{List, []}
+use lib.Dec.{eqb}
+use borrow.Author.Tests.{ne-eqb}
+use Rattle.syntax.specs.Fault.{Refusal}
+use Rattle.text.specs.Samples.{samplesOf}
+use Rattle.valid.specs.Program.{Program, programOf}
+use Rattle.exec.specs.Machine.{State}
+use Rattle.exec.specs.Run.{Outcome, refuse, bodies, wanted, barred, startOn, startUnless, starting, continueUnless, continuing}
+use Rattle.machine.specs.Step.{tables}
+use Rattle.machine.specs.Represents.{Represents}
+use Rattle.ready.specs.declared.Ready.{Ready}
+use Rattle.ready.specs.Ready.{ReadyIs}
+
+module _ (text ι os ns β : List ℕ) (r : Ready) (d : ReadyIs text ι os ns β r) (m : ℕ) (σ : State) where
+  refusal-is : (r .fault ≡ 0 → ⊥) → barred text ≡ some (record { number = r .fault; line = r .line; items = [] })
+  refusal-is h = let e : eqb (r .fault) 0 ≡ false = ne-eqb (r .fault) 0 h in sym (d .fault) ∙ rw e refl
+
+  none-is : r .fault ≡ 0 → barred text ≡ none
+  none-is z = sym (d .fault) ∙ rw z refl
+
+  -- a refusal
+  pub start-refused : (samples : List ℕ) → (r .fault ≡ 0 → ⊥) → starting text samples m σ ≡ refuse σ (r .fault) (r .line)
+  unfolding starting
+  start-refused samples h = ap (λ (o : Option Refusal). startUnless o (programOf text) (samplesOf samples) m σ) (refusal-is h)
+
+  pub resume-refused : (r .fault ≡ 0 → ⊥) → continuing text m σ ≡ refuse σ (r .fault) (r .line)
+  unfolding continuing
+  resume-refused h = ap (λ (o : Option Refusal). continueUnless o (programOf text) m σ) (refusal-is h)
+
+  -- a run
+  pub started : (samples : List ℕ) (z : r .fault ≡ 0) (out : Outcome)
+      → ((args : List ℕ) (P : Program) → Represents (tables ι os ns β (r .instrs) (r .blocks)) args (bodies P) → r .samples ≡ wanted (P .blocks) → out ≡ startOn P (samplesOf samples) m σ)
+      → out ≡ starting text samples m σ
+  unfolding starting
+  started samples z out f =
+      let k = d .startable z in
+      f (k .args) (programOf text) (k .represents) (k .samples) ∙ sym (ap (λ (o : Option Refusal). startUnless o (programOf text) (samplesOf samples) m σ) (none-is z))
+
+  pub resumed : (z : r .fault ≡ 0) (out : Outcome)
+      → ((args : List ℕ) (P : Program) → Represents (tables ι os ns β (r .instrs) (r .blocks)) args (bodies P) → out ≡ continueUnless none P m σ)
+      → out ≡ continuing text m σ
+  unfolding continuing
+  resumed z out f =
+      let k = d .startable z in
+      f (k .args) (programOf text) (k .represents) ∙ sym (ap (λ (o : Option Refusal). continueUnless o (programOf text) m σ) (none-is z))

@@ -1,0 +1,18 @@
+use borrow.Author.Needs.{needs}
+use mathlib.Core.Path.{sym}
+use Rattle.typing.proofs.Judging.{some-link, no-link}
+use Rattle.judge_heap.proofs.if_none.Statement.{statement}
+use Rattle.judge_heap.proofs.if_none.Tie as tie
+use Rattle.judge_heap.proofs.if_none.Reads as reads
+use Rattle.judge_heap.proofs.if_none.Lts as lts
+
+-- src/lib.rt:40:9
+returns : tie.Need-returns
+returns c = sym (no-link ((c .before .args) .k) ((c .before .args) .u) ((c .if1) .taken))
+
+-- src/lib.rt:36:1
+returns-2 : tie.Need-returns-2
+returns-2 c = sym (some-link ((c .before .args) .k) ((c .before .args) .u) ((c .if1) .left))
+
+pub if-none-spec : {M : Type 1} → statement M
+if-none-spec = tie.close (tie.spec returns returns-2)

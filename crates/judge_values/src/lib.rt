@@ -1,0 +1,179 @@
+// One instruction of pass three that takes operands and gives a register its type: arithmetic, `mov`, `malloc`. The types known before it
+// stand in the checker's arrays (crate context), and are there changed to those known after it. `back` is lent for the arguments of
+// an operand.
+// Promised of each: the least fault that `judge` of crate valid gives the instruction, 0 if it has none, and then the types after it.
+ghost use mathlib.Core.Path.{_≡_};
+ghost use Prim.Native.Nat.{ℕ, _+_, _≤_};
+ghost use mathlib.Core.List.{map};
+ghost use lib.ListN.{length};
+ghost use Rattle.syntax.specs.Syntax.{value, Arith, aop, mov, malloc};
+ghost use Rattle.types.specs.Types.{Ty};
+ghost use Rattle.types.specs.Rows.{typeAt};
+ghost use Rattle.tables.specs.Tables.{span, letterOf, operandAt, operandsAt};
+ghost use Rattle.valid.specs.PassThree.{Judged, _▹_, orFault, asInt};
+ghost use Rattle.rows.specs.Read.{tab};
+ghost use Rattle.scope.specs.Scoped.{Scoped};
+ghost use Rattle.context.specs.Told.{toldOf, answer};
+ghost use Rattle.premises.specs.Bounds.{Short, AllShort};
+ghost use Rattle.typing.specs.Typing.{typesIn, Ready};
+ghost use Rattle.operands.specs.Operands.{operandTable};
+ghost use Rattle.judge_values.specs.Forms.{InFile};
+
+// A premise has the least fault f, or gives the type of row t: that it is the integer type.
+fn int_fault(rows: &[u16], parts: &[u16], n: usize, f: usize, t: usize) -> usize
+    requires { ⌜ Ready (now rows) (now parts) n × (t ≤ 65535) ⌝ }
+    ensures { λ out. ⌜ ((J : Judged (Ty value)) → toldOf J ≡ answer f (typeAt value (typesIn (now (rows .entry)) (now (parts .entry)) n) t) → toldOf (J ▹ λ u. orFault 9 (asInt u)) ≡ answer out tt) ⌝ }
+{
+    if f != 0 {
+        return f;
+    }
+    judge_stack::if_not(9, typing::is_int(rows, parts, n, t))
+}
+
+// add, sub, mul: d s v, under the q letters at l
+pub fn compute(
+    rows: &[u16],
+    parts: &[u16],
+    n: usize,
+    uses: &[u8],
+    tops: &[u16],
+    blocks: &[u16],
+    nb: usize,
+    operands: &[u16],
+    numbers: &[u32],
+    args: &[u16],
+    v: usize,
+    q: usize,
+    l: usize,
+    regs: &mut [u16],
+    back: &mut [u16],
+    d: usize,
+    s: usize,
+) -> usize
+    requires { ⌜ Ready (now rows) (now parts) n × Scoped (tab (now rows) (now parts)) n (now uses) (now tops) × Short (operandAt (operandTable (now operands) (now numbers) (now args)) v) × (v ≤ 131072) × (8 ≤ length (now regs)) × (8 ≤ length (now back)) ⌝ }
+    ensures { λ out. ⌜ ((o : Arith) → InFile (now (rows .entry)) (now (parts .entry)) n (now (blocks .entry)) nb (map letterOf (span (now (parts .entry)) l q)) (now (regs .entry)) (now (regs .exit)) out (aop o d s (operandAt (operandTable (now (operands .entry)) (now (numbers .entry)) (now (args .entry))) v))) ⌝ }
+{
+    let w = operands::operand(
+        rows,
+        parts,
+        n,
+        uses,
+        tops,
+        blocks,
+        nb,
+        operands,
+        numbers,
+        args,
+        v,
+        q,
+        l,
+        regs,
+        back,
+    );
+    let g = int_fault(rows, parts, n, w.fault, w.row);
+    let f = context::least(typing::integer(rows, parts, n, regs, s), g);
+    if f != 0 {
+        return f;
+    }
+    judge_heap::set_register(regs, d, n)
+}
+
+// mov d v
+pub fn move_to(
+    rows: &[u16],
+    parts: &[u16],
+    n: usize,
+    uses: &[u8],
+    tops: &[u16],
+    blocks: &[u16],
+    nb: usize,
+    operands: &[u16],
+    numbers: &[u32],
+    args: &[u16],
+    v: usize,
+    q: usize,
+    l: usize,
+    regs: &mut [u16],
+    back: &mut [u16],
+    d: usize,
+) -> usize
+    requires { ⌜ Ready (now rows) (now parts) n × Scoped (tab (now rows) (now parts)) n (now uses) (now tops) × Short (operandAt (operandTable (now operands) (now numbers) (now args)) v) × (v ≤ 131072) × (8 ≤ length (now regs)) × (8 ≤ length (now back)) ⌝ }
+    ensures { λ out. ⌜ InFile (now (rows .entry)) (now (parts .entry)) n (now (blocks .entry)) nb (map letterOf (span (now (parts .entry)) l q)) (now (regs .entry)) (now (regs .exit)) out (mov d (operandAt (operandTable (now (operands .entry)) (now (numbers .entry)) (now (args .entry))) v)) ⌝ }
+{
+    let w = operands::operand(
+        rows,
+        parts,
+        n,
+        uses,
+        tops,
+        blocks,
+        nb,
+        operands,
+        numbers,
+        args,
+        v,
+        q,
+        l,
+        regs,
+        back,
+    );
+    if w.fault != 0 {
+        return w.fault;
+    }
+    judge_heap::set_register(regs, d, w.row)
+}
+
+// malloc d t v .. v + c - 1
+pub fn make_tuple(
+    rows: &[u16],
+    parts: &[u16],
+    n: usize,
+    uses: &[u8],
+    tops: &[u16],
+    blocks: &[u16],
+    nb: usize,
+    operands: &[u16],
+    numbers: &[u32],
+    args: &[u16],
+    v: usize,
+    c: usize,
+    q: usize,
+    l: usize,
+    regs: &mut [u16],
+    back: &mut [u16],
+    d: usize,
+    t: usize,
+) -> usize
+    requires { ⌜ Ready (now rows) (now parts) n × Scoped (tab (now rows) (now parts)) n (now uses) (now tops) × AllShort (operandsAt (operandTable (now operands) (now numbers) (now args)) v c) × (v + c ≤ 131072) × (c ≤ 16) × (8 ≤ length (now regs)) × (8 ≤ length (now back)) ⌝ }
+    ensures { λ out. ⌜ InFile (now (rows .entry)) (now (parts .entry)) n (now (blocks .entry)) nb (map letterOf (span (now (parts .entry)) l q)) (now (regs .entry)) (now (regs .exit)) out (malloc d t (operandsAt (operandTable (now (operands .entry)) (now (numbers .entry)) (now (args .entry))) v c)) ⌝ }
+{
+    let mut found = [0u16; 16];
+    let g = operands::operand_list(
+        rows,
+        parts,
+        n,
+        uses,
+        tops,
+        blocks,
+        nb,
+        operands,
+        numbers,
+        args,
+        v,
+        c,
+        q,
+        l,
+        regs,
+        back,
+        &mut found,
+    );
+    let f = context::least(typing::formed_row(rows, parts, n, uses, tops, t, q, l), g);
+    if f != 0 {
+        return f;
+    }
+    let r = typing::given_row(n, t);
+    if operands::same_tuple(rows, parts, n, r, &found, c) {
+        return judge_heap::set_register(regs, d, r);
+    }
+    10
+}

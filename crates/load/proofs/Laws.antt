@@ -1,0 +1,161 @@
+-- What the passes leave, put together.
+use Prim.Native.Nat.{ℕ, zero, suc, _+_, _*_, _≤_, _<_}
+use native.Mathlib.Omega.{arith}
+use mathlib.Core.Path.{_≡_, refl, ap, ap₂, sym, subst, _∙_}
+use mathlib.Core.Bool.{Bool, true, false, cond}
+use mathlib.Core.Option.{Option, none, some}
+use mathlib.Core.List.{List, [], _∷_, _++_}
+use lib.Dec.{eqb}
+use lib.ListN.{length}
+use borrow.Author.Tests.{ne-eqb, eq-eqb}
+use Rattle.syntax.specs.Syntax.{Row, Entry}
+use Rattle.syntax.specs.Fault.{Refusal, Pass, Clear, lowestLine, orElse, earliest}
+use Rattle.text.specs.PassOne.{Listing, passOne, entriesOf, rowsOf, listingsOf}
+use Rattle.text.proofs.Entries.{entriesIn, entries-in}
+use Rattle.types.specs.Types.{Arg}
+use Rattle.types.specs.Rows.{typesOf, rowsFaults, entriesFaults, passTwo}
+use Rattle.tables.specs.Tables.{RowTable, cell, rowAt, rowsIn, OperandTable, instrAt, blocksFrom}
+use Rattle.tables.proofs.Steps.{length-rows}
+use Rattle.valid.specs.Program.{Program, programOf, programFrom, blocksOf}
+use Rattle.valid.specs.Verdict.{passTwoOf}
+use Rattle.valid.proofs.Clear.{earliest-clear, clear-split}
+use Rattle.refs.specs.declared.Found.{Found}
+use Rattle.refs.specs.Refs.{Rising, refusalOf as foundRefusal}
+use Rattle.refs.proofs.Lines.{entries-rows}
+use Rattle.decode_store.specs.Store.{Store, rowTable, operandsOf, Room}
+use Rattle.decode.specs.declared.Read.{Read}
+use Rattle.decode.specs.Decoded as decode
+use Rattle.premises.specs.Bounds.{SmallRow, SmallInstr}
+use Rattle.premises.specs.Answers.{Holds}
+use Rattle.premises.proofs.Grammar.{rows-small, instrs-small}
+use Rattle.prepare.specs.Prepared.{Prepared}
+use Rattle.load.specs.declared.Loaded.{Loaded}
+use Rattle.load.specs.Loaded.{Space, faulty, refusalOf, IsLoaded, LoadIs}
+use Rattle.load.proofs.Codes.{CodeOk, all-codes, holds-is}
+
+-- a fault that is named
+named : (n line : ℕ) → (n ≡ 0 → ⊥) → refusalOf (faulty n line) ≡ some (record { number = n; line = line; items = [] })
+named n line h = let e : eqb n 0 ≡ false = ne-eqb n 0 h in rw e refl
+
+-- ---- pass one
+module _ (text : List ℕ) (r : Read) (e : decode.refusalOf r ≡ lowestLine 0 (passOne text)) where
+  pub found-one : (k : ℕ) (out : Loaded) (σ : Store) (uses tops : List ℕ) → k ≡ r .fault → (k ≡ 0 → ⊥) → out ≡ faulty k (r .line) → LoadIs text σ uses tops out
+  found-one k out σ uses tops q h o =
+      let z : r .fault ≡ 0 → ⊥ = λ w. h (q ∙ w) in
+      let f : eqb (r .fault) 0 ≡ false = ne-eqb (r .fault) 0 z in
+      let g : decode.refusalOf r ≡ some (record { number = r .fault; line = r .line; items = [] }) = rw f refl in
+      record {
+        fault = ap refusalOf o ∙ named k (r .line) h ∙ ap (λ (x : ℕ). some (record { number = x; line = r .line; items = [] })) q ∙ ap (λ (x : Option Refusal). orElse x (lowestLine 0 (passTwoOf text))) (sym g ∙ e);
+        loaded = λ w. absurd (h (ap (λ (x : Loaded). x .fault) (sym o) ∙ w));
+      }
+
+  pub one-none : r .fault ≡ 0 → lowestLine 0 (passOne text) ≡ none
+  one-none z = let f : decode.refusalOf r ≡ none = rw z refl in sym e ∙ f
+
+clear-none : (p : Pass) → lowestLine 0 p ≡ none → Clear p
+clear-none p e = earliest-clear (p ∷ []) (unfold earliest in rw e refl) .0
+
+-- ---- pass two
+found-some : (f : Found) → (f .number ≡ 0 → ⊥) → foundRefusal f ≡ some (record { number = f .number; line = f .line; items = [] })
+unfolding foundRefusal
+found-some f h = let k : eqb (f .number) 0 ≡ false = ne-eqb (f .number) 0 h in rw k refl
+
+found-none : (f : Found) → f .number ≡ 0 → foundRefusal f ≡ none
+unfolding foundRefusal
+found-none f z = rw z refl
+
+two-clear : (rows : List Row) (nb : ℕ) (es : List Entry) → lowestLine 0 (passTwo rows nb es) ≡ none → Clear (rowsFaults [] [] rows ++ entriesFaults rows nb es)
+unfolding passTwo
+two-clear rows nb es e = clear-none (passTwo rows nb es) e .1
+
+length-blocks : (β ι : List ℕ) (ω : OperandTable) (ni b k : ℕ) → length (blocksFrom β ι ω ni b k) ≡ k
+unfolding blocksFrom
+length-blocks β ι ω ni b zero = refl
+length-blocks β ι ω ni b (suc zero) = refl
+length-blocks β ι ω ni b (suc (suc k)) = ap suc (length-blocks β ι ω ni (suc b) (suc k))
+
+module _ (text : List ℕ) (σ : Store) (r : Read) (d : decode.Decoded text σ r) (one : lowestLine 0 (passOne text) ≡ none) where
+  abbrev τ : RowTable
+  τ = rowTable σ
+
+  abbrev bs : List Listing
+  bs = blocksFrom (σ .blocks) (σ .instrs) (operandsOf σ) (r .instrs) 0 (r .blocks)
+
+  pub starts-rise : Rising (σ .blocks) (r .blocks)
+  starts-rise = record { first = d .first; rise = λ b h. let q = d .rising b h in omega arith }
+
+  pub two-same : lowestLine 0 (passTwo (rowsIn τ (r .rows)) (r .blocks) (entriesIn (rowsIn τ (r .rows)) bs)) ≡ lowestLine 0 (passTwoOf text)
+  unfolding passTwoOf
+  two-same =
+      let n : r .blocks ≡ length (listingsOf (entriesOf text)) = sym (length-blocks (σ .blocks) (σ .instrs) (operandsOf σ) (r .instrs) 0 (r .blocks)) ∙ ap length (d .blocks) in
+      let es : entriesIn (rowsIn τ (r .rows)) bs ≡ entriesOf text = ap₂ entriesIn (d .rows) (d .blocks) ∙ sym (entries-in text (clear-none (passOne text) one)) in
+      ap₂ (λ rs k. lowestLine 0 (passTwo rs k (entriesIn (rowsIn τ (r .rows)) bs))) (d .rows) n ∙ ap (λ l. lowestLine 0 (passTwo (rowsOf (entriesOf text)) (length (listingsOf (entriesOf text))) l)) es
+
+  module _ (f : Found) (e : foundRefusal f ≡ lowestLine 0 (passTwo (rowsIn τ (r .rows)) (r .blocks) (entriesIn (rowsIn τ (r .rows)) bs))) where
+    two-is : foundRefusal f ≡ orElse (lowestLine 0 (passOne text)) (lowestLine 0 (passTwoOf text))
+    two-is = e ∙ two-same ∙ ap (λ (x : Option Refusal). orElse x (lowestLine 0 (passTwoOf text))) (sym one)
+
+    pub found-two : (out : Loaded) (π : Store) (uses tops : List ℕ) → (f .number ≡ 0 → ⊥) → out ≡ faulty (f .number) (f .line) → LoadIs text π uses tops out
+    found-two out π uses tops h o =
+        let g = found-some f h in
+        record {
+          fault = ap refusalOf o ∙ named (f .number) (f .line) h ∙ sym g ∙ two-is;
+          loaded = λ w. absurd (h (ap (λ (x : Loaded). x .fault) (sym o) ∙ w));
+        }
+
+    two-none : f .number ≡ 0 → none ≡ orElse (lowestLine 0 (passOne text)) (lowestLine 0 (passTwoOf text))
+    two-none z = sym (found-none f z) ∙ two-is
+
+    all-clear : f .number ≡ 0 → Clear (rowsFaults [] [] (rowsIn τ (r .rows)) ++ entriesFaults (rowsIn τ (r .rows)) (r .blocks) (entriesIn (rowsIn τ (r .rows)) bs))
+    all-clear z = two-clear (rowsIn τ (r .rows)) (r .blocks) (entriesIn (rowsIn τ (r .rows)) bs) (sym e ∙ found-none f z)
+
+    pub rows-seen : f .number ≡ 0 → Clear (rowsFaults [] [] (rowsIn τ (r .rows)))
+    rows-seen z = clear-split (rowsFaults [] [] (rowsIn τ (r .rows))) (entriesFaults (rowsIn τ (r .rows)) (r .blocks) (entriesIn (rowsIn τ (r .rows)) bs)) (all-clear z) .0
+
+    codes : f .number ≡ 0 → (l : ℕ) → l < r .blocks → CodeOk τ (r .rows) (cell 2 (σ .blocks) l 0)
+    codes z = all-codes τ (r .rows) (σ .blocks) (σ .instrs) (operandsOf σ) (r .instrs) (r .blocks) (subst Clear (entries-rows (rowsIn τ (r .rows)) (rowsIn τ (r .rows)) (r .blocks) bs) (clear-split (rowsFaults [] [] (rowsIn τ (r .rows))) (entriesFaults (rowsIn τ (r .rows)) (r .blocks) (entriesIn (rowsIn τ (r .rows)) bs)) (all-clear z) .1))
+
+    pub rows-small-in : (x : ℕ) → x < r .rows → SmallRow (rowAt τ x)
+    rows-small-in = rows-small text τ (r .rows) (d .rows)
+
+    holds-in : f .number ≡ 0 → Holds τ (r .rows) (σ .blocks) (r .blocks) (programOf text)
+    holds-in z = holds-is τ (r .rows) (σ .blocks) (σ .instrs) (operandsOf σ) (r .instrs) (r .blocks) (programOf text) (rows-seen z) (codes z) (unfold programOf programFrom in ap typesOf (sym (d .rows))) (unfold programOf programFrom in ap₂ (λ rs ls. blocksOf (typesOf rs) ls) (sym (d .rows)) (sym (d .blocks)))
+
+    -- ---- after preparing: only the rows' table has changed
+    module _ (after uses tops : List ℕ) (p : Prepared (σ .rows) after (σ .parts) (r .rows) uses tops) (z : f .number ≡ 0) where
+      abbrev π : Store
+      π = record { rows = after; parts = σ .parts; operands = σ .operands; numbers = σ .numbers; args = σ .args; instrs = σ .instrs; blocks = σ .blocks }
+
+      holds-after : Holds (rowTable π) (r .rows) (σ .blocks) (r .blocks) (programOf text)
+      holds-after = let h = holds-in z in record { types = h .types ∙ ap typesOf (sym (p .rows)); labels = h .labels }
+
+      pub all-loaded : (out : Loaded) → out ≡ record { fault = 0; line = 0; rows = r .rows; blocks = r .blocks; instrs = r .instrs } → LoadIs text (record { rows = after; parts = σ .parts; operands = σ .operands; numbers = σ .numbers; args = σ .args; instrs = σ .instrs; blocks = σ .blocks }) uses tops out
+      all-loaded out o = subst (LoadIs text π uses tops) (sym o) (record {
+        fault = two-none z;
+        loaded = λ w. record {
+          rows = p .rows ∙ d .rows;
+          blocks = d .blocks;
+          holds = holds-after;
+          few-rows = d .few-rows;
+          few-blocks = d .few-blocks;
+          few-instrs = d .few-instrs;
+          small-rows = λ x h. subst SmallRow (sym (p .row x h)) (rows-small-in x h);
+          small-instrs = λ h. instrs-small (σ .blocks) (σ .instrs) (operandsOf σ) text (r .instrs) (r .blocks) (d .blocks) h (d .first h);
+          first = d .first;
+          rising = d .rising;
+          within = d .within;
+          clear = subst (λ l. Clear (rowsFaults [] [] l)) (sym (p .rows)) (rows-seen z);
+          int-row = p .int-row;
+          junk-row = p .junk-row;
+          counted = p .counted;
+          scoped = p .scoped;
+        };
+      })
+
+-- ---- what `pass_two` asks
+pub few-ok : (text : List ℕ) (σ : Store) (r : Read) → decode.Decoded text σ r → lowestLine 0 (passOne text) ≡ none → (r .rows ≤ 65535) × (r .blocks ≤ 65535) × (r .instrs ≤ 65535) × Rising (σ .blocks) (r .blocks)
+few-ok text σ r d o =
+    let a = d .few-rows in
+    let b = d .few-blocks in
+    let c = d .few-instrs in
+    (omega arith, omega arith, omega arith, starts-rise text σ r d o)

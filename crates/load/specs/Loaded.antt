@@ -1,0 +1,63 @@
+-- What loading a text answers, and what it leaves in the tables.
+use Prim.Native.Nat.{ℕ, suc, _+_, _*_, _≤_, _<_}
+use mathlib.Core.Path.{_≡_}
+use mathlib.Core.Bool.{true, cond}
+use mathlib.Core.Option.{Option, none, some}
+use mathlib.Core.List.{List, []}
+use lib.Dec.{eqb}
+use lib.ListN.{length}
+use Rattle.syntax.specs.Fault.{Refusal, Clear, lowestLine, orElse}
+use Rattle.text.specs.PassOne.{passOne, entriesOf, rowsOf, listingsOf}
+use Rattle.types.specs.Rows.{typesOf, isCode, rowsFaults}
+use Rattle.tables.specs.Tables.{cell, rowAt, rowsIn, instrAt, blocksFrom}
+use Rattle.rows.specs.Read.{Counted}
+use Rattle.scope.specs.Scoped.{Scoped}
+use Rattle.valid.specs.Program.{programOf}
+use Rattle.valid.specs.Verdict.{passTwoOf}
+use Rattle.decode_store.specs.Store.{Store, rowTable, operandsOf, Room}
+use Rattle.premises.specs.Bounds.{SmallRow, SmallInstr}
+use Rattle.premises.specs.Answers.{Holds}
+use Rattle.load.specs.declared.Loaded.{Loaded}
+
+-- room in the tables: for two rows more than document 01 allows, and for the variables of each row
+pub record Space (σ : Store) (u t : ℕ) : Type 0 where
+  pub room : Room σ
+  pub rows : 4 * 514 ≤ length (σ .rows)
+  pub uses : 64 * 512 ≤ u
+  pub tops : 512 ≤ t
+
+abbrev pub faulty : ℕ → ℕ → Loaded
+faulty n line = record { fault = n; line = line; rows = 0; blocks = 0; instrs = 0 }
+
+-- the fault that an answer names; 0 for none
+abbrev pub refusalOf : Loaded → Option Refusal
+refusalOf r = cond (eqb (r .fault) 0) none (some (record { number = r .fault; line = r .line; items = [] }))
+
+-- ---- the tables of a text that passes one and two have passed
+pub record IsLoaded (text : List ℕ) (σ : Store) (uses tops : List ℕ) (r : Loaded) : Type 0 where
+  -- what they stand for
+  pub rows : rowsIn (rowTable σ) (r .rows) ≡ rowsOf (entriesOf text)
+  pub blocks : blocksFrom (σ .blocks) (σ .instrs) (operandsOf σ) (r .instrs) 0 (r .blocks) ≡ listingsOf (entriesOf text)
+  pub holds : Holds (rowTable σ) (r .rows) (σ .blocks) (r .blocks) (programOf text)
+  -- bounds
+  pub few-rows : r .rows ≤ 512
+  pub few-blocks : r .blocks ≤ 64
+  pub few-instrs : r .instrs ≤ 1024
+  pub small-rows : (x : ℕ) → x < r .rows → SmallRow (rowAt (rowTable σ) x)
+  pub small-instrs : 0 < r .blocks → (j : ℕ) → j < r .instrs → SmallInstr (instrAt (σ .instrs) (operandsOf σ) j)
+  -- where blocks start
+  pub first : 0 < r .blocks → cell 2 (σ .blocks) 0 1 ≡ 0
+  pub rising : (l : ℕ) → suc l < r .blocks → cell 2 (σ .blocks) l 1 < cell 2 (σ .blocks) (suc l) 1
+  pub within : (l : ℕ) → l < r .blocks → cell 2 (σ .blocks) l 1 < r .instrs
+  -- what pass two has seen
+  pub clear : Clear (rowsFaults [] [] (rowsIn (rowTable σ) (r .rows)))
+  -- what pass three reads: rows `I` and `N` behind the text's, counts of items, uses of variables
+  pub int-row : cell 4 (σ .rows) (r .rows) 0 ≡ 0
+  pub junk-row : cell 4 (σ .rows) (r .rows + 1) 0 ≡ 1
+  pub counted : Counted (rowTable σ) (r .rows + 2)
+  pub scoped : Scoped (rowTable σ) (r .rows) uses tops
+
+-- r names the fault of pass one, or else of pass two; where there is none, the tables are those of the text
+pub record LoadIs (text : List ℕ) (σ : Store) (uses tops : List ℕ) (r : Loaded) : Type 0 where
+  pub fault : refusalOf r ≡ orElse (lowestLine 0 (passOne text)) (lowestLine 0 (passTwoOf text))
+  pub loaded : r .fault ≡ 0 → IsLoaded text σ uses tops r

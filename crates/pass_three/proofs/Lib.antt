@@ -1,0 +1,5 @@
+pub mod Items
+pub mod Lines
+pub mod Registers
+pub mod Flat
+pub mod Blocks

@@ -1,0 +1,33 @@
+-- `pass_two::row_fault` meets its contract.
+use mathlib.Core.Path.{_≡_, refl, ap, sym, _∙_}
+use mathlib.Core.Bool.{cond}
+use Prim.Native.Nat.{ℕ}
+use Rattle.rows.specs.Read.{tab}
+use Rattle.pass_two.proofs.Laws.{row-refs, row-size}
+use borrow.Author.Needs.{needs}
+use Rattle.pass_two.proofs.row_fault.Statement.{statement}
+use Rattle.pass_two.proofs.row_fault.Tie as tie
+
+row-fault-requires : tie.Need-row-fault-requires
+row-fault-requires c κs = search needs
+
+returns : tie.Need-returns
+returns c =
+    let a = c .before .before .before .before .args in
+    row-refs (tab (a .rows .now) (a .parts .now)) (a .r) (c .before .row-fault .result) (c .before .row-fault .ensures) (c .if1 .taken)
+
+size-over-requires : tie.Need-size-over-requires
+size-over-requires c κs = search needs
+
+returns-2 : tie.Need-returns-2
+returns-2 c =
+    let a = c .before .before .before .before .before .before .args in
+    ap (λ b. cond b 6 0) (sym (c .if2 .taken)) ∙ row-size (tab (a .rows .now) (a .parts .now)) (a .r) (c .before .before .before .row-fault .result) (c .before .before .before .row-fault .ensures) (c .before .size-over .result) (c .before .size-over .ensures) (c .before .before .if1 .left)
+
+returns-3 : tie.Need-returns-3
+returns-3 c =
+    let a = c .before .before .before .before .before .before .args in
+    ap (λ b. cond b 6 0) (sym (c .if2 .left)) ∙ row-size (tab (a .rows .now) (a .parts .now)) (a .r) (c .before .before .before .row-fault .result) (c .before .before .before .row-fault .ensures) (c .before .size-over .result) (c .before .size-over .ensures) (c .before .before .if1 .left)
+
+pub row-fault-spec : {M : Type 1} → statement M
+row-fault-spec = tie.close (tie.spec row-fault-requires returns size-over-requires returns-2 returns-3)

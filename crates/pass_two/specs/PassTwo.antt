@@ -1,0 +1,10 @@
+-- The faults of one row.
+use Prim.Native.Nat.{ℕ}
+use mathlib.Core.List.{List}
+use Rattle.syntax.specs.Fault.{Fault}
+use Rattle.types.specs.Rows.{sizesOf, rowFaults}
+use Rattle.tables.specs.Tables.{RowTable, rowAt, rowsIn}
+
+-- those of row r, by the rows before it
+abbrev pub faultsAt : RowTable → ℕ → List Fault
+faultsAt τ r = rowFaults (rowsIn τ r) (sizesOf (rowsIn τ r)) (rowAt τ r)

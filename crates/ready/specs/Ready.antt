@@ -1,0 +1,31 @@
+-- What bars a program from starting, and what the tables say of one that may start.
+use Prim.Native.Nat.{ℕ, _≤_}
+use mathlib.Core.Path.{_≡_}
+use mathlib.Core.Bool.{cond}
+use mathlib.Core.Option.{Option, none, some}
+use mathlib.Core.List.{List, []}
+use lib.Dec.{eqb}
+use Rattle.syntax.specs.Fault.{Refusal}
+use Rattle.valid.specs.Program.{Program, programOf}
+use Rattle.exec.specs.Run.{bodies, wanted, barred}
+use Rattle.machine.specs.Step.{tables}
+use Rattle.machine.specs.Represents.{Represents}
+use Rattle.ready.specs.declared.Ready.{Ready}
+
+abbrev pub barredAt : ℕ → ℕ → Ready
+barredAt n line = record { fault = n; line = line; blocks = 0; instrs = 0; samples = 0 }
+
+-- the fault that an answer names; 0 for none
+abbrev pub refusalOf : Ready → Option Refusal
+refusalOf r = cond (eqb (r .fault) 0) none (some (record { number = r .fault; line = r .line; items = [] }))
+
+-- the machine's tables are those of P, with some type arguments, and the samples are counted
+pub record Startable (P : Program) (instrs operands numbers blocks : List ℕ) (r : Ready) : Type 0 where
+  pub args : List ℕ
+  pub represents : Represents (tables instrs operands numbers blocks (r .instrs) (r .blocks)) args (bodies P)
+  pub samples : r .samples ≡ wanted (P .blocks)
+  pub few : r .samples ≤ 16
+
+pub record ReadyIs (text instrs operands numbers blocks : List ℕ) (r : Ready) : Type 0 where
+  pub fault : refusalOf r ≡ barred text
+  pub startable : r .fault ≡ 0 → Startable (programOf text) instrs operands numbers blocks r

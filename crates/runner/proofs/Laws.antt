@@ -1,0 +1,141 @@
+-- From one turn of the loop to the run.
+use mathlib.Core.Path.{_≡_, refl, ap, sym, _∙_}
+use mathlib.Core.Bool.{Bool, true, false}
+use mathlib.Core.List.{List}
+use Prim.Native.Nat.{ℕ, zero, suc, _+_, _-_, _<_, _≤_}
+use native.Mathlib.Nat.{zero-add, add-zero, add-suc, sub-zero}
+use native.Mathlib.Omega.{arith}
+use lib.Dec.{ltb}
+use borrow.Author.Tests.{ltb-true, ltb-false}
+use Rattle.exec.specs.Machine.{State, Bodies, Stop, Result, go, stop, step}
+use Rattle.exec.specs.Run.{End, Ran, paused, stopped, ended, oneMore, after, run}
+use Rattle.machine.specs.Step.{Tables, stepAt}
+use Rattle.machine.specs.Represents.{Represents}
+use Rattle.machine.proofs.Exec.{step-is}
+use Rattle.effect.specs.Turn.{Turn, turn}
+use Rattle.effect.specs.Turn as turns
+
+-- ---- what a turn says of the step
+abbrev number : Turn → ℕ
+number (turns.went σ) = 0
+number (turns.paused σ) = 1
+number (turns.ended s σ) = 2
+
+abbrev stateIn : Turn → State
+stateIn (turns.went σ) = σ
+stateIn (turns.paused σ) = σ
+stateIn (turns.ended s σ) = σ
+
+abbrev stopIn : Stop → Turn → Stop
+stopIn d (turns.went σ) = d
+stopIn d (turns.paused σ) = d
+stopIn d (turns.ended s σ) = s
+
+zero-one : _≡_ {A = ℕ} 0 1 → ⊥
+zero-one h = omega arith
+
+zero-two : _≡_ {A = ℕ} 0 2 → ⊥
+zero-two h = omega arith
+
+one-two : _≡_ {A = ℕ} 1 2 → ⊥
+one-two h = omega arith
+
+module _ (σ τ : State) where
+  went-more : (more : Bool) (r : Result State) → turns.went τ ≡ turn more σ r → more ≡ true
+  unfolding turn
+  went-more true r e = refl
+  went-more false (go σ′) e = absurd (zero-one (ap number e))
+  went-more false (stop s) e = absurd (zero-two (ap number e))
+
+  went-is : (more : Bool) (r : Result State) → turns.went τ ≡ turn more σ r → r ≡ go τ
+  unfolding turn
+  went-is true (go σ′) e = ap (λ (t : Turn). go (stateIn t)) (sym e)
+  went-is false (go σ′) e = absurd (zero-one (ap number e))
+  went-is more (stop s) e = absurd (zero-two (ap number e))
+
+  -- a pause: no budget, the instruction could go on, and nothing is changed
+  pub record Waits (more : Bool) (r : Result State) : Type 0 where
+    pub none : more ≡ false
+    pub same : τ ≡ σ
+    pub next : State
+    pub goes : r ≡ go next
+
+  waits-is : (more : Bool) (r : Result State) → turns.paused τ ≡ turn more σ r → Waits more r
+  unfolding turn
+  waits-is false (go σ′) e = record { none = refl; same = ap stateIn e; next = σ′; goes = refl }
+  waits-is true (go σ′) e = absurd (zero-one (sym (ap number e)))
+  waits-is more (stop s) e = absurd (one-two (ap number e))
+
+  pub record Ends (s : Stop) (r : Result State) : Type 0 where
+    pub same : τ ≡ σ
+    pub stops : r ≡ stop s
+
+  ends-is : (s : Stop) (more : Bool) (r : Result State) → turns.ended s τ ≡ turn more σ r → Ends s r
+  unfolding turn
+  ends-is s more (stop s′) e = record { same = ap stateIn e; stops = ap (λ (t : Turn). stop (stopIn s t)) (sym e) }
+  ends-is s true (go σ′) e = absurd (zero-two (sym (ap number e)))
+  ends-is s false (go σ′) e = absurd (one-two (sym (ap number e)))
+
+-- ---- runs
+-- k steps were made before
+abbrev pub later : ℕ → Ran → Ran
+later k r = record { end = r .end; steps = k + r .steps; state = r .state }
+
+none-before : (r : Ran) → later 0 r ≡ r
+none-before r = λ i. record { end = r .end; steps = zero-add (r .steps) i; state = r .state }
+
+pub at-first : (P : Bodies) (b : ℕ) (σ : State) → later 0 (run P (b - 0) σ) ≡ run P b σ
+at-first P b σ = none-before (run P (b - 0) σ) ∙ ap (λ (n : ℕ). run P n σ) (sub-zero b)
+
+module _ (P : Bodies) (σ τ : State) where
+  one-step : (n : ℕ) → step P σ ≡ go τ → run P (suc n) σ ≡ oneMore (run P n τ)
+  unfolding run after
+  one-step n e = ap (λ (r : Result State). after σ r (λ σ′. oneMore (run P n σ′))) e
+
+  no-budget : step P σ ≡ go τ → run P 0 σ ≡ ended paused σ
+  unfolding run after
+  no-budget e = ap (λ (r : Result State). after σ r (λ σ′. ended paused σ)) e
+
+at-stop : (P : Bodies) (σ : State) (s : Stop) (n : ℕ) → step P σ ≡ stop s → run P n σ ≡ ended (stopped s) σ
+unfolding run after
+at-stop P σ s zero e = ap (λ (r : Result State). after σ r (λ σ′. ended paused σ)) e
+at-stop P σ s (suc n) e = ap (λ (r : Result State). after σ r (λ σ′. oneMore (run P n σ′))) e
+
+-- ---- a turn of the loop: k steps of b are made, and what `advance` answers is told of the step by tables
+module _ (T : Tables) (σ : State) (b k : ℕ) where
+  abbrev more : Bool
+  more = ltb k b
+
+  -- what is told of `advance`
+  abbrev pub Told : Turn → Type 0
+  Told t = t ≡ turn more σ (stepAt T σ)
+
+  pub budget-left : (τ : State) → Told (turns.went τ) → k < b
+  budget-left τ h = ltb-true k b (went-more σ τ more (stepAt T σ) h)
+
+  module _ (args : List ℕ) (P : Bodies) (rep : Represents T args P) where
+    pub goes : (τ : State) → Told (turns.went τ) → later (k + 1) (run P (b - (k + 1)) τ) ≡ later k (run P (b - k) σ)
+    goes τ h =
+        let l : k < b = budget-left τ h in
+        let n : ℕ = b - (k + 1) in
+        let e : suc n ≡ b - k = omega arith in
+        let s : step P σ ≡ go τ = sym (step-is T args P rep σ) ∙ went-is σ τ more (stepAt T σ) h in
+        let r : Ran = run P n τ in
+        let q : k + 1 + r .steps ≡ k + suc (r .steps) = omega arith in
+        (λ i. record { end = r .end; steps = q i; state = r .state })
+        ∙ ap (later k) (sym (one-step P σ τ n s) ∙ ap (λ (m : ℕ). run P m σ) e)
+
+    pub waits : (τ : State) → k ≤ b → Told (turns.paused τ) → _≡_ {A = Ran} (record { end = paused; steps = k; state = τ }) (later k (run P (b - k) σ))
+    waits τ l h =
+        let w : Waits σ τ more (stepAt T σ) = waits-is σ τ more (stepAt T σ) h in
+        let o : b ≤ k = ltb-false k b (w .none) in
+        let e : b - k ≡ 0 = omega arith in
+        let s : step P σ ≡ go (w .next) = sym (step-is T args P rep σ) ∙ w .goes in
+        (λ i. record { end = paused; steps = sym (add-zero k) i; state = w .same i })
+        ∙ ap (later k) (sym (no-budget P σ (w .next) s) ∙ ap (λ (m : ℕ). run P m σ) (sym e))
+
+    pub stops : (τ : State) (s : Stop) → Told (turns.ended s τ) → _≡_ {A = Ran} (record { end = stopped s; steps = k; state = τ }) (later k (run P (b - k) σ))
+    stops τ s h =
+        let w : Ends σ τ s (stepAt T σ) = ends-is σ τ s more (stepAt T σ) h in
+        (λ i. record { end = stopped s; steps = sym (add-zero k) i; state = w .same i })
+        ∙ ap (later k) (sym (at-stop P σ s (b - k) (sym (step-is T args P rep σ) ∙ w .stops)))

@@ -1,0 +1,7 @@
+pub mod Judging
+pub mod Operands
+pub mod Items
+pub mod Targets
+pub mod Forms
+pub mod Stacks
+pub mod Args

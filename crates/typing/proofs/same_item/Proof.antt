@@ -1,0 +1,70 @@
+use native.Mathlib.Omega.{arith}
+use mathlib.Core.Path.{_∙_, ap, refl}
+use Rattle.types.specs.Types.{Ty}
+use Rattle.types.specs.Equal.{same}
+use Rattle.syntax.specs.Syntax.{value}
+use Rattle.types.specs.Rows.{typeAt}
+use Rattle.typing.specs.Typing.{typesIn}
+use Rattle.typing.proofs.Stacks.{low-item, is-none, is-val, val-var, var-val, is-var}
+use borrow.Author.Needs.{needs}
+use Rattle.typing.proofs.same_item.Statement.{statement}
+use Rattle.typing.proofs.same_item.Tie as tie
+use Rattle.typing.proofs.same_item.Reads as reads
+use Rattle.typing.proofs.same_item.Lts as lts
+use Rattle.typing.proofs.row_of.Reads as row-of-reads
+use Rattle.typing.proofs.same_rows.Reads as same-rows-reads
+
+-- src/lib.rt:145:25
+enum-told : tie.Need-enum-told
+enum-told c = search needs
+
+-- src/lib.rt:146:23
+enum-known-it : tie.Need-enum-known-it
+enum-known-it c = search needs
+
+-- src/lib.rt:148:50
+row-of-requires : tie.Need-row-of-requires
+row-of-requires c κs = ((c .before .before .before .before .before .before .pre) .0 .few, low-item ((c .before .before .it) .given .1) ((c .before .before .before .before .before .before .pre) .1))
+
+-- src/lib.rt:148:17
+same-rows-requires : tie.Need-same-rows-requires
+same-rows-requires c κs = (c .before .before .before .before .before .before .before .pre) .0
+
+-- src/lib.rt:148:17
+returns : tie.Need-returns
+returns c = is-val ((c .before .before .before .before .before .before .before .before .args) .rows .now) ((c .before .before .before .before .before .before .before .before .args) .parts .now) ((c .before .before .before .before .before .before .before .before .args) .n) ((c .before .before .before .before .it) .given .0 .0) ((c .before .before .before .before .before .before .before .before .args) .y) ((c .before .before .before .before .it) .given .1) ((c .before .before .if1) .taken) ((c .same-rows) .ensures ∙ ap (λ (t : Ty value). same t (typeAt value (typesIn ((c .before .before .before .before .before .before .before .before .args) .rows .now) ((c .before .before .before .before .before .before .before .before .args) .parts .now) ((c .before .before .before .before .before .before .before .before .args) .n)) ((c .before .before .before .before .before .before .before .before .args) .y))) ((c .before .row-of) .ensures .0 ((c .before .before .before .before .before .before .before .before .args) .rows .now) ((c .before .before .before .before .before .before .before .before .args) .parts .now) ((c .before .before .before .before .before .before .before .before .pre) .0)))
+
+-- src/lib.rt:152:23
+enum-known-it-2 : tie.Need-enum-known-it-2
+enum-known-it-2 c = search needs
+
+-- src/lib.rt:154:17
+returns-2 : tie.Need-returns-2
+returns-2 c = var-val ((c .before .before .before .before .before .before .args) .rows .now) ((c .before .before .before .before .before .before .args) .parts .now) ((c .before .before .before .before .before .before .args) .n) ((c .before .before .it2) .given .0 .0) ((c .before .before .before .before .before .before .args) .y) ((c .before .before .it2) .given .1) ((c .if2) .taken)
+
+-- src/lib.rt:140:1
+returns-3 : tie.Need-returns-3
+returns-3 c = is-none ((c .before .before .before .before .args) .rows .now) ((c .before .before .before .before .args) .parts .now) ((c .before .before .before .before .args) .n) ((c .before .before .before .before .args) .y) ((c .enum-told) .given .1)
+
+-- src/lib.rt:140:1
+returns-4 : tie.Need-returns-4
+returns-4 c = val-var ((c .before .before .before .before .before .before .args) .rows .now) ((c .before .before .before .before .before .before .args) .parts .now) ((c .before .before .before .before .before .before .args) .n) ((c .before .before .it) .given .0 .0) ((c .before .before .before .before .before .before .args) .y) ((c .before .before .it) .given .1) ((c .if1) .left)
+
+-- src/lib.rt:140:1
+returns-5 : tie.Need-returns-5
+returns-5 c = is-var ((c .before .before .before .before .before .before .args) .rows .now) ((c .before .before .before .before .before .before .args) .parts .now) ((c .before .before .before .before .before .before .args) .n) ((c .before .before .it2) .given .0 .0) ((c .before .before .before .before .before .before .args) .y) ((c .before .before .it2) .given .1) ((c .if2) .left) refl
+
+pub same-item-spec : {M : Type 1} → statement M
+same-item-spec =
+    tie.close
+    (tie.spec
+    enum-told
+    enum-known-it
+    row-of-requires
+    same-rows-requires
+    returns
+    enum-known-it-2
+    returns-2
+    returns-3
+    returns-4
+    returns-5)

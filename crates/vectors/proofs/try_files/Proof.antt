@@ -1,0 +1,34 @@
+use borrow.Author.Needs.{needs}
+use Prim.Native.Nat.{_-_, _≤_}
+use Rattle.vectors.proofs.try_files.Statement.{statement}
+use Rattle.vectors.proofs.try_files.Tie as tie
+use Rattle.vectors.proofs.try_files.Reads as reads
+use Rattle.vectors.proofs.try_files.Lts as lts
+use Rattle.vectors.proofs.try_file.Reads as try-file-reads
+
+abbrev Inv-loop : tie.InvT-loop
+Inv-loop tally₀ i₀ tally i = i ≤ 7
+
+abbrev μ-loop : tie.MeasureT-loop
+μ-loop tally₀ i₀ tally i = 7 - i
+
+loop-holds : tie.Need-loop-holds Inv-loop μ-loop
+loop-holds c = search needs
+
+try-file-requires : tie.Need-try-file-requires Inv-loop μ-loop
+try-file-requires c κs = search needs
+
+add-i : tie.Need-add-i Inv-loop μ-loop
+add-i c = search needs
+
+loop-less : tie.Need-loop-less Inv-loop μ-loop
+loop-less c = search needs
+
+loop-again : tie.Need-loop-again Inv-loop μ-loop
+loop-again c = search needs
+
+returns : tie.Need-returns Inv-loop μ-loop
+returns c = search needs
+
+pub try-files-spec : {M : Type 1} → statement M
+try-files-spec = tie.close (tie.spec Inv-loop μ-loop loop-holds try-file-requires add-i loop-less loop-again returns)
