@@ -1,2 +1,2 @@
-// The cases that document 01 marks to be proved, together as one table (specs/Marked.antt), and the examples of its table of
-// faults (specs/Examples.antt): theorems about the definitions, by computation.
+// The cases that document 01 marks to be proved, together as one table, and the examples of its table of faults (specs/Marked.antt):
+// theorems about the definitions, by computation.
