@@ -16,7 +16,7 @@ use Rattle.rows.specs.declared.Item.the-variants.{NoItem, ValItem, VarItem}
 use Rattle.equal.specs.declared.Pair.{Pair}
 use Rattle.equal.specs.declared.Pair.the-variants.{Same, Differ, Filled, Tuples, Pointers, Codes}
 use Rattle.equal.specs.declared.Heads.{Heads}
-use Rattle.equal.specs.declared.Heads.the-variants.{Gaps, Apart, Both}
+use Rattle.equal.specs.declared.Heads.the-variants.{Apart, Both}
 
 abbrev pub pairInt : Val → Pair
 pairInt Int = Same
@@ -82,7 +82,7 @@ pairOf (Pointer x) w = pairPointer x w
 pairOf (Code x p) w = pairCode x p w
 
 abbrev pub gapWith : Slot → Heads
-gapWith Gap = Gaps
+gapWith Gap = Both 0 0
 gapWith (Known u) = Apart
 
 abbrev pub rowWith : ℕ → Slot → Heads

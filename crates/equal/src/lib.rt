@@ -33,9 +33,8 @@ pub enum Pair {
     Codes(usize, usize, usize, usize),
 }
 
-// What is left to compare of two parts.
+// What is left to compare of two parts: no row and no row for two gaps.
 pub enum Heads {
-    Gaps,
     Apart,
     Both(usize, usize),
 }
@@ -160,7 +159,7 @@ fn gap_with(y: Slot) -> Heads
     ensures { λ out. ⌜ out ≡ gapWith y ⌝ }
 {
     match y {
-        Slot::Gap => Heads::Gaps,
+        Slot::Gap => Heads::Both(0, 0),
         Slot::Known(_) => Heads::Apart,
     }
 }
@@ -468,50 +467,25 @@ fn eq_parts(
     requires { ⌜ Tabled (tab (now rows) (now parts)) (now args) m l r × (by + d + 65536 * l + big m ≤ 1099511693312) × (by2 + d2 + 65536 * r ≤ 1099511693312) × (0 < l) × (0 < r) × (n ≤ 65535) × (p + n ≤ 131072) × (q + n ≤ 131072) ⌝ }
     ensures { λ out. ⌜ out ≡ fitParts (tab (now (rows .entry)) (now (parts .entry))) (argsOf (tab (now (rows .entry)) (now (parts .entry))) (now (args .entry)) m) by d file l p by2 d2 r q n ⌝ }
 {
-    if n == 0 {
-        return true;
-    }
-    let h = two_slots(rows::part(parts, file, l, p), rows::part(parts, file, r, q));
-    match h {
-        Heads::Gaps => eq_parts(
-            rows,
-            parts,
-            args,
-            m,
-            by,
-            d,
-            l,
-            by2,
-            d2,
-            r,
-            file,
-            p + 1,
-            q + 1,
-            n - 1,
-        ),
-        Heads::Apart => false,
-        Heads::Both(t, u) => {
-            if eq_value(rows, parts, args, m, by, d, t, by2, d2, u) {
-                return eq_parts(
-                    rows,
-                    parts,
-                    args,
-                    m,
-                    by,
-                    d,
-                    l,
-                    by2,
-                    d2,
-                    r,
-                    file,
-                    p + 1,
-                    q + 1,
-                    n - 1,
-                );
+    let mut i = 0;
+    while i < n {
+        let h = two_slots(
+            rows::part(parts, file, l, p + i),
+            rows::part(parts, file, r, q + i),
+        );
+        match h {
+            Heads::Apart => {
+                return false;
             }
-            false
+            Heads::Both(t, u) => {
+                if !eq_value(rows, parts, args, m, by, d, t, by2, d2, u) {
+                    return false;
+                }
+            }
         }
+        i += 1;
     }
+    true
 }
 
 // Stack row l, which has n items in its context, matches stack row r from item j on.

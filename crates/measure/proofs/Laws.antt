@@ -24,7 +24,7 @@ use Rattle.rows.specs.declared.Slot.the-variants.{Gap, Known}
 use Rattle.rows.specs.Read.{tab, lower, valueWith, stackWith, valueAt, stackAt, isStackAt, slotAt, placeV, placeS, OkV, OkSlot, buildV, buildS, valueTo, stackTo, meanV, meanS, itemsAt, CountedTo, Counted}
 use Rattle.rows.proofs.Laws.{LowV, LowS, lowV-at, lowS-at, slot-low, plain-value, plain-stack, stack-is}
 use Rattle.rows.proofs.Bridge.{rows-snoc, kind-value, counted-from}
-use Rattle.measure.specs.Size.{slotSize, partsSize, underV, underS, sizeTo, sizeAt, CountsFilled}
+use Rattle.measure.specs.Size.{slotSize, slotRow, partsSize, underV, underS, sizeTo, sizeAt, CountsFilled}
 
 -- ---- sizes that agree below h agree at row h
 module _ (h : ℕ) (f g : ℕ → ℕ) (e : (x : ℕ) → x < h → f x ≡ g x) where
@@ -73,6 +73,22 @@ module _ (τ : RowTable) where
       ap₂ (λ x y. suc (cond (isStackAt (τ .rows) r) x y)) (same-underS (suc r) (sizeTo (suc r) τ) (λ x. sizeTo (suc x) τ x) (λ x l. same-size (suc r) (suc x) x l (omega arith)) (stackAt (τ .rows) StkVar (suc r)) (lowS-at (τ .rows) (suc r)))
       (same-underV (suc r) (sizeTo (suc r) τ) (λ x. sizeTo (suc x) τ x) (λ x l. same-size (suc r) (suc x) x l (omega arith)) (τ .parts) (valueAt (τ .rows) ValVar (suc r)) (lowV-at (τ .rows) (suc r)))
 
+  parts-end : (file : Bool) (h p n : ℕ) → n ≡ 0 → partsSize (sizeAt τ) (τ .parts) file h p n ≡ 0
+  unfolding partsSize
+  parts-end file h p zero e = refl
+  parts-end file h p (suc n) e = absurd (omega arith)
+
+  slot-size : (s : Slot) → slotSize (sizeAt τ) s ≡ sizeAt τ (slotRow s)
+  slot-size Gap = sym size-none
+  slot-size (Known t) = refl
+
+  parts-next : (file : Bool) (h p n : ℕ) {t : ℕ} → 0 < n → t ≡ slotRow (slotAt file h (getD (τ .parts) p 0)) → partsSize (sizeAt τ) (τ .parts) file h p n ≡ sizeAt τ t + partsSize (sizeAt τ) (τ .parts) file h (p + 1) (n - 1)
+  unfolding partsSize
+  parts-next file h p zero z e = absurd (omega arith)
+  parts-next file h p (suc n) z e =
+      let q : suc n - 1 ≡ n = omega arith in
+      rw (q, add-one p, e) (ap (λ x. x + partsSize (sizeAt τ) (τ .parts) file h (suc p) n) (slot-size (slotAt file h (getD (τ .parts) p 0))))
+
   -- what is left after a row of either sort
   pub spent-stack : (h left : ℕ) {b : Bool} {o : ℕ} → (h ≡ 0 → ⊥) → (left ≡ 0 → ⊥) → b ≡ isStackAt (τ .rows) (h - 1) → b ≡ true → o ≡ (left - 1) - underS (sizeAt τ) (stackAt (τ .rows) StkVar h) → o ≡ left - sizeAt τ h
   spent-stack zero left z w e f g = absurd (z refl)
@@ -98,20 +114,34 @@ module _ (τ : RowTable) where
   pub under-stack : (h : ℕ) {n k : Stk} → n ≡ stackAt (τ .rows) (placeS 0 0 0) h → n ≡ k → underS (sizeAt τ) (stackAt (τ .rows) StkVar h) ≡ underS (sizeAt τ) k
   under-stack h e f = ap (underS (sizeAt τ)) (sym (plain-stack (τ .rows) h) ∙ sym e ∙ f)
 
-  pub parts-end : (file : Bool) (h p n : ℕ) → n ≡ 0 → partsSize (sizeAt τ) (τ .parts) file h p n ≡ 0
-  unfolding partsSize
-  parts-end file h p zero e = refl
-  parts-end file h p (suc n) e = absurd (omega arith)
+  -- parts p + i to p + n are left, and `rest` of `left` then
+  abbrev pub Spending : Bool → ℕ → ℕ → ℕ → ℕ → ℕ → ℕ → Type 0
+  Spending file h p n left rest i = (i ≤ n) × (rest - partsSize (sizeAt τ) (τ .parts) file h (p + i) (n - i) ≡ left - partsSize (sizeAt τ) (τ .parts) file h p n)
 
-  pub parts-next : (file : Bool) (h p n : ℕ) {s k : Slot} → (n ≡ 0 → ⊥) → s ≡ slotAt file h (getD (τ .parts) p 0) → s ≡ k → partsSize (sizeAt τ) (τ .parts) file h p n ≡ slotSize (sizeAt τ) k + partsSize (sizeAt τ) (τ .parts) file h (p + 1) (n - 1)
-  unfolding partsSize
-  parts-next file h p zero z e f = absurd (z refl)
-  parts-next file h p (suc n) z e f =
-      let q : suc n - 1 ≡ n = omega arith in
-      rw (q, add-one p, ← f, e) refl
+  pub spending-first : (file : Bool) (h p n left : ℕ) → Spending file h p n left left 0
+  spending-first file h p n left =
+      let a : p + 0 ≡ p = omega arith in
+      let b : n - 0 ≡ n = omega arith in
+      (omega arith, rw (a, b) refl)
+
+  pub spending-next : (file : Bool) (h p n left rest i : ℕ) {s : Slot} {t o : ℕ} → Spending file h p n left rest i → i < n → s ≡ slotAt file h (getD (τ .parts) (p + i) 0) → t ≡ slotRow s → o ≡ rest - sizeAt τ t → Spending file h p n left o (i + 1)
+  spending-next file h p n left rest i {s} {t} {o} v l e f g =
+      let q = parts-next file h (p + i) (n - i) (omega arith) (f ∙ ap slotRow e) in
+      let a : p + (i + 1) ≡ p + i + 1 = omega arith in
+      let b : n - (i + 1) ≡ n - i - 1 = omega arith in
+      let w = v .1 in
+      let x : o - partsSize (sizeAt τ) (τ .parts) file h (p + i + 1) (n - i - 1) ≡ left - partsSize (sizeAt τ) (τ .parts) file h p n = omega arith in
+      (omega arith, rw (a, b) x)
+
+  pub spending-last : (file : Bool) (h p n left rest i : ℕ) → Spending file h p n left rest i → n ≤ i → rest ≡ left - partsSize (sizeAt τ) (τ .parts) file h p n
+  spending-last file h p n left rest i v l =
+      let q = parts-end file h (p + i) (n - i) (omega arith) in
+      let w = v .1 in
+      omega arith
 
 pub ok-v : (m h : ℕ) {n k : Val} → OkV m h n → n ≡ k → OkV m h k
 ok-v m h o e = rw e at o
 
-pub ok-slot : (h : ℕ) {s k : Slot} → OkSlot h s → s ≡ k → OkSlot h k
-ok-slot h o e = rw e at o
+pub row-low : (h : ℕ) (s : Slot) {t : ℕ} → 0 < h → OkSlot h s → t ≡ slotRow s → t < h
+row-low h Gap z o e = omega arith
+row-low h (Known x) z o e = omega arith

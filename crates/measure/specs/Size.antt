@@ -18,6 +18,11 @@ abbrev pub slotSize : (ℕ → ℕ) → Slot → ℕ
 slotSize s Gap = 0
 slotSize s (Known t) = s t
 
+-- the row that a part names, 0 for none
+abbrev pub slotRow : Slot → ℕ
+slotRow Gap = 0
+slotRow (Known t) = t
+
 unfoldable pub partsSize : (ℕ → ℕ) → List ℕ → Bool → ℕ → ℕ → ℕ → ℕ
 partsSize s ps file h p zero = 0
 partsSize s ps file h p (suc n) = slotSize s (slotAt file h (getD ps p 0)) + partsSize s ps file h (suc p) n

@@ -15,7 +15,7 @@ ghost use Rattle.tables.specs.Tables.{rowAt, rowsIn};
 ghost use Rattle.rows.specs.Read.{tab, valueAt, stackAt, meanS, itemsAt};
 ghost use Rattle.rows.specs.declared.Val.the-variants.{ValVar};
 ghost use Rattle.rows.specs.declared.Stk.the-variants.{StkVar};
-ghost use Rattle.measure.specs.Size.{sizeAt, partsSize, underV, underS, CountsFilled};
+ghost use Rattle.measure.specs.Size.{sizeAt, slotRow, partsSize, underV, underS, CountsFilled};
 
 // What is left of `left` after the size of row h, or 0. No row has no size.
 fn spend_row(rows: &[u16], parts: &[u16], h: usize, left: usize) -> usize
@@ -75,6 +75,16 @@ fn spend_stack(rows: &[u16], parts: &[u16], h: usize, left: usize) -> usize
     }
 }
 
+// The row that a part names; none for a gap.
+fn row_of(s: Slot) -> usize
+    ensures { λ out. ⌜ out ≡ slotRow s ⌝ }
+{
+    match s {
+        Slot::Gap => 0,
+        Slot::Known(t) => t,
+    }
+}
+
 // What is left after the n parts of row h at p.
 fn spend_parts(
     rows: &[u16],
@@ -88,17 +98,14 @@ fn spend_parts(
     requires { ⌜ (0 < h) × (h ≤ 65536) × (n ≤ 65535) × (p + n ≤ 131072) ⌝ }
     ensures { λ out. ⌜ out ≡ left - partsSize (sizeAt (tab (now (rows .entry)) (now (parts .entry)))) (now (parts .entry)) file h p n ⌝ }
 {
-    if n == 0 {
-        return left;
+    let mut rest = left;
+    let mut i = 0;
+    while i < n {
+        let t = row_of(rows::part(parts, file, h, p + i));
+        rest = spend_row(rows, parts, t, rest);
+        i += 1;
     }
-    let s = rows::part(parts, file, h, p);
-    match s {
-        Slot::Gap => spend_parts(rows, parts, h, file, p + 1, n - 1, left),
-        Slot::Known(t) => {
-            let e = spend_row(rows, parts, t, left);
-            spend_parts(rows, parts, h, file, p + 1, n - 1, e)
-        }
-    }
+    rest
 }
 
 // Row r is larger than 4,096 (fault 6). Of the rows that it names only lower ones count.

@@ -4,7 +4,7 @@ use Prim.Native.Nat.{_+_, _*_, _-_, _≤_}
 use native.Mathlib.Omega.{arith}
 use Rattle.rows.specs.Read.{tab}
 use Rattle.rows.proofs.Laws.{ok-form}
-use Rattle.measure.proofs.Laws.{ok-v, ok-slot, spent-none, spent-stack, spent-value, under-value, under-stack, parts-end, parts-next}
+use Rattle.measure.proofs.Laws.{ok-v, spent-none, spent-stack, spent-value, under-value, under-stack, Spending, spending-first, spending-next, spending-last, row-low}
 use Prim.Native.Nat.{ℕ, _<_}
 use borrow.Fn.Kinds.{In}
 use borrow.Fn.PlainCycle.{Measures, is, falls, and}
@@ -20,6 +20,7 @@ use Rattle.measure.proofs.+spend_parts+spend_row+spend_stack+spend_valu
 use Rattle.measure.proofs.spend_value.Reads as spend-value
 use Rattle.measure.proofs.spend_value.Kinds as spend-value-kinds
 use Rattle.measure.proofs.+spend_parts+spend_row+spend_stack+spend_value.Lts-spend_value as spend-value-lts
+use Rattle.measure.proofs.row_of.Reads as row-of-reads
 use Rattle.rows.proofs.is_stack.Reads as is-stack-reads
 use Rattle.rows.proofs.part.Reads as part-reads
 use Rattle.rows.proofs.read_stack.Reads as read-stack-reads
@@ -28,7 +29,7 @@ use Rattle.measure.proofs.+spend_parts+spend_row+spend_stack+spend_valu
 use Rattle.measure.proofs.+spend_parts+spend_row+spend_stack+spend_value.Tie.{close}
 
 abbrev μ-spend-parts : Measures 2 spend-parts-kinds.ps ℕ
-μ-spend-parts κs a = 131072 * a .1 .1 .0 + a .1 .1 .1 .1 .1 .0
+μ-spend-parts κs a = 131072 * a .1 .1 .0
 
 abbrev μ-spend-row : Measures 2 spend-row-kinds.ps ℕ
 μ-spend-row κs a = 131072 * a .1 .1 .0 + 131071
@@ -70,207 +71,122 @@ abbrev spend-value-below : ℕ → In 2 spend-value-kinds.ps
 spend-value-below t =
     and 2 spend-value-kinds.ps (falls 2 spend-value-kinds.ps _<_ μ-spend-value t) spend-value.Pre
 
--- src/lib.rt:84:9
-spend-parts-returns : (t : ℕ) → spend-parts-lts.Need-returns (
+abbrev spend-parts-Inv-loop : spend-parts-lts.InvT-loop
+spend-parts-Inv-loop rows parts h file p n left rest₀ i₀ rest i = Spending (tab rows parts) file h p n left rest i
+
+abbrev spend-parts-μ-loop : spend-parts-lts.MeasureT-loop
+spend-parts-μ-loop rows parts h file p n left rest₀ i₀ rest i = n - i
+
+-- src/lib.rt:103:5
+spend-parts-loop-holds : (t : ℕ) → spend-parts-lts.Need-loop-holds (
   part-reads.Asked,
   part-reads.Learnt,
-  spend-parts-below t,
-  spend-parts.Post,
+  row-of-reads.Asked,
+  row-of-reads.Learnt,
   spend-row-below t,
   spend-row.Post,
-) (spend-parts-at t) spend-parts.Post
-spend-parts-returns t c =
-    let q = parts-end (tab ((c .before .before .before .args) .rows .now) ((c .before .before .before .args) .parts .now)) ((c .before .before .before .args) .file) ((c .before .before .before .args) .h) ((c .before .before .before .args) .p) ((c .before .before .before .args) .n) ((c .if1) .taken) in
+) (spend-parts-at t) spend-parts.Post spend-parts-Inv-loop spend-parts-μ-loop
+spend-parts-loop-holds t c = spending-first (tab ((c .before .before .args) .rows .now) ((c .before .before .args) .parts .now)) ((c .before .before .args) .file) ((c .before .before .args) .h) ((c .before .before .args) .p) ((c .before .before .args) .n) ((c .before .before .args) .left)
+
+-- src/lib.rt:104:51
+spend-parts-add-part : (t : ℕ) → spend-parts-lts.Need-add-part (
+  part-reads.Asked,
+  part-reads.Learnt,
+  row-of-reads.Asked,
+  row-of-reads.Learnt,
+  spend-row-below t,
+  spend-row.Post,
+) (spend-parts-at t) spend-parts.Post spend-parts-Inv-loop spend-parts-μ-loop
+spend-parts-add-part t c =
+    let r3 = (c .before .before .before .before .pre) .1 .3 in
+    let i0 = (c .before .loop) .inv .0 in
     omega arith
 
--- src/lib.rt:86:9
+-- src/lib.rt:104:24
 spend-parts-part-requires : (t : ℕ) → spend-parts-lts.Need-part-requires (
   part-reads.Asked,
   part-reads.Learnt,
-  spend-parts-below t,
-  spend-parts.Post,
+  row-of-reads.Asked,
+  row-of-reads.Learnt,
   spend-row-below t,
   spend-row.Post,
-) (spend-parts-at t) spend-parts.Post
-spend-parts-part-requires t c κs = (c .before .before .before .pre) .1 .0
+) (spend-parts-at t) spend-parts.Post spend-parts-Inv-loop spend-parts-μ-loop
+spend-parts-part-requires t c κs = (c .before .before .before .before .pre) .1 .0
 
--- src/lib.rt:88:56
-spend-parts-enum-told : (t : ℕ) → spend-parts-lts.Need-enum-told (
+-- src/lib.rt:104:13
+spend-parts-row-of-requires : (t : ℕ) → spend-parts-lts.Need-row-of-requires (
   part-reads.Asked,
   part-reads.Learnt,
-  spend-parts-below t,
-  spend-parts.Post,
+  row-of-reads.Asked,
+  row-of-reads.Learnt,
   spend-row-below t,
   spend-row.Post,
-) (spend-parts-at t) spend-parts.Post
-spend-parts-enum-told t c = search needs
+) (spend-parts-at t) spend-parts.Post spend-parts-Inv-loop spend-parts-μ-loop
+spend-parts-row-of-requires t c κs = search needs
 
--- src/lib.rt:88:56
-spend-parts-add-spend-parts : (t : ℕ) → spend-parts-lts.Need-add-spend-parts (
-  part-reads.Asked,
-  part-reads.Learnt,
-  spend-parts-below t,
-  spend-parts.Post,
-  spend-row-below t,
-  spend-row.Post,
-) (spend-parts-at t) spend-parts.Post
-spend-parts-add-spend-parts t c =
-    let t0 = (c .before .before .before .before .before .before .pre) .0 in
-    let r0 = (c .before .before .before .before .before .before .pre) .1 .0 in
-    let r1 = (c .before .before .before .before .before .before .pre) .1 .1 in
-    let r2 = (c .before .before .before .before .before .before .pre) .1 .2 in
-    let r3 = (c .before .before .before .before .before .before .pre) .1 .3 in
-    let nz = (c .before .before .before .if1) .left in
-    omega arith
-
--- src/lib.rt:88:63
-spend-parts-sub-spend-parts : (t : ℕ) → spend-parts-lts.Need-sub-spend-parts (
-  part-reads.Asked,
-  part-reads.Learnt,
-  spend-parts-below t,
-  spend-parts.Post,
-  spend-row-below t,
-  spend-row.Post,
-) (spend-parts-at t) spend-parts.Post
-spend-parts-sub-spend-parts t c =
-    let t0 = (c .before .before .before .before .before .before .pre) .0 in
-    let r0 = (c .before .before .before .before .before .before .pre) .1 .0 in
-    let r1 = (c .before .before .before .before .before .before .pre) .1 .1 in
-    let r2 = (c .before .before .before .before .before .before .pre) .1 .2 in
-    let r3 = (c .before .before .before .before .before .before .pre) .1 .3 in
-    let nz = (c .before .before .before .if1) .left in
-    omega arith
-
--- src/lib.rt:88:22
-spend-parts-spend-parts-requires : (t : ℕ) → spend-parts-lts.Need-spend-parts-requires (
-  part-reads.Asked,
-  part-reads.Learnt,
-  spend-parts-below t,
-  spend-parts.Post,
-  spend-row-below t,
-  spend-row.Post,
-) (spend-parts-at t) spend-parts.Post
-spend-parts-spend-parts-requires t c κs =
-    let t0 = (c .before .before .before .before .before .before .pre) .0 in
-    let r0 = (c .before .before .before .before .before .before .pre) .1 .0 in
-    let r1 = (c .before .before .before .before .before .before .pre) .1 .1 in
-    let r2 = (c .before .before .before .before .before .before .pre) .1 .2 in
-    let r3 = (c .before .before .before .before .before .before .pre) .1 .3 in
-    let nz = (c .before .before .before .if1) .left in
-    (omega arith, (r0, r1, omega arith, omega arith))
-
--- src/lib.rt:89:21
-spend-parts-enum-known-s : (t : ℕ) → spend-parts-lts.Need-enum-known-s (
-  part-reads.Asked,
-  part-reads.Learnt,
-  spend-parts-below t,
-  spend-parts.Post,
-  spend-row-below t,
-  spend-row.Post,
-) (spend-parts-at t) spend-parts.Post
-spend-parts-enum-known-s t c = search needs
-
--- src/lib.rt:90:17
+-- src/lib.rt:105:9
 spend-parts-spend-row-requires : (t : ℕ) → spend-parts-lts.Need-spend-row-requires (
   part-reads.Asked,
   part-reads.Learnt,
-  spend-parts-below t,
-  spend-parts.Post,
+  row-of-reads.Asked,
+  row-of-reads.Learnt,
   spend-row-below t,
   spend-row.Post,
-) (spend-parts-at t) spend-parts.Post
+) (spend-parts-at t) spend-parts.Post spend-parts-Inv-loop spend-parts-μ-loop
 spend-parts-spend-row-requires t c κs =
-    let t0 = (c .before .before .before .before .before .before .before .pre) .0 in
-    let r0 = (c .before .before .before .before .before .before .before .pre) .1 .0 in
-    let r1 = (c .before .before .before .before .before .before .before .pre) .1 .1 in
-    let r2 = (c .before .before .before .before .before .before .before .pre) .1 .2 in
-    let r3 = (c .before .before .before .before .before .before .before .pre) .1 .3 in
-    let nz = (c .before .before .before .before .if1) .left in
-    let ok = ok-slot ((c .before .before .before .before .before .before .before .args) .h) ((c .before .before .before .part) .ensures .1) ((c .before .s) .given .1) in
+    let t0 = (c .before .before .before .before .before .before .pre) .0 in
+    let r1 = (c .before .before .before .before .before .before .pre) .1 .1 in
+    let l = row-low ((c .before .before .before .before .before .before .args) .h) ((c .before .part) .result) ((c .before .before .before .before .before .before .pre) .1 .0) ((c .before .part) .ensures .1) ((c .row-of) .ensures) in
     (omega arith, omega arith)
 
--- src/lib.rt:91:47
-spend-parts-add-spend-parts-2 : (t : ℕ) → spend-parts-lts.Need-add-spend-parts-2 (
+-- src/lib.rt:106:9
+spend-parts-add-i : (t : ℕ) → spend-parts-lts.Need-add-i (
   part-reads.Asked,
   part-reads.Learnt,
-  spend-parts-below t,
-  spend-parts.Post,
+  row-of-reads.Asked,
+  row-of-reads.Learnt,
   spend-row-below t,
   spend-row.Post,
-) (spend-parts-at t) spend-parts.Post
-spend-parts-add-spend-parts-2 t c =
-    let t0 = (c .before .before .before .before .before .before .before .before .pre) .0 in
-    let r0 = (c .before .before .before .before .before .before .before .before .pre) .1 .0 in
-    let r1 = (c .before .before .before .before .before .before .before .before .pre) .1 .1 in
-    let r2 = (c .before .before .before .before .before .before .before .before .pre) .1 .2 in
-    let r3 = (c .before .before .before .before .before .before .before .before .pre) .1 .3 in
-    let nz = (c .before .before .before .before .before .if1) .left in
+) (spend-parts-at t) spend-parts.Post spend-parts-Inv-loop spend-parts-μ-loop
+spend-parts-add-i t c =
+    let r2 = (c .before .before .before .before .before .before .before .pre) .1 .2 in
+    let u = (c .before .before .before .loop-test) .taken in
     omega arith
 
--- src/lib.rt:91:54
-spend-parts-sub-spend-parts-2 : (t : ℕ) → spend-parts-lts.Need-sub-spend-parts-2 (
+-- src/lib.rt:103:5
+spend-parts-loop-less : (t : ℕ) → spend-parts-lts.Need-loop-less (
   part-reads.Asked,
   part-reads.Learnt,
-  spend-parts-below t,
-  spend-parts.Post,
+  row-of-reads.Asked,
+  row-of-reads.Learnt,
   spend-row-below t,
   spend-row.Post,
-) (spend-parts-at t) spend-parts.Post
-spend-parts-sub-spend-parts-2 t c =
-    let t0 = (c .before .before .before .before .before .before .before .before .pre) .0 in
-    let r0 = (c .before .before .before .before .before .before .before .before .pre) .1 .0 in
-    let r1 = (c .before .before .before .before .before .before .before .before .pre) .1 .1 in
-    let r2 = (c .before .before .before .before .before .before .before .before .pre) .1 .2 in
-    let r3 = (c .before .before .before .before .before .before .before .before .pre) .1 .3 in
-    let nz = (c .before .before .before .before .before .if1) .left in
+) (spend-parts-at t) spend-parts.Post spend-parts-Inv-loop spend-parts-μ-loop
+spend-parts-loop-less t c =
+    let u = (c .before .before .before .loop-test) .taken in
     omega arith
 
--- src/lib.rt:91:13
-spend-parts-spend-parts-requires-2 : (t : ℕ) → spend-parts-lts.Need-spend-parts-requires-2 (
+-- src/lib.rt:103:5
+spend-parts-loop-again : (t : ℕ) → spend-parts-lts.Need-loop-again (
   part-reads.Asked,
   part-reads.Learnt,
-  spend-parts-below t,
-  spend-parts.Post,
+  row-of-reads.Asked,
+  row-of-reads.Learnt,
   spend-row-below t,
   spend-row.Post,
-) (spend-parts-at t) spend-parts.Post
-spend-parts-spend-parts-requires-2 t c κs =
-    let t0 = (c .before .before .before .before .before .before .before .before .pre) .0 in
-    let r0 = (c .before .before .before .before .before .before .before .before .pre) .1 .0 in
-    let r1 = (c .before .before .before .before .before .before .before .before .pre) .1 .1 in
-    let r2 = (c .before .before .before .before .before .before .before .before .pre) .1 .2 in
-    let r3 = (c .before .before .before .before .before .before .before .before .pre) .1 .3 in
-    let nz = (c .before .before .before .before .before .if1) .left in
-    (omega arith, (r0, r1, omega arith, omega arith))
+) (spend-parts-at t) spend-parts.Post spend-parts-Inv-loop spend-parts-μ-loop
+spend-parts-loop-again t c = spending-next (tab ((c .before .before .before .before .before .before .before .args) .rows .now) ((c .before .before .before .before .before .before .before .args) .parts .now)) ((c .before .before .before .before .before .before .before .args) .file) ((c .before .before .before .before .before .before .before .args) .h) ((c .before .before .before .before .before .before .before .args) .p) ((c .before .before .before .before .before .before .before .args) .n) ((c .before .before .before .before .before .before .before .args) .left) ((c .before .before .before .before .loop) .rest) ((c .before .before .before .before .loop) .i) ((c .before .before .before .before .loop) .inv) ((c .before .before .before .loop-test) .taken) ((c .before .before .part) .ensures .0) ((c .before .row-of) .ensures) ((c .spend-row) .ensures)
 
--- src/lib.rt:79:1
-spend-parts-returns-2 : (t : ℕ) → spend-parts-lts.Need-returns-2 (
+-- src/lib.rt:89:1
+spend-parts-returns : (t : ℕ) → spend-parts-lts.Need-returns (
   part-reads.Asked,
   part-reads.Learnt,
-  spend-parts-below t,
-  spend-parts.Post,
+  row-of-reads.Asked,
+  row-of-reads.Learnt,
   spend-row-below t,
   spend-row.Post,
-) (spend-parts-at t) spend-parts.Post
-spend-parts-returns-2 t c =
-    let q = parts-next (tab ((c .before .before .before .before .before .before .before .args) .rows .now) ((c .before .before .before .before .before .before .before .args) .parts .now)) ((c .before .before .before .before .before .before .before .args) .file) ((c .before .before .before .before .before .before .before .args) .h) ((c .before .before .before .before .before .before .before .args) .p) ((c .before .before .before .before .before .before .before .args) .n) ((c .before .before .before .before .if1) .left) ((c .before .before .before .part) .ensures .0) ((c .before .enum-told) .given .1) in
-    let e = (c .spend-parts) .ensures in
-    omega arith
-
--- src/lib.rt:79:1
-spend-parts-returns-3 : (t : ℕ) → spend-parts-lts.Need-returns-3 (
-  part-reads.Asked,
-  part-reads.Learnt,
-  spend-parts-below t,
-  spend-parts.Post,
-  spend-row-below t,
-  spend-row.Post,
-) (spend-parts-at t) spend-parts.Post
-spend-parts-returns-3 t c =
-    let q = parts-next (tab ((c .before .before .before .before .before .before .before .before .before .args) .rows .now) ((c .before .before .before .before .before .before .before .before .before .args) .parts .now)) ((c .before .before .before .before .before .before .before .before .before .args) .file) ((c .before .before .before .before .before .before .before .before .before .args) .h) ((c .before .before .before .before .before .before .before .before .before .args) .p) ((c .before .before .before .before .before .before .before .before .before .args) .n) ((c .before .before .before .before .before .before .if1) .left) ((c .before .before .before .before .before .part) .ensures .0) ((c .before .before .before .s) .given .1) in
-    let e = (c .before .spend-row) .ensures in
-    let g = (c .spend-parts2) .ensures in
-    omega arith
+) (spend-parts-at t) spend-parts.Post spend-parts-Inv-loop spend-parts-μ-loop
+spend-parts-returns t c = spending-last (tab ((c .before .before .before .before .args) .rows .now) ((c .before .before .before .before .args) .parts .now)) ((c .before .before .before .before .args) .file) ((c .before .before .before .before .args) .h) ((c .before .before .before .before .args) .p) ((c .before .before .before .before .args) .n) ((c .before .before .before .before .args) .left) ((c .before .loop) .rest) ((c .before .loop) .i) ((c .before .loop) .inv) ((c .loop-test) .left)
 
 -- src/lib.rt:26:9
 spend-row-returns : (t : ℕ) → spend-row-lts.Need-returns (
@@ -818,26 +734,24 @@ pub +spend-parts+spend-row+spend-stack+spend-value-spec : {M : Type 1} → state
     close μ-spend-parts μ-spend-row μ-spend-stack μ-spend-value (λ t. spend-parts-lts.spec (
       part-reads.Asked,
       part-reads.Learnt,
-      spend-parts-below t,
-      spend-parts.Post,
+      row-of-reads.Asked,
+      row-of-reads.Learnt,
       spend-row-below t,
       spend-row.Post,
     )
     (spend-parts-at t)
     spend-parts.Post
-    (spend-parts-returns t)
+    spend-parts-Inv-loop
+    spend-parts-μ-loop
+    (spend-parts-loop-holds t)
+    (spend-parts-add-part t)
     (spend-parts-part-requires t)
-    (spend-parts-enum-told t)
-    (spend-parts-add-spend-parts t)
-    (spend-parts-sub-spend-parts t)
-    (spend-parts-spend-parts-requires t)
-    (spend-parts-enum-known-s t)
+    (spend-parts-row-of-requires t)
     (spend-parts-spend-row-requires t)
-    (spend-parts-add-spend-parts-2 t)
-    (spend-parts-sub-spend-parts-2 t)
-    (spend-parts-spend-parts-requires-2 t)
-    (spend-parts-returns-2 t)
-    (spend-parts-returns-3 t))
+    (spend-parts-add-i t)
+    (spend-parts-loop-less t)
+    (spend-parts-loop-again t)
+    (spend-parts-returns t))
     (λ t. spend-row-lts.spec (
       is-stack-reads.Asked,
       is-stack-reads.Learnt,
