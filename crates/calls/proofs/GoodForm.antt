@@ -8,7 +8,7 @@ use mathlib.Core.Option.{none}
 use mathlib.Core.List.{List, [], _∷_, map}
 use lib.ListN.{length, length-map, replicate}
 use Rattle.valid.specs.Program.{programOf}
-use Rattle.exec.specs.Machine.{Word, integer, handle, junkWord, Memory, puts, State, Bodies, flat, startOf, go, step}
+use Rattle.exec.specs.Machine.{Word, integer, handle, junkWord, Memory, puts, State, Bodies, flat, startOf}
 use Rattle.exec.specs.Run.{run, wordsFrom, inUse, startsAt, goodForm, longEnough, bodies, barred, initial}
 use Rattle.sound.proofs.Memory.{Long, puts-long, use-puts}
 use Rattle.sound.proofs.GoodForm.{true-long}
@@ -16,7 +16,7 @@ use Rattle.calls.proofs.All.{All, all-replicate}
 use Rattle.calls.proofs.Startable.{Startable, start-in, startable}
 use Rattle.calls.proofs.Tuples.{one-tuple}
 use Rattle.calls.proofs.Form.{Good, good-integer, good-handle, good-junk, Form, to-form, form-long, form-good}
-use Rattle.calls.proofs.Kept.{step-keeps, run-keeps}
+use Rattle.calls.proofs.Kept.{run-keeps}
 
 -- ---- the first state
 integers-good : (H : List Word) (xs : List ℕ) → All (Good H) (map integer xs)
@@ -71,9 +71,6 @@ module _ (text : List ℕ) (free : barred text ≡ none) where
 
   pub first-form : (xs : List ℕ) → length xs ≤ 16 → (σ : State) → longEnough σ ≡ true → WellFormed text (initial xs σ)
   first-form xs h σ l = from-parts (initial xs σ) (first-keeps P (startable text free) xs h σ l)
-
-  pub step-form : (σ σ′ : State) → WellFormed text σ → step P σ ≡ go σ′ → WellFormed text σ′
-  step-form σ σ′ w e = from-parts σ′ (rw e at (step-keeps P σ (parts σ w) (startable text free)))
 
   pub run-form : (n : ℕ) (σ : State) → WellFormed text σ → WellFormed text (run P n σ .state)
   run-form n σ w = from-parts (run P n σ .state) (run-keeps P (startable text free) n σ (parts σ w))

@@ -10,14 +10,14 @@ use lib.ListN.{length, length-append, getElem?, replicate}
 use Rattle.syntax.specs.Syntax.{value, Instr, Entry, row, block, instr}
 use Rattle.syntax.specs.Fault.{Clear}
 use Rattle.text.specs.PassOne.{isLast, passOne, entriesOf, rowsOf, Listing, grouped, listingsOf}
-use Rattle.types.specs.Types.{Ty, int, junk, var, tuple, pointer, code, Arg}
+use Rattle.types.specs.Types.{Arg}
 use Rattle.types.specs.Rows.{typeAt, typesOf}
 use Rattle.types.proofs.Equal.{none-true}
-use Rattle.valid.specs.Program.{Block, blockOf, blocksOf, programFrom, programOf}
+use Rattle.valid.specs.Program.{Block, blocksOf, programFrom, programOf}
 use Rattle.valid.specs.Verdict.{passTwoOf}
 use Rattle.valid.proofs.Reading.{none-some, some-inj}
 use Rattle.valid.proofs.Clear.{cons-nil, clear-split, earliest-clear}
-use Rattle.valid.proofs.Order.{Closed, ends, goes, blocks-closed}
+use Rattle.valid.proofs.Order.{Closed, ends, goes, body-of, blocks-closed}
 use Rattle.exec.specs.Machine.{Bodies, flat, startOf}
 use Rattle.exec.specs.Run.{bodies, barred}
 use Rattle.exec.proofs.Barred.{firstFaults, entryPass, barred-is}
@@ -31,16 +31,6 @@ pub record Startable (P : Bodies) : Type 0 where
   pub fit : All Fit (flat P)
 
 -- ---- from the text
--- a block's body is its listing's
-body-of : (t : Ty value) (xs : List Instr) → blockOf t xs .body ≡ xs
-unfolding blockOf
-body-of int xs = refl
-body-of junk xs = refl
-body-of (var k) xs = refl
-body-of (tuple a) xs = refl
-body-of (pointer a) xs = refl
-body-of (code q a r) xs = refl
-
 abbrev listed : List Listing → Bodies
 listed bs = map (λ b. b .body) bs
 

@@ -16,6 +16,7 @@ plus k (stackFullAfter n) = stackFullAfter (k + n)
 plus k (heapFullAfter n) = heapFullAfter (k + n)
 plus k (stuckAfter n) = stuckAfter (k + n)
 
+-- the call was refused, with some number and line
 abbrev pub IsRefused : Outcome → Type 0
 IsRefused o = (n : ℕ) × (line : ℕ) × (o .answer ≡ refused n line)
 
@@ -29,6 +30,7 @@ pub record Adds (first second whole : Outcome) : Type 0 where
 abbrev pub ThenContinues : List ℕ → ℕ → Outcome → Outcome → Type 0
 ThenContinues text n first whole = ¬ IsRefused first → Adds first (continuing text n (first .state)) whole
 
+-- the claim, of startings and of continuings
 abbrev pub BudgetsAdd : Type 0
 BudgetsAdd =
     (text : List ℕ) (m n : ℕ) (σ : State) → m + n ≤ 1000000

@@ -8,17 +8,18 @@ use mathlib.Core.List.{List, [], _∷_, _++_}
 use lib.Dec.{eqb, ltb}
 use lib.ListN.{length, replicate, length-replicate}
 use borrow.Author.Tests.{ne-eqb, eq-eqb, lt-ltb, le-ltb, eqb-true, ltb-true, ltb-false}
-use Rattle.syntax.specs.Syntax.{value, stack, Instr}
+use Rattle.syntax.specs.Syntax.{value, stack}
 use Rattle.syntax.specs.Fault.{Refusal, lowestLine, orElse, earliest}
 use Rattle.text.specs.PassOne.{Listing, passOne, entriesOf, listingsOf}
-use Rattle.types.specs.Types.{Ty, int, junk, var, tuple, pointer, code, items, Arg}
+use Rattle.types.specs.Types.{items, Arg}
 use Rattle.types.specs.Rows.{typeAt, typesOf}
 use Rattle.tables.specs.Tables.{cell, rowsIn, OperandTable, instrsFrom, blocksFrom}
-use Rattle.tables.proofs.Steps.{endOf, end-inner, end-last, listingAt, blocks-step}
+use Rattle.tables.proofs.Steps.{length-instrs, endOf, end-inner, end-last, listingAt, blocks-step}
 use Rattle.rows.specs.Read.{tab}
-use Rattle.valid.specs.Program.{Block, Program, blockOf, blocksOf, programFrom, programOf}
+use Rattle.valid.specs.Program.{Block, Program, blocksOf, programFrom, programOf}
 use Rattle.valid.specs.PassThree.{passThree}
 use Rattle.valid.specs.Verdict.{Verdict, accepted, refused, instrCount, answer, passTwoOf, passes, check}
+use Rattle.valid.proofs.Order.{body-of}
 use Rattle.premises.specs.Answers.{In, ItemIs, Holds}
 use Rattle.decode_store.specs.Store.{Store, store, rowTable, operandsOf}
 use Rattle.load.specs.declared.Loaded.{Loaded}
@@ -38,20 +39,6 @@ module _ (T : List Arg) (β ι : List ℕ) (ω : OperandTable) (ni nb : ℕ) whe
   abbrev startAt : ℕ → ℕ
   startAt b = cond (ltb b nb) (cell 2 β b 1) ni
 
-  length-instrs : (j k : ℕ) → length (instrsFrom ι ω j k) ≡ k
-  unfolding instrsFrom
-  length-instrs j zero = refl
-  length-instrs j (suc k) = ap suc (length-instrs (suc j) k)
-
-  body-of : (t : Ty value) (xs : List Instr) → blockOf t xs .body ≡ xs
-  unfolding blockOf
-  body-of int xs = refl
-  body-of junk xs = refl
-  body-of (var k) xs = refl
-  body-of (tuple a) xs = refl
-  body-of (pointer a) xs = refl
-  body-of (code q a r) xs = refl
-
   end-start : (b : ℕ) → endOf β ni nb b ≡ startAt (b + 1)
   unfolding endOf
   end-start b = refl
@@ -62,7 +49,7 @@ module _ (T : List Arg) (β ι : List ℕ) (ω : OperandTable) (ni nb : ℕ) whe
 
   more : (b : ℕ) → instrCount (blocksOf T (listingAt β ι ω ni nb b ∷ blocksFrom β ι ω ni (b + 1) (nb - (b + 1)))) ≡ (endOf β ni nb b - cell 2 β b 1) + instrCount (blocksOf T (blocksFrom β ι ω ni (b + 1) (nb - (b + 1))))
   unfolding instrCount blocksOf
-  more b = ap (λ (x : ℕ). x + instrCount (blocksOf T (blocksFrom β ι ω ni (b + 1) (nb - (b + 1))))) (ap length (body-of (typeAt value T (cell 2 β b 0)) (instrsFrom ι ω (cell 2 β b 1) (endOf β ni nb b - cell 2 β b 1))) ∙ length-instrs (cell 2 β b 1) (endOf β ni nb b - cell 2 β b 1))
+  more b = ap (λ (x : ℕ). x + instrCount (blocksOf T (blocksFrom β ι ω ni (b + 1) (nb - (b + 1))))) (ap length (body-of (typeAt value T (cell 2 β b 0)) (instrsFrom ι ω (cell 2 β b 1) (endOf β ni nb b - cell 2 β b 1))) ∙ length-instrs ι ω (cell 2 β b 1) (endOf β ni nb b - cell 2 β b 1))
 
   module _ (rise : (b : ℕ) → b < nb → cell 2 β b 1 ≤ endOf β ni nb b) where
     -- the blocks from b on have the instructions from b's start on
@@ -195,9 +182,6 @@ module _ (text : List ℕ) (σ : Store) (uses tops : List ℕ) (r : Loaded) (d :
   pub blocks-are : (T : List Arg) → T ≡ typesOf (rowsIn (rowTable σ) (r .rows)) → programOf text .blocks ≡ blocksOf T bs
   unfolding programOf programFrom
   blocks-are T e = ap₂ blocksOf (ap typesOf (sym (d .rows)) ∙ sym e) (sym (d .blocks))
-
-  T₀ : List Arg
-  T₀ = typesOf (rowsIn (rowTable σ) (r .rows))
 
   pub counts : (f : Finding) → Refuses f (third text) → f .number ≡ 0 → (r .blocks ≡ length (programOf text .blocks)) × (r .instrs ≡ instrCount (programOf text .blocks))
   counts f q z = go (r .blocks) refl

@@ -17,10 +17,12 @@ use Rattle.checker.specs.declared.Answer.the-variants.{Accepted, Refused
 pub data Said : Type 0 where
   accept refuse : ℕ → ℕ → Said
 
+-- what the definition says
 unfoldable pub saidOf : Verdict → Said
 saidOf (accepted b i) = accept b i
 saidOf (refused r) = refuse (r .number) (r .line)
 
+-- what the code's answer says; an unfitting item stands at fault 10 alone
 abbrev pub saidBy : Answer → Said
 saidBy (Accepted b i) = accept b i
 saidBy (Refused n l) = refuse n l

@@ -206,10 +206,6 @@ module _ (T : List Arg) where
       go true e = let k = and-inv (leb (items b) d) (same b (spOf T sp (items b))) e in is-tail sp d b (leb-true (items b) d (k .0)) (same-sound b (spOf T sp (items b)) (k .1))
       go false e = other (above b (spOf T sp d)) refl e
 
-  -- an item written below depth m: what is above stays
-  pub set-below : (sp : List ℕ) (m d i x : ℕ) → m ≤ d → i < m → join (spAbove T sp m (d - m)) (spOf T (set sp i x) m) ≡ spOf T (set sp i x) d
-  set-below sp m d i x h q = rw (← (above-set sp m (d - m) i x q)) (sym (split-is (set sp i x) m d h))
-
 -- ---- what the functions of this crate promise
 pub values-told : (sp : List ℕ) (d k : ℕ) {b : Bool} → b ≡ areValues sp d k → (b ≡ areValues sp d k) × ((T : List Arg) → under k (spOf T sp d) ≡ when b (spOf T sp (d - k)))
 values-told sp d k e = (e, λ T. under-is T sp d k ∙ ap (λ (v : Bool). when v (spOf T sp (d - k))) (sym e))

@@ -6,8 +6,8 @@ use mathlib.Core.Bool.{Bool, true, false, cond}
 use mathlib.Core.Option.{none, some}
 use mathlib.Core.List.{List, [], _∷_, _++_}
 use Rattle.syntax.specs.Fault.{Fault, numberOf, lowest}
-use Rattle.valid.specs.PassThree.{Judged, holds, fails, faultsOf, _▹_, _&_, orFault, need}
-use Rattle.syntax.proofs.Least.{least, least-none, leastOf}
+use Rattle.valid.specs.PassThree.{Judged, holds, fails, _▹_, _&_, orFault, need}
+use Rattle.syntax.proofs.Least.{least, least-none}
 use Rattle.context.specs.Told.{gives, lacks, toldOf, answer}
 
 absurd-told : {A B : Type 0} {x : A} {n : ℕ} → gives x ≡ lacks n → B
@@ -42,14 +42,6 @@ pub both-second : (a b : ℕ) → b ≡ 0 → a ≡ least a b
 both-second a b e = rw e (sym (least-none a))
 
 -- ---- what the code answers
--- the number that it answers is the least fault's
-pub told-least : {A : Type 0} (m : Judged A) (n : ℕ) (x : A) → toldOf m ≡ answer n x → leastOf (faultsOf m) ≡ n
-unfolding toldOf answer leastOf faultsOf
-told-least (holds y) zero x e = refl
-told-least (holds y) (suc n) x e = absurd-told e
-told-least (fails f fs) zero x e = absurd-told (sym e)
-told-least (fails f fs) (suc n) x e = cc
-
 -- without a fault the premise holds
 pub told-holds : {A : Type 0} (m : Judged A) (n : ℕ) (x : A) → toldOf m ≡ answer n x → n ≡ 0 → m ≡ holds x
 unfolding toldOf answer

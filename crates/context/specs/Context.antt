@@ -16,6 +16,7 @@ unfoldable pub linked : List Arg → ℕ → Option (Ty value)
 linked T zero = none
 linked T (suc t) = some (typeAt value T t)
 
+-- registers with a link's type before them
 abbrev pub onLink : List Arg → ℕ → Ty stack → Ty stack
 onLink T zero a = gap a
 onLink T (suc t) a = push (typeAt value T t) a
@@ -25,6 +26,7 @@ unfoldable pub regsFrom : List Arg → List ℕ → ℕ → ℕ → Ty stack
 regsFrom T regs i zero = nil
 regsFrom T regs i (suc n) = onLink T (getD regs i 0) (regsFrom T regs (suc i) n)
 
+-- the eight registers
 abbrev pub regsOf : List Arg → List ℕ → Ty stack
 regsOf T regs = regsFrom T regs 0 8
 
@@ -33,6 +35,7 @@ regsOf T regs = regsFrom T regs 0 8
 abbrev pub firstVar : ℕ
 firstVar = 1024
 
+-- a stack with the item of entry x on top
 abbrev pub onItem : List Arg → ℕ → Ty stack → Ty stack
 onItem T x a = cond (ltb x firstVar) (push (typeAt value T x) a) (svar (x - firstVar) a)
 
@@ -52,5 +55,6 @@ areValues sp d zero = true
 areValues sp zero (suc k) = false
 areValues sp (suc d) (suc k) = ltb (getD sp d 0) firstVar && areValues sp d k
 
+-- Γ: the d lowest entries of sp, and the registers
 abbrev pub contextOf : List Arg → List ℕ → List ℕ → ℕ → Context
 contextOf T regs sp d = record { sp = spOf T sp d; regs = regsOf T regs }

@@ -8,6 +8,7 @@ pub data Told (A : Type 0) : Type 0 where
   gives : A → Told A
   lacks : ℕ → Told A
 
+-- what is told of a premise
 unfoldable pub toldOf : {A : Type 0} → Judged A → Told A
 toldOf (holds x) = gives x
 toldOf (fails f fs) = lacks (lowest (numberOf f) fs)

@@ -14,6 +14,7 @@ use Rattle.decode_store.specs.declared.Line.{Line}
 use Rattle.decode_store.specs.declared.Line.the-variants.{NoForm, Row, Block, Instruction, Last}
 use Rattle.decode.specs.declared.Read.{Read}
 
+-- before the first line
 abbrev pub noneUsed : Used
 noneUsed = record { rows = 0; blocks = 0; instrs = 0; operands = 0 }
 
@@ -21,6 +22,7 @@ noneUsed = record { rows = 0; blocks = 0; instrs = 0; operands = 0 }
 abbrev pub refusalOf : Read → Option Refusal
 refusalOf r = cond (eqb (r .fault) 0) none (some (record { number = r .fault; line = r .line; items = [] }))
 
+-- the answer that names fault n on a line
 abbrev pub faultyRead : ℕ → ℕ → Read
 faultyRead n line = record { fault = n; line = line; rows = 0; blocks = 0; instrs = 0 }
 
@@ -46,11 +48,13 @@ pub record ReadIs (text : List ℕ) (σ : Store) (r : Read) : Type 0 where
   pub decoded : r .fault ≡ 0 → Decoded text σ r
 
 -- ---- the places of a line, as numbers
+-- 0 among the type lines, 1 in a block, else behind one
 abbrev pub placeOf : ℕ → Place
 placeOf zero = atRows
 placeOf (suc zero) = inBlock
 placeOf (suc (suc n)) = behindBlock
 
+-- the place behind a line that stood at p
 abbrev pub placeBehind : Line → ℕ → ℕ
 placeBehind NoForm p = p
 placeBehind Row p = 0
@@ -59,9 +63,11 @@ placeBehind (Instruction n) p = 1
 placeBehind (Last n) p = 2
 
 -- ---- a line's fault, 0 for none
+-- 2 out of order, 3 where no place is left
 abbrev pub faultOf : Bool → Bool → ℕ
 faultOf in-order full = cond in-order (cond full 3 0) 2
 
+-- the fault of a line that stands at p, with what is in use before it
 abbrev pub lineFault : Line → ℕ → Used → ℕ
 lineFault NoForm p u = 1
 lineFault Row p u = faultOf (eqb p 0) (leb 512 (u .rows))

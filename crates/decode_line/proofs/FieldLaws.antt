@@ -20,7 +20,8 @@ use Rattle.numbers.specs.declared.Number.the-variants.{Value, Bad}
 use Rattle.numbers.proofs.Laws.{number-bounds}
 use Rattle.fields.specs.Answers.{knownFrom}
 use Rattle.decode_line.specs.Fields.{fieldsFrom, plainField, readSlot, readSlots, keptAs, partNumber}
-use Rattle.decode_line.specs.Forms.{formCell, kindsOf}
+use Rattle.decode_line.specs.Forms.{formCell, kindsOf, formOf}
+use Rattle.decode_line.specs.declared.Form.{Form}
 use Rattle.decode_line.specs.Answers.{slotOf}
 use Rattle.decode_line.specs.declared.Slot.{Slot}
 use Rattle.decode_line.proofs.Walk.{fields-past, fields-next}
@@ -158,5 +159,9 @@ slots-are line at ks k l m n x y z w t u v is a b c d e f g =
     ∙ four-slots line at k l m n (x .ok) (y .ok) (z .ok) (w .ok) (x .value) (y .value) (z .value) (w .value) (x .next) (y .next) (z .next) (w .next) a b c d
     ∙ ap (λ (l : List ℕ). readSlots l (fieldsFrom line at)) (sym is)
 
-pub kinds-are : (code : ℕ) {k l m n : ℕ} → k ≡ formCell code 0 → l ≡ formCell code 1 → m ≡ formCell code 2 → n ≡ formCell code 3 → kindsOf code ≡ k ∷ l ∷ m ∷ n ∷ []
-kinds-are code a b c d = cc
+-- a form that was read
+pub form-slots : (code : ℕ) (f : Form) (fs : List (List ℕ)) → f ≡ formOf code → readSlots (f .a ∷ f .b ∷ f .c ∷ f .d ∷ []) fs ≡ readSlots (kindsOf code) fs
+form-slots code f fs e = ap (λ (g : Form). readSlots (g .a ∷ g .b ∷ g .c ∷ g .d ∷ []) fs) e
+
+pub form-most : (code : ℕ) (f : Form) → f ≡ formOf code → f .most ≡ formCell code 4
+form-most code f e = ap (λ (g : Form). g .most) e

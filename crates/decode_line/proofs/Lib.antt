@@ -4,3 +4,4 @@ pub mod FieldLaws
 pub mod PartLaws
 pub mod OperandLaws
 pub mod LineLaws
+pub mod Words

@@ -7,6 +7,7 @@ use lib.Dec.{eqb, ltb}
 use lib.ListN.{getD}
 use Rattle.syntax.specs.Syntax.{Row, Base, reg, Operand, plain, add, sub, mul, beq, bneq, bgt, blt, bgte, blte, Instr, aop, bop, mov, ld, st, malloc, getsp, setsp, salloc, sfree, sld, sst, slp, ssp, jmp, halt, Entry, row, block, instr}
 use Rattle.tables.specs.Tables.{rowFrom}
+use Rattle.decode_line.specs.declared.Form.{Form}
 
 -- by the form's place: the kinds of its plain fields, as in `plainField`, 0 for none; then how many operands follow: none, one, or up to 16
 unfoldable pub formTable : List (List ℕ)
@@ -52,6 +53,9 @@ formCell code i = getD (getD formTable code []) i 0
 
 abbrev pub kindsOf : ℕ → List ℕ
 kindsOf code = formCell code 0 ∷ formCell code 1 ∷ formCell code 2 ∷ formCell code 3 ∷ []
+
+abbrev pub formOf : ℕ → Form
+formOf code = record { a = formCell code 0; b = formCell code 1; c = formCell code 2; d = formCell code 3; most = formCell code 4 }
 
 -- where one operand may follow it must
 abbrev pub fewest : ℕ → ℕ

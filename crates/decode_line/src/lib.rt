@@ -1,53 +1,63 @@
 // A line's fields into the tables.
 ghost use mathlib.Core.Path.{_≡_};
 ghost use mathlib.Core.Bool.{_&&_};
+ghost use mathlib.Core.List.{[], _∷_};
 ghost use Prim.Native.Nat.{_+_, _*_, _≤_, _<_};
 ghost use lib.ListN.{length, set};
 ghost use Rattle.numbers.specs.Numbers.{numberOf};
 ghost use Rattle.decode_line.specs.Fields.{fieldsFrom, plainField, readSlot, readSlots, partNumber};
-ghost use Rattle.decode_line.specs.Forms.{formCell, kindsOf, fewest};
+ghost use Rattle.decode_line.specs.Forms.{formOf, fewest};
 ghost use Rattle.decode_line.specs.Answers.{slotOf, slotsOf, PartsRead, withOperand, operandTable, OperandRoom, OperandsRead, noEntry, PlainIs, RowIs, FormIs};
 use fields::OperandRead;
 use numbers::Number;
 
-// By the form's place: the kinds of its plain fields, 1 register, 2 row, 3 index, 4 amount, 0 for none; then how many
-// operands follow: none, one, or up to 16.
-const FORMS: [[u16; 5]; 34] = [
-    [0, 0, 0, 0, 0], // I
-    [0, 0, 0, 0, 0], // N
-    [3, 0, 0, 0, 0], // V
-    [0, 0, 0, 0, 0], // U
-    [2, 0, 0, 0, 0], // P
-    [0, 0, 0, 0, 0], // C
-    [0, 0, 0, 0, 0], // E
-    [3, 0, 0, 0, 0], // X
-    [2, 2, 0, 0, 0], // K
-    [2, 2, 0, 0, 0], // A
-    [2, 0, 0, 0, 0], // B
-    [1, 1, 0, 0, 1], // add
-    [1, 1, 0, 0, 1], // sub
-    [1, 1, 0, 0, 1], // mul
-    [1, 0, 0, 0, 1], // beq
-    [1, 0, 0, 0, 1], // bneq
-    [1, 0, 0, 0, 1], // bgt
-    [1, 0, 0, 0, 1], // blt
-    [1, 0, 0, 0, 1], // bgte
-    [1, 0, 0, 0, 1], // blte
-    [1, 0, 0, 0, 1], // mov
-    [1, 1, 3, 0, 0], // ld
-    [1, 3, 1, 0, 0], // st
-    [1, 2, 0, 0, 16], // malloc
-    [1, 2, 0, 0, 0], // getsp
-    [1, 0, 0, 0, 0], // setsp
-    [4, 0, 0, 0, 0], // salloc
-    [4, 0, 0, 0, 0], // sfree
-    [1, 3, 0, 0, 0], // sld
-    [3, 1, 0, 0, 0], // sst
-    [1, 1, 3, 0, 0], // slp
-    [1, 3, 1, 2, 0], // ssp
-    [0, 0, 0, 0, 1], // jmp
-    [2, 0, 0, 0, 0], // halt
+// By the form's place: the kinds of its plain fields, 1 register, 2 row, 3 index, 4 amount, 0 for none, the first the lowest of four octal
+// digits; above them how many operands follow: none, one, or up to 16.
+const FORMS: [u32; 34] = [
+    0, // I
+    0, // N
+    3, // V
+    0, // U
+    2, // P
+    0, // C
+    0, // E
+    3, // X
+    18, // K
+    18, // A
+    2, // B
+    4105, // add
+    4105, // sub
+    4105, // mul
+    4097, // beq
+    4097, // bneq
+    4097, // bgt
+    4097, // blt
+    4097, // bgte
+    4097, // blte
+    4097, // mov
+    201, // ld
+    89, // st
+    65553, // malloc
+    17, // getsp
+    1, // setsp
+    4, // salloc
+    4, // sfree
+    25, // sld
+    11, // sst
+    201, // slp
+    1113, // ssp
+    4096, // jmp
+    2, // halt
 ];
+
+// What FORMS says of a form: the kinds of its plain fields, and the most operands.
+pub struct Form {
+    pub a: u16,
+    pub b: u16,
+    pub c: u16,
+    pub d: u16,
+    pub most: u16,
+}
 
 // A plain field's number, and where the next field starts.
 pub struct Slot {
@@ -66,6 +76,7 @@ pub struct Slots {
     pub next: usize,
 }
 
+// How many operands or components were read, if all of them could be.
 pub struct Count {
     pub ok: bool,
     pub count: u16,
@@ -95,11 +106,19 @@ fn no_entry() -> Said
     }
 }
 
-fn form_cell(code: usize, i: usize) -> u16
-    requires { ⌜ (code < 34) × (i < 5) ⌝ }
-    ensures { λ r. ⌜ r ≡ formCell code i ⌝ }
+// The entry of FORMS, taken apart.
+fn form_at(code: usize) -> Form
+    requires { ⌜ code < 34 ⌝ }
+    ensures { λ r. ⌜ r ≡ formOf code ⌝ }
 {
-    FORMS[code][i]
+    let w = FORMS[code];
+    Form {
+        a: (w % 8) as u16,
+        b: (w / 8 % 8) as u16,
+        c: (w / 64 % 8) as u16,
+        d: (w / 512 % 8) as u16,
+        most: (w / 4096 % 32) as u16,
+    }
 }
 
 fn both(a: bool, b: bool) -> bool
@@ -123,17 +142,11 @@ fn plain_field(f: &[u8], kind: u16) -> Number
     }
 }
 
-// The field at `at`, if there is one. Kind 0 takes no field.
-fn read_slot(rest: &[u8], at: usize, kind: u16) -> Slot
+// The field at `at`, if there is one.
+fn read_field(rest: &[u8], at: usize, kind: u16) -> Slot
+    requires { ⌜ (kind ≡ 0 → ⊥) ⌝ }
     ensures { λ r. ⌜ slotOf (now (rest .entry)) r ≡ readSlot kind (fieldsFrom (now (rest .entry)) at) ⌝ }
 {
-    if kind == 0 {
-        return Slot {
-            ok: true,
-            value: 0,
-            next: at,
-        };
-    }
     if rest.len() < at {
         return Slot {
             ok: false,
@@ -156,15 +169,28 @@ fn read_slot(rest: &[u8], at: usize, kind: u16) -> Slot
     }
 }
 
-// The plain fields of the form at place `code`.
-fn read_slots(rest: &[u8], at: usize, code: usize) -> Slots
-    requires { ⌜ code < 34 ⌝ }
-    ensures { λ r. ⌜ slotsOf (now (rest .entry)) r ≡ readSlots (kindsOf code) (fieldsFrom (now (rest .entry)) at) ⌝ }
+// The same; kind 0 takes no field.
+fn read_slot(rest: &[u8], at: usize, kind: u16) -> Slot
+    ensures { λ r. ⌜ slotOf (now (rest .entry)) r ≡ readSlot kind (fieldsFrom (now (rest .entry)) at) ⌝ }
 {
-    let a = read_slot(rest, at, form_cell(code, 0));
-    let b = read_slot(rest, a.next, form_cell(code, 1));
-    let c = read_slot(rest, b.next, form_cell(code, 2));
-    let d = read_slot(rest, c.next, form_cell(code, 3));
+    if kind == 0 {
+        return Slot {
+            ok: true,
+            value: 0,
+            next: at,
+        };
+    }
+    read_field(rest, at, kind)
+}
+
+// The plain fields of a form.
+fn read_slots(rest: &[u8], at: usize, f: Form) -> Slots
+    ensures { λ r. ⌜ slotsOf (now (rest .entry)) r ≡ readSlots (f .a ∷ f .b ∷ f .c ∷ f .d ∷ []) (fieldsFrom (now (rest .entry)) at) ⌝ }
+{
+    let a = read_slot(rest, at, f.a);
+    let b = read_slot(rest, a.next, f.b);
+    let c = read_slot(rest, b.next, f.c);
+    let d = read_slot(rest, c.next, f.d);
     Slots {
         ok: both(both(a.ok, b.ok), both(c.ok, d.ok)),
         a: a.value,
@@ -287,11 +313,12 @@ fn read_plain(
     requires { ⌜ (code < 34) × (code ≡ 3 → ⊥) × (code ≡ 5 → ⊥) × OperandRoom (v + 16) (length (now operands)) (length (now numbers)) (length (now args)) ⌝ }
     ensures { λ r. ⌜ PlainIs code (fieldsFrom (now (rest .entry)) at) v (operandTable (now (operands .entry)) (now (numbers .entry)) (now (args .entry))) (operandTable (now (operands .exit)) (now (numbers .exit)) (now (args .exit))) r ⌝ }
 {
-    let x = read_slots(rest, at, code);
+    let f = form_at(code);
+    let x = read_slots(rest, at, f);
     if !x.ok {
         return no_entry();
     }
-    let most = form_cell(code, 4);
+    let most = f.most;
     let n = read_operands(rest, x.next, most, operands, numbers, args, v);
     if !n.ok {
         return no_entry();

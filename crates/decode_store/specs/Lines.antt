@@ -18,6 +18,7 @@ use Rattle.decode_store.specs.declared.Line.{Line}
 use Rattle.decode_store.specs.declared.Line.the-variants.{NoForm, Row, Block, Instruction, Last}
 
 -- ---- what a line adds
+-- how many operands it has
 abbrev pub operandCount : Line → ℕ
 operandCount NoForm = 0
 operandCount Row = 0
@@ -49,6 +50,7 @@ ends Block = false
 ends (Instruction n) = false
 ends (Last n) = true
 
+-- what is said is a block's last instruction
 abbrev pub endsBlock : Option Entry → Bool
 endsBlock none = false
 endsBlock (some (row r)) = false
@@ -64,19 +66,24 @@ pub record LineIs (line : List ℕ) (u : Used) (before after : Store) (l : Line)
   pub starts : l ≡ Block → cell 2 (after .blocks) (u .blocks) 1 ≡ u .instrs
 
 -- ---- what is stored of a line of the form at place `code`
+-- the rows, with it as the next one if it is a type line
 abbrev pub rowPut : ℕ → Said → Used → List ℕ → List ℕ
 rowPut code s u rows = cond (ltb code 10) (sets rows (4 * u .rows) (code ∷ s .a ∷ s .b ∷ [])) rows
 
+-- the blocks, with it as the next one if it is a block's line
 abbrev pub blockPut : ℕ → Said → Used → List ℕ → List ℕ
 blockPut code s u blocks = cond (eqb code 10) (sets blocks (2 * u .blocks) (s .a ∷ u .instrs ∷ [])) blocks
 
+-- the instructions, with it as the next one if it is an instruction
 abbrev pub instrPut : ℕ → Said → Used → List ℕ → List ℕ
 instrPut code s u instrs =
     cond (ltb 10 code) (sets instrs (8 * u .instrs) ((code - 11) ∷ s .a ∷ s .b ∷ s .c ∷ s .d ∷ u .operands ∷ s .count ∷ [])) instrs
 
+-- which kind of line it is, with n operands
 abbrev pub lineOf : ℕ → ℕ → Line
 lineOf code n = cond (ltb code 10) Row (cond (eqb code 10) Block (cond (ltb code 32) (Instruction n) (Last n)))
 
+-- the tables after it, and which kind of line it is
 pub record Stored (code : ℕ) (s : Said) (u : Used) (rows instrs blocks rows′ instrs′ blocks′ : List ℕ) (l : Line) : Type 0 where
   pub row : rows′ ≡ rowPut code s u rows
   pub instr : instrs′ ≡ instrPut code s u instrs

@@ -7,6 +7,7 @@ use Rattle.tables.specs.Tables.{RowTable, OperandTable}
 use Rattle.decode_line.specs.Answers.{SameOperands}
 use Rattle.decode_store.specs.declared.Used.{Used}
 
+-- all tables of a decoded text
 pub record Store : Type 0 where
   pub rows : List ℕ
   pub parts : List ℕ
@@ -16,13 +17,16 @@ pub record Store : Type 0 where
   pub instrs : List ℕ
   pub blocks : List ℕ
 
+-- the tables, as the functions are lent them
 abbrev pub store : List ℕ → List ℕ → List ℕ → List ℕ → List ℕ → List ℕ → List ℕ → Store
 store rows parts operands numbers args instrs blocks =
     record { rows = rows; parts = parts; operands = operands; numbers = numbers; args = args; instrs = instrs; blocks = blocks }
 
+-- its rows and their parts
 abbrev pub rowTable : Store → RowTable
 rowTable σ = record { rows = σ .rows; parts = σ .parts }
 
+-- its operands, their numbers and their arguments
 abbrev pub operandsOf : Store → OperandTable
 operandsOf σ = record { operands = σ .operands; numbers = σ .numbers; args = σ .args }
 

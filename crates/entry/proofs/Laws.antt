@@ -104,10 +104,6 @@ module _ (v : ℕ → Ty value) (ps : List ℕ) (h p k : ℕ) where
   gaps-end i l = let q : k - i ≡ 0 = omega arith in rw q refl
 
 -- ---- r1
-module _ (t : Ty value) where
-  abbrev none-of : Samples → Type 0
-  none-of s = Declares (push t) s
-
 pub declares-none : (t : Ty value) (s : Samples) → s ≡ record { fit = false; count = 0 } → ((g : Ty stack) → 0 ≡ declared (push t g)) → same t (tuple nil) ≡ false → Declares (push t) s
 unfolding same entryRegs ints
 declares-none t s e d n = record {

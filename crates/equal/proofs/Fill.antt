@@ -18,15 +18,16 @@ use Rattle.types.proofs.Equal.{and-inv}
 use Rattle.tables.specs.Tables.{RowTable, span, letterOf, lettersAt, rowsIn}
 use Rattle.rows.specs.declared.Val.{Val}
 use Rattle.rows.specs.declared.Val.the-variants.{Int, Junk, ValVar, ValFill, Tuple, Pointer, Code}
-use Rattle.rows.specs.Read.{lower, valueAt, partsOf, meanV, meanS, mean, placed, acting, valueUnder, stackUnder, partsUnder, codeOf, codeUnder, argOf, argsOf, placeV, OkV, Counted}
+use Rattle.rows.specs.Read.{lower, valueAt, partsOf, meanV, meanS, mean, placed, acting, valueUnder, stackUnder, partsUnder, codeOf, codeUnder, argOf, argsOf, placeV, OkV}
 use Rattle.rows.proofs.Laws.{noArg, typeV, value-read}
-use Rattle.rows.proofs.Bridge.{arg-at, counted-to}
+use Rattle.rows.proofs.Bridge.{arg-at}
 use Rattle.equal.specs.declared.Pair.{Pair}
 use Rattle.equal.specs.declared.Pair.the-variants.{Same, Differ, Filled, Tuples, Pointers, Codes}
 use Rattle.equal.specs.Pairs.{pairOf, lettersFrom}
-use Rattle.equal.specs.Fit.{Tabled, big, fitParts, sameStacks, isFull, fillsTo, fillCodes}
-use Rattle.equal.proofs.Laws.{and-false, and-true, and-swap, same-sym}
-use Rattle.equal.proofs.Meets.{length-args}
+use Rattle.equal.specs.Fit.{Tabled, Spare, big, fitParts, sameStacks, isFull, fillsTo, fillCodes}
+use Rattle.pending.proofs.Meets.{and-false, and-true, and-swap, length-args}
+use Rattle.equal.proofs.Laws.{same-sym}
+use Rattle.equal.proofs.Items.{room-most}
 use Rattle.equal.proofs.Values.{length-letters, letters-at}
 use Rattle.equal.proofs.Plain.{plain-value, plain-stack, plain-parts, plain-code, link-few, link-type}
 
@@ -209,13 +210,19 @@ module _ (τ : RowTable) (n : ℕ) where
   unfolding argsOf
   args-are args e = map-args args e ∙ ap (map (argOf τ)) (sym (span-all args))
 
-  pub tabled-args : (args : List ℕ) (l r c t : ℕ) → Counted τ n → allBelow n args ≡ true → l ≡ lower (n + 1) c → r ≡ lower (n + 1) t → Tabled τ args (length args) l r
-  tabled-args args l r c t k e f g =
-      record { top = n; few = k .few; counted = counted-to τ n k; left = link-few τ args n k l c f; right = link-few τ args n k r t g; given = λ j h. below-at n args j e h }
+  pub tabled-args : (args : List ℕ) (l r c t : ℕ) → n ≤ 514 → allBelow n args ≡ true → l ≡ lower (n + 1) c → r ≡ lower (n + 1) t → Tabled τ args (length args) l r
+  tabled-args args l r c t k e f g = record { top = n; few = k; left = link-few τ args n l c f; right = link-few τ args n r t g; given = λ j h. below-at n args j e h }
 
-  pub fill-types : (args : List ℕ) (l r c t : ℕ) {o : Bool} → Counted τ n → allBelow n args ≡ true → l ≡ lower (n + 1) c → r ≡ lower (n + 1) t → o ≡ fillsTo (argsOf τ args (length args)) (meanV τ l) (meanV τ r)
+  pub spare-args : (args : List ℕ) (l r c t : ℕ) → n ≤ 514 → l ≡ lower (n + 1) c → r ≡ lower (n + 1) t → Spare (length args) l r 1030 516
+  spare-args args l r c t k f g =
+      let a = link-few τ args n l c f in
+      let b = link-few τ args n r t g in
+      let d = room-most (length args) in
+      (omega arith, omega arith, omega arith, omega arith)
+
+  pub fill-types : (args : List ℕ) (l r c t : ℕ) {o : Bool} → allBelow n args ≡ true → l ≡ lower (n + 1) c → r ≡ lower (n + 1) t → o ≡ fillsTo (argsOf τ args (length args)) (meanV τ l) (meanV τ r)
       → o ≡ fillsTo (map (λ (x : ℕ). getD (typesOf (rowsIn τ n)) x noArg) args) (typeAt value (typesOf (rowsIn τ n)) c) (typeAt value (typesOf (rowsIn τ n)) t)
-  fill-types args l r c t k e f g h = h ∙ rw (args-are args e, link-type τ args n k value l c f, link-type τ args n k value r t g) refl
+  fill-types args l r c t e f g h = h ∙ rw (args-are args e, link-type τ args n value l c f, link-type τ args n value r t g) refl
 
 pub codes-of : (τ : RowTable) (args : List ℕ) (l r x p y q : ℕ) {o : Bool} → o ≡ fillCodes τ args l x p r y q → o ≡ fillsTo (argsOf τ args (length args)) (codeOf τ l x p) (codeOf τ r y q)
 unfolding fillCodes

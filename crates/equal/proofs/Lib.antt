@@ -1,5 +1,4 @@
 pub mod Laws
-pub mod Meets
 pub mod Items
 pub mod Values
 pub mod Stacks

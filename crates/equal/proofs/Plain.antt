@@ -12,13 +12,11 @@ use Rattle.types.specs.Types.{Ty, int, junk, var, tuple, pointer, code, nil, pu
 use Rattle.types.specs.Equal.{same}
 use Rattle.types.specs.Rows.{typeAt, typesOf}
 use Rattle.tables.specs.Tables.{RowTable, rowsIn}
-use Rattle.rows.specs.Read.{lower, meanV, meanS, mean, placed, acting, valueUnder, stackUnder, partsUnder, codeOf, codeUnder, partsOf, argsOf, itemsAt, dropS, CountedTo, Counted}
-use Rattle.rows.proofs.Laws.{acting-is, lower-low, items-under}
-use Rattle.rows.proofs.Bridge.{type-at, counted-to}
-use Rattle.equal.specs.Fit.{Tabled, fitValues, fitStacks}
-use Rattle.equal.proofs.Laws.{and-true, starts-same, same-items}
-use Rattle.equal.proofs.Meets.{meets-none}
-use Rattle.equal.proofs.Items.{no-args}
+use Rattle.rows.specs.Read.{lower, meanV, meanS, mean, placed, acting, valueUnder, stackUnder, partsUnder, codeOf, codeUnder, partsOf, argsOf}
+use Rattle.rows.proofs.Laws.{acting-is, lower-low}
+use Rattle.rows.proofs.Bridge.{type-at}
+use Rattle.pending.proofs.Meets.{and-true, no-args, meets-none}
+use Rattle.equal.specs.Fit.{Tabled, Spare, fitValues, sameStacks}
 
 -- ---- a walk that puts each variable for itself
 walk-id : (f : Act) → ((d : ℕ) (κ : Kind) (k : ℕ) → f d κ k ≡ variable κ k) → (d : ℕ) {κ : Kind} (t : Ty κ) → walk f d t ≡ t
@@ -62,34 +60,26 @@ module _ (τ : RowTable) where
   unfolding codeUnder
   plain-code d h x p = plain d (codeOf τ h x p)
 
--- ---- n rows that are counted
-module _ (τ : RowTable) (args : List ℕ) (n : ℕ) (c : Counted τ n) where
+-- ---- n rows
+module _ (τ : RowTable) (args : List ℕ) (n : ℕ) where
   pub link-few : (x l : ℕ) → x ≡ lower (n + 1) l → x ≤ n
   link-few x l e = let h = lower-low (n + 1) l (omega arith) in omega arith
 
-  pub tabled-plain : (x y l r : ℕ) → x ≡ lower (n + 1) l → y ≡ lower (n + 1) r → Tabled τ args 0 x y
-  tabled-plain x y l r e f =
-      record { top = n; few = c .few; counted = counted-to τ n c; left = link-few x l e; right = link-few y r f; given = λ j h. absurd (omega arith) }
+  pub tabled-plain : (x y l r : ℕ) → n ≤ 514 → x ≡ lower (n + 1) l → y ≡ lower (n + 1) r → Tabled τ args 0 x y
+  tabled-plain x y l r c e f = record { top = n; few = c; left = link-few x l e; right = link-few y r f; given = λ j h. absurd (omega arith) }
+
+  pub spare-plain : (x y l r : ℕ) → n ≤ 514 → x ≡ lower (n + 1) l → y ≡ lower (n + 1) r → Spare 0 x y 516 516
+  spare-plain x y l r c e f = let a = link-few x l e in let b = link-few y r f in (omega arith, omega arith, omega arith, omega arith)
 
   pub link-type : (κ : Kind) (x l : ℕ) → x ≡ lower (n + 1) l → typeAt κ (typesOf (rowsIn τ n)) l ≡ mean τ κ x
   link-type κ x l e = let q : suc n ≡ n + 1 = omega arith in type-at τ κ n l ∙ ap (λ z. mean τ κ (lower z l)) q ∙ ap (mean τ κ) (sym e)
-
-  pub link-items : (k x l : ℕ) → x ≡ lower (n + 1) l → k ≡ itemsAt (τ .rows) x → k ≡ items (meanS τ x)
-  link-items k x l e f = f ∙ counted-to τ n c x (link-few x l e)
 
   pub values-are : (x y l r : ℕ) {o : Bool} → x ≡ lower (n + 1) l → y ≡ lower (n + 1) r → o ≡ fitValues τ (argsOf τ args 0) 0 0 x 0 0 y → o ≡ same (typeAt value (typesOf (rowsIn τ n)) l) (typeAt value (typesOf (rowsIn τ n)) r)
   unfolding fitValues
   values-are x y l r e f h =
       h ∙ rw (no-args τ args 0 refl, plain-value τ 0 x, plain-value τ 0 y, meets-none 0 (meanV τ x), link-type value x l e, link-type value y r f) (and-true (same (meanV τ x) (meanV τ y)))
 
-  pub items-plain : (k b x : ℕ) → b ≡ items (meanS τ x) → b ≡ k → k ≡ items (stackUnder τ (argsOf τ args 0) 0 0 x)
-  items-plain k b x e f = rw (no-args τ args 0 refl) (sym f ∙ e ∙ sym (items-under τ 0 0 x))
-
-  pub stacks-are : (k b x y l r : ℕ) {o : Bool} → x ≡ lower (n + 1) l → y ≡ lower (n + 1) r → k ≡ items (meanS τ y) → b ≡ items (meanS τ x) → b ≡ k → o ≡ fitStacks τ (argsOf τ args 0) 0 0 x 0 0 y 0
-      → o ≡ same (typeAt stack (typesOf (rowsIn τ n)) l) (typeAt stack (typesOf (rowsIn τ n)) r)
-  unfolding fitStacks dropS
-  stacks-are k b x y l r e f g i j h =
-      h ∙ rw (no-args τ args 0 refl, plain-stack τ 0 x, plain-stack τ 0 y, meets-none 0 (meanS τ x), link-type stack x l e, link-type stack y r f, starts-same (meanS τ x) (meanS τ y) (sym i ∙ j ∙ g)) (and-true (same (meanS τ x) (meanS τ y)))
-
-  pub stacks-not : (k b x y l r : ℕ) → x ≡ lower (n + 1) l → y ≡ lower (n + 1) r → k ≡ items (meanS τ y) → b ≡ items (meanS τ x) → (b ≡ k → ⊥) → false ≡ same (typeAt stack (typesOf (rowsIn τ n)) l) (typeAt stack (typesOf (rowsIn τ n)) r)
-  stacks-not k b x y l r e f g i z = rw (link-type stack x l e, link-type stack y r f, same-items (meanS τ x) (meanS τ y) (λ h. z (omega arith))) refl
+  pub stacks-are : (x y l r : ℕ) {o : Bool} → x ≡ lower (n + 1) l → y ≡ lower (n + 1) r → o ≡ sameStacks τ (argsOf τ args 0) 0 0 x 0 0 y → o ≡ same (typeAt stack (typesOf (rowsIn τ n)) l) (typeAt stack (typesOf (rowsIn τ n)) r)
+  unfolding sameStacks
+  stacks-are x y l r e f h =
+      h ∙ rw (no-args τ args 0 refl, plain-stack τ 0 x, plain-stack τ 0 y, meets-none 0 (meanS τ x), link-type stack x l e, link-type stack y r f) (and-true (same (meanS τ x) (meanS τ y)))

@@ -1,164 +1,225 @@
 -- Laws of the comparison of stack rows.
 use mathlib.Core.Path.{_≡_, refl, ap, ap₂, sym, _∙_, subst}
 use mathlib.Core.Bool.{Bool, true, false, _&&_, not, cond}
-use mathlib.Core.List.{List, [], _∷_}
+use mathlib.Core.List.{List, [], _∷_, _++_}
 use Prim.Native.Nat.{ℕ, zero, suc, _+_, _-_, _<_, _≤_}
 use native.Mathlib.Omega.{arith}
 use native.Mathlib.Nat.{not-suc-le-zero}
-use native.Mathlib.Numerals.{add-one}
 use lib.Dec.{eqb}
-use lib.ListN.{length, getD}
-use borrow.Author.Tests.{eqb-true, eqb-false}
+use lib.ListN.{length, getD, set, take, drop, length-drop, List·getD-append}
+use lib.Seq.{getD-set-same, getD-take, length-take-le}
+use borrow.Rule.Slice.PartMut.{putMid, postOf}
 use Rattle.syntax.specs.Syntax.{Kind, value, stack}
-use Rattle.types.specs.Types.{Ty, nil, push, svar, gap, join, items, walk, raise, Arg, ofKind, fitsKind, meets}
+use Rattle.types.specs.Types.{Ty, nil, push, svar, gap, join, Arg, meets}
 use Rattle.types.specs.Equal.{same}
 use Rattle.types.proofs.Equal.{same-refl}
-use Rattle.types.proofs.Filling.{items-join}
+use Rattle.types.proofs.Filling.{join-nil}
 use Rattle.tables.specs.Tables.{RowTable}
-use Rattle.rows.specs.declared.Item.{Item}
-use Rattle.rows.specs.declared.Item.the-variants.{NoItem, ValItem, VarItem}
-use Rattle.rows.specs.Read.{isStackAt, meanV, meanS, mean, acting, valueUnder, stackUnder, argsOf, dropS, takeS, Narrowed, ItemOf}
-use Rattle.rows.proofs.Laws.{noArg, items-under, same-under, empty-nil, drop-nil}
-use Rattle.equal.specs.Pairs.{varIs, starts}
-use Rattle.equal.specs.Fit.{AtSame, fitValues, fitStacks, sameStacks}
-use Rattle.equal.proofs.Laws.{and-false, and-true, and-swap, starts-take, starts-same, starts-join, same-items}
-use Rattle.equal.proofs.Meets.{meets-none, arg-type, fits-stack}
-use Rattle.equal.proofs.Items.{raised, no-args}
+use Rattle.rows.specs.Read.{meanV, meanS, valueUnder, stackUnder, argsOf}
+use Rattle.pending.specs.declared.Next.{Next}
+use Rattle.pending.specs.declared.Next.the-variants.{End, OwnNext, GivenNext, VarNext, Wrong}
+use Rattle.pending.specs.Pending.{entryType, pendingType, entryMeets, pendingMeets, Low, Pends, mass, Rest, NextIs}
+use Rattle.pending.proofs.Meets.{and-false, and-true, and-swap, no-args, meets-none}
+use Rattle.pending.proofs.Entries.{own-type, own-meets}
+use Rattle.pending.proofs.Lists.{Agree, mass-agree, pends-agree, type-agree, meets-agree}
+use Rattle.equal.specs.declared.Duo.{Duo}
+use Rattle.equal.specs.declared.Duo.the-variants.{Over, Unlike, Onward, OwnTwo, GivenTwo}
+use Rattle.equal.specs.Pairs.{duoOf}
+use Rattle.equal.specs.Fit.{AtSame, fitValues, sameStacks, fitPending, DuoIs}
 
--- ---- all of a stack against all of another
-module _ (τ : RowTable) (A : List Arg) (by d by₂ d₂ x y c : ℕ) {b : Bool} (e : b ≡ eqb (items (stackUnder τ A by d x)) c) where
-  pub count-of : b ≡ true → c ≡ items (stackUnder τ A by d x)
-  count-of t = sym (eqb-true (items (stackUnder τ A by d x)) c (sym e ∙ t))
-
-  pub stacks-equal : {o : Bool} → b ≡ true → c ≡ items (meanS τ y) → o ≡ fitStacks τ A by d x by₂ d₂ y 0 → o ≡ sameStacks τ A by d x by₂ d₂ y
-  unfolding fitStacks sameStacks dropS
-  stacks-equal t f h =
-      let q : items (stackUnder τ A by d x) ≡ items (stackUnder τ [] by₂ d₂ y) = sym (count-of t) ∙ f ∙ sym (items-under τ by₂ d₂ y) in
-      h ∙ ap (λ z. z && meets A d (meanS τ x)) (starts-same (stackUnder τ A by d x) (stackUnder τ [] by₂ d₂ y) q)
-
-  pub stacks-differ : b ≡ false → c ≡ items (meanS τ y) → false ≡ sameStacks τ A by d x by₂ d₂ y
-  unfolding sameStacks
-  stacks-differ t f =
-      let n = items-under τ by₂ d₂ y in
-      let z = eqb-false (items (stackUnder τ A by d x)) c (sym e ∙ t) in
-      rw (same-items (stackUnder τ A by d x) (stackUnder τ [] by₂ d₂ y) (λ h. z (omega arith))) refl
-
--- ---- rows with no items, the same row, a lower row with the same items
-module _ (τ : RowTable) (A : List Arg) (by d l by₂ d₂ r j : ℕ) where
-  pub s-none : (c : ℕ) → c ≡ items (meanS τ l) → c ≡ 0 → true ≡ fitStacks τ A by d l by₂ d₂ r j
-  unfolding fitStacks stackUnder walk starts meets
-  s-none c e z = rw (empty-nil (meanS τ l) (sym e ∙ z)) refl
-
-  pub s-move : (x n y i : ℕ) {o : Bool} → n ≡ items (stackUnder τ A by d l) → meanS τ x ≡ meanS τ l → Narrowed τ r j n y i → o ≡ fitStacks τ A by d x by₂ d₂ y i → o ≡ fitStacks τ A by d l by₂ d₂ r j
-  unfolding fitStacks stackUnder
-  s-move x n y i e f w h =
-      let L = stackUnder τ A by d l in
-      let q : starts L (dropS i (stackUnder τ [] by₂ d₂ y)) ≡ starts L (dropS j (stackUnder τ [] by₂ d₂ r)) =
-      starts-take L (dropS i (stackUnder τ [] by₂ d₂ y)) ∙ ap (λ z. starts L (takeS z (dropS i (stackUnder τ [] by₂ d₂ y)))) (sym e)
-      ∙ ap (starts L) (sym (same-under τ by₂ d₂ w)) ∙ ap (λ z. starts L (takeS z (dropS j (stackUnder τ [] by₂ d₂ r)))) e ∙ sym (starts-take L (dropS j (stackUnder τ [] by₂ d₂ r))) in
-      h ∙ ap (λ z. starts (walk (acting A by) d z) (dropS i (stackUnder τ [] by₂ d₂ y)) && meets A d z) f ∙ ap (λ z. z && meets A d (meanS τ l)) q
-
-  pub trim-items : (x n : ℕ) → n ≡ items (stackUnder τ A by d l) → meanS τ x ≡ meanS τ l → n ≡ items (stackUnder τ A by d x)
-  unfolding stackUnder
-  trim-items x n e f = e ∙ ap (λ z. items (walk (acting A by) d z)) (sym f)
-
-pub s-place : (τ : RowTable) (args : List ℕ) (m by d l by₂ d₂ r j : ℕ) {b : Bool} → (b ≡ true → AtSame m by d l by₂ d₂ r j) → b ≡ true → true ≡ fitStacks τ (argsOf τ args m) by d l by₂ d₂ r j
-unfolding fitStacks dropS
-s-place τ args m by d l by₂ d₂ r j f t =
+-- ---- the same row in the same context
+pub s-place : (τ : RowTable) (args : List ℕ) (m by d l by₂ d₂ r : ℕ) {b : Bool} → (b ≡ true → AtSame m by d l by₂ d₂ r) → b ≡ true → true ≡ sameStacks τ (argsOf τ args m) by d l by₂ d₂ r
+unfolding sameStacks
+s-place τ args m by d l by₂ d₂ r f t =
     let s = f t in
-    rw (no-args τ args m (s .no-args), s .row, s .lift, s .depth, s .top, meets-none d₂ (meanS τ r), starts-same (stackUnder τ [] by₂ d₂ r) (stackUnder τ [] by₂ d₂ r) refl, same-refl (stackUnder τ [] by₂ d₂ r)) refl
+    rw (no-args τ args m (s .no-args), s .row, s .lift, s .depth, meets-none d₂ (meanS τ r), same-refl (stackUnder τ [] by₂ d₂ r)) refl
 
--- ---- items from j on, one law for each form of the left row
-drop-more : (n m : ℕ) (a : Ty stack) → dropS m (dropS n a) ≡ dropS (n + m) a
-unfolding dropS
-drop-more zero m a = let q : m ≡ 0 + m = omega arith in ap (λ z. dropS z a) q
-drop-more (suc n) m nil = let q : suc n + m ≡ suc (n + m) = omega arith in rw q (drop-nil m)
-drop-more (suc n) m (push t a) = let q : suc n + m ≡ suc (n + m) = omega arith in rw q (drop-more n m a)
-drop-more (suc n) m (svar k a) = let q : suc n + m ≡ suc (n + m) = omega arith in rw q (drop-more n m a)
-drop-more (suc n) m (gap a) = let q : suc n + m ≡ suc (n + m) = omega arith in rw q (drop-more n m a)
+-- ---- the next items
+module _ (τ : RowTable) (A : List Arg) (m by d by₂ d₂ : ℕ) (ls : List ℕ) (i : ℕ) (rs : List ℕ) (j : ℕ) (ls₂ rs₂ : List ℕ) where
+  abbrev LeftIs : Next → Type 0
+  LeftIs a = NextIs τ A by d m ls i ls₂ a
 
-pub item-form : (τ : RowTable) (by₂ d₂ r j : ℕ) (a : Ty stack) (i k : Item) → ItemOf τ by₂ d₂ r a j i → i ≡ k → ItemOf τ by₂ d₂ r a j k
-item-form τ by₂ d₂ r j a i k h e = subst (λ (z : Item). ItemOf τ by₂ d₂ r a j z) e h
+  abbrev RightIs : Next → Type 0
+  RightIs b = NextIs τ [] by₂ d₂ 0 rs j rs₂ b
 
-module _ (τ : RowTable) (A : List Arg) (by d l by₂ d₂ r j : ℕ) where
-  pub e-nil : stackUnder τ A by d l ≡ nil → meets A d (meanS τ l) ≡ true → true ≡ fitStacks τ A by d l by₂ d₂ r j
-  unfolding fitStacks starts
-  e-nil e f = rw (e, f) refl
+  abbrev W : Bool
+  W = fitPending τ A by d by₂ d₂ ls i rs j
 
-  pub e-var : (k : ℕ) (it : Item) {o : Bool} → stackUnder τ A by d l ≡ svar k nil → meets A d (meanS τ l) ≡ true → ItemOf τ by₂ d₂ r (stackUnder τ [] by₂ d₂ r) j it → o ≡ varIs k it → o ≡ fitStacks τ A by d l by₂ d₂ r j
-  unfolding fitStacks starts
-  e-var k NoItem e f i h = rw (e, f, i) h
-  e-var k (ValItem u) e f i h = rw (e, f, i .1) h
-  e-var k (VarItem u) e f i h = rw (e, f, i) (h ∙ sym (and-true (eqb k u)) ∙ sym (and-true (eqb k u && true)))
+  by-types : {a b : Ty stack} {c : Bool} → pendingType τ A by d ls i ≡ a → pendingType τ [] by₂ d₂ rs j ≡ b → pendingMeets τ A d ls i ≡ c → W ≡ same a b && c
+  unfolding fitPending
+  by-types e f g = ap₂ _&&_ (ap₂ same e f) g
 
-  pub e-none : {v : Ty value} {a : Ty stack} → stackUnder τ A by d l ≡ push v a → ItemOf τ by₂ d₂ r (stackUnder τ [] by₂ d₂ r) j NoItem → false ≡ fitStacks τ A by d l by₂ d₂ r j
-  unfolding fitStacks starts
-  e-none e i = rw (e, i) refl
+  misfit : pendingMeets τ A d ls i ≡ false → W ≡ false
+  unfolding fitPending
+  misfit e = ap (λ z. same (pendingType τ A by d ls i) (pendingType τ [] by₂ d₂ rs j) && z) e ∙ and-false (same (pendingType τ A by d ls i) (pendingType τ [] by₂ d₂ rs j))
 
-  pub e-other : (k : ℕ) {v : Ty value} {a : Ty stack} → stackUnder τ A by d l ≡ push v a → ItemOf τ by₂ d₂ r (stackUnder τ [] by₂ d₂ r) j (VarItem k) → false ≡ fitStacks τ A by d l by₂ d₂ r j
-  unfolding fitStacks starts
-  e-other k e i = rw (e, i) refl
+  duo-var : (k n u o : ℕ) (b : Bool) → eqb k u ≡ b → LeftIs (VarNext k n) → RightIs (VarNext u o) → DuoIs τ A m by d by₂ d₂ ls i rs j ls₂ rs₂ (cond b (Onward n o) Unlike)
+  unfolding same fitPending
+  duo-var k n u o true e f g =
+      (by-types (f .0) (g .0) (f .1) ∙ ap (λ z. (z && same (pendingType τ A by d ls₂ n) (pendingType τ [] by₂ d₂ rs₂ o)) && pendingMeets τ A d ls₂ n) e, f .2, g .2)
+  duo-var k n u o false e f g = by-types (f .0) (g .0) (f .1) ∙ ap (λ z. (z && same (pendingType τ A by d ls₂ n) (pendingType τ [] by₂ d₂ rs₂ o)) && pendingMeets τ A d ls₂ n) e
 
-  pub push-items : (x n : ℕ) {v : Ty value} → n ≡ items (stackUnder τ A by d l) → stackUnder τ A by d l ≡ push v (stackUnder τ A by d x) → n ≡ suc (items (stackUnder τ A by d x))
-  unfolding items
-  push-items x n e f = e ∙ ap items f
+  pub duo-is : (r : ℕ) → Pends 0 r rs j → (a b : Next) → LeftIs a → RightIs b → DuoIs τ A m by d by₂ d₂ ls i rs j ls₂ rs₂ (duoOf a b)
+  unfolding same fitPending fitValues
+  duo-is r p End End f g = by-types (f .0) (g .0) (f .1)
+  duo-is r p End (OwnNext u o) f g = by-types (f .0) (g .0) (f .1)
+  duo-is r p End (GivenNext u o) f g = absurd (not-suc-le-zero (g .3 r p .0))
+  duo-is r p End (VarNext k o) f g = by-types (f .0) (g .0) (f .1)
+  duo-is r p End Wrong f g = absurd (not-suc-le-zero (g .1))
+  duo-is r p (OwnNext t n) End f g = by-types (f .0) (g .0) (f .1)
+  duo-is r p (OwnNext t n) (OwnNext u o) f g = (
+    by-types (f .0) (g .0) (f .1) ∙ and-swap (same (valueUnder τ A by d t) (valueUnder τ [] by₂ d₂ u)) (same (pendingType τ A by d ls₂ n) (pendingType τ [] by₂ d₂ rs₂ o)) (meets A d (meanV τ t)) (pendingMeets τ A d ls₂ n),
+    f .2,
+    g .2,
+    (λ l z. f .3 l z .1),
+    (λ l z. g .3 l z .1),
+  )
+  duo-is r p (OwnNext t n) (GivenNext u o) f g = absurd (not-suc-le-zero (g .3 r p .0))
+  duo-is r p (OwnNext t n) (VarNext k o) f g = by-types (f .0) (g .0) (f .1)
+  duo-is r p (OwnNext t n) Wrong f g = absurd (not-suc-le-zero (g .1))
+  duo-is r p (GivenNext t n) End f g = by-types (f .0) (g .0) (f .1)
+  duo-is r p (GivenNext t n) (OwnNext u o) f g =
+      let v : Bool = same (valueUnder τ [] d 0 t) (valueUnder τ [] by₂ d₂ u) in
+      let x : Bool = same (pendingType τ A by d ls₂ n) (pendingType τ [] by₂ d₂ rs₂ o) in
+      let c : Bool = pendingMeets τ A d ls₂ n in
+      (by-types (f .0) (g .0) (f .1) ∙ and-swap v x true c ∙ ap (λ z. (v && z) && (x && c)) (sym (meets-none 0 (meanV τ t))), f .2, g .2, f .3, (λ l z. g .3 l z .1))
+  duo-is r p (GivenNext t n) (GivenNext u o) f g = absurd (not-suc-le-zero (g .3 r p .0))
+  duo-is r p (GivenNext t n) (VarNext k o) f g = by-types (f .0) (g .0) (f .1)
+  duo-is r p (GivenNext t n) Wrong f g = absurd (not-suc-le-zero (g .1))
+  duo-is r p (VarNext k n) End f g = by-types (f .0) (g .0) (f .1)
+  duo-is r p (VarNext k n) (OwnNext u o) f g = by-types (f .0) (g .0) (f .1)
+  duo-is r p (VarNext k n) (GivenNext u o) f g = absurd (not-suc-le-zero (g .3 r p .0))
+  duo-is r p (VarNext k n) (VarNext u o) f g = duo-var k n u o (eqb k u) refl f g
+  duo-is r p (VarNext k n) Wrong f g = absurd (not-suc-le-zero (g .1))
+  duo-is r p Wrong b f g = misfit (f .0)
 
-  pub join-items : (x y n : ℕ) → n ≡ items (stackUnder τ A by d l) → stackUnder τ A by d l ≡ join (stackUnder τ A by d x) (stackUnder τ A by d y) → n ≡ items (stackUnder τ A by d x) + items (stackUnder τ A by d y)
-  join-items x y n e f = e ∙ ap items f ∙ items-join (stackUnder τ A by d x) (stackUnder τ A by d y)
+pub duo-by : (τ : RowTable) (args : List ℕ) (m by d by₂ d₂ : ℕ) (ls : List ℕ) (i : ℕ) (rs : List ℕ) (j : ℕ) (ls₂ rs₂ : List ℕ) (r : ℕ) → Pends 0 r rs j → (a b : Next) (o : Duo)
+    → NextIs τ (argsOf τ args m) by d m ls i ls₂ a → NextIs τ (argsOf τ args 0) by₂ d₂ 0 rs j rs₂ b → o ≡ duoOf a b → DuoIs τ (argsOf τ args m) m by d by₂ d₂ ls i rs j ls₂ rs₂ o
+duo-by τ args m by d by₂ d₂ ls i rs j ls₂ rs₂ r p a b o f g e =
+    subst (λ (z : Duo). DuoIs τ (argsOf τ args m) m by d by₂ d₂ ls i rs j ls₂ rs₂ z) (sym e)
+    (duo-is τ (argsOf τ args m) m by d by₂ d₂ ls i rs j ls₂ rs₂ r p a b f (subst (λ (z : List Arg). NextIs τ z by₂ d₂ 0 rs j rs₂ b) (no-args τ args 0 refl) g))
 
-  push-fit : (t x u : ℕ) → stackUnder τ A by d l ≡ push (valueUnder τ A by d t) (stackUnder τ A by d x) → meets A d (meanS τ l) ≡ meets A d (meanV τ t) && meets A d (meanS τ x)
-      → ItemOf τ by₂ d₂ r (stackUnder τ [] by₂ d₂ r) j (ValItem u) → fitValues τ A by d t by₂ d₂ u && fitStacks τ A by d x by₂ d₂ r (suc j) ≡ fitStacks τ A by d l by₂ d₂ r j
-  unfolding fitStacks fitValues starts
-  push-fit t x u e f i =
-      rw (e, f, i .1) (sym (and-swap (same (valueUnder τ A by d t) (valueUnder τ [] by₂ d₂ u)) (starts (stackUnder τ A by d x) (dropS (suc j) (stackUnder τ [] by₂ d₂ r))) (meets A d (meanV τ t)) (meets A d (meanS τ x))))
+-- ---- a part lent and given back
+pub agree-mid : (n k : ℕ) (ws ys : List ℕ) → n ≤ length ws → Agree n ws (putMid n k ws ys)
+agree-mid n k ws ys h i b =
+    let q = length-take-le n ws h in
+    List·getD-append (take n ws) (ys ++ postOf n k ws) 0 i (omega arith) ∙ getD-take n ws i 0 b
 
-  pub e-push : (t x u : ℕ) {v o : Bool} → stackUnder τ A by d l ≡ push (valueUnder τ A by d t) (stackUnder τ A by d x) → meets A d (meanS τ l) ≡ meets A d (meanV τ t) && meets A d (meanS τ x)
-      → ItemOf τ by₂ d₂ r (stackUnder τ [] by₂ d₂ r) j (ValItem u) → v ≡ true → v ≡ fitValues τ A by d t by₂ d₂ u → o ≡ fitStacks τ A by d x by₂ d₂ r (j + 1) → o ≡ fitStacks τ A by d l by₂ d₂ r j
-  e-push t x u e f i g h k = (k ∙ ap (λ z. fitStacks τ A by d x by₂ d₂ r z) (add-one j)) ∙ ap (λ z. z && fitStacks τ A by d x by₂ d₂ r (suc j)) (sym g ∙ h) ∙ push-fit t x u e f i
+pub length-part : (n : ℕ) (ws : List ℕ) → length (take (length ws - n) (drop n ws)) ≡ length ws - n
+length-part n ws = let a = length-drop n ws in length-take-le (length ws - n) (drop n ws) (omega arith)
 
-  pub e-unlike : (t x u : ℕ) {v : Bool} → stackUnder τ A by d l ≡ push (valueUnder τ A by d t) (stackUnder τ A by d x) → meets A d (meanS τ l) ≡ meets A d (meanV τ t) && meets A d (meanS τ x)
-      → ItemOf τ by₂ d₂ r (stackUnder τ [] by₂ d₂ r) j (ValItem u) → v ≡ false → v ≡ fitValues τ A by d t by₂ d₂ u → false ≡ fitStacks τ A by d l by₂ d₂ r j
-  e-unlike t x u e f i g h = ap (λ z. z && fitStacks τ A by d x by₂ d₂ r (suc j)) (sym g ∙ h) ∙ push-fit t x u e f i
+pub pends-more : (m l k n : ℕ) (ws : List ℕ) → l ≤ k → Pends m l ws n → Pends m k ws n
+pends-more m l k n ws h p i b =
+    let f = p i b in
+    ((λ z. let g = f .0 z in omega arith), (λ z. let g = f .1 z in let u = g .2 in (g .0, g .1, omega arith)))
 
-  join-fit : (x y c : ℕ) → stackUnder τ A by d l ≡ join (stackUnder τ A by d x) (stackUnder τ A by d y) → meets A d (meanS τ l) ≡ meets A d (meanS τ x) && meets A d (meanS τ y)
-      → c ≡ items (stackUnder τ A by d x) → fitStacks τ A by d x by₂ d₂ r j && fitStacks τ A by d y by₂ d₂ r (j + c) ≡ fitStacks τ A by d l by₂ d₂ r j
-  unfolding fitStacks
-  join-fit x y c e f g =
-      let R = stackUnder τ [] by₂ d₂ r in
-      let q : starts (stackUnder τ A by d y) (dropS (j + c) R) ≡ starts (stackUnder τ A by d y) (dropS (items (stackUnder τ A by d x)) (dropS j R)) =
-      ap (starts (stackUnder τ A by d y)) (sym (drop-more j c R) ∙ ap (λ z. dropS z (dropS j R)) g) in
-      rw (e, f, starts-join (stackUnder τ A by d x) (stackUnder τ A by d y) (dropS j R), q)
-      (sym (and-swap (starts (stackUnder τ A by d x) (dropS j R)) (starts (stackUnder τ A by d y) (dropS (items (stackUnder τ A by d x)) (dropS j R))) (meets A d (meanS τ x)) (meets A d (meanS τ y))))
+fit-agree : (τ : RowTable) (A : List Arg) (by d by₂ d₂ n o : ℕ) (ls ls₃ rs rs₃ : List ℕ) → Agree n ls ls₃ → Agree o rs rs₃ → fitPending τ A by d by₂ d₂ ls₃ n rs₃ o ≡ fitPending τ A by d by₂ d₂ ls n rs o
+unfolding fitPending
+fit-agree τ A by d by₂ d₂ n o ls ls₃ rs rs₃ p q = ap₂ _&&_ (ap₂ same (type-agree τ A by d n ls ls₃ p) (type-agree τ [] by₂ d₂ o rs rs₃ q)) (meets-agree τ A by d n ls ls₃ p)
 
-  pub e-join : (x y c : ℕ) {v o : Bool} → stackUnder τ A by d l ≡ join (stackUnder τ A by d x) (stackUnder τ A by d y) → meets A d (meanS τ l) ≡ meets A d (meanS τ x) && meets A d (meanS τ y)
-      → c ≡ items (stackUnder τ A by d x) → v ≡ true → v ≡ fitStacks τ A by d x by₂ d₂ r j → o ≡ fitStacks τ A by d y by₂ d₂ r (j + c) → o ≡ fitStacks τ A by d l by₂ d₂ r j
-  e-join x y c e f g t h k = k ∙ ap (λ z. z && fitStacks τ A by d y by₂ d₂ r (j + c)) (sym t ∙ h) ∙ join-fit x y c e f g
+-- ---- stack rows l and r under way
+module _ (τ : RowTable) (A : List Arg) (m by d l by₂ d₂ r : ℕ) where
+  pub record Matching (ls : List ℕ) (i : ℕ) (rs : List ℕ) (j : ℕ) : Type 0 where
+    pub lefts : Pends m l ls i
+    pub rights : Pends 0 r rs j
+    pub fit : fitPending τ A by d by₂ d₂ ls i rs j ≡ sameStacks τ A by d l by₂ d₂ r
 
-  pub e-stop : (x y c : ℕ) {v : Bool} → stackUnder τ A by d l ≡ join (stackUnder τ A by d x) (stackUnder τ A by d y) → meets A d (meanS τ l) ≡ meets A d (meanS τ x) && meets A d (meanS τ y)
-      → c ≡ items (stackUnder τ A by d x) → v ≡ false → v ≡ fitStacks τ A by d x by₂ d₂ r j → false ≡ fitStacks τ A by d l by₂ d₂ r j
-  e-stop x y c e f g t h = ap (λ z. z && fitStacks τ A by d y by₂ d₂ r (j + c)) (sym t ∙ h) ∙ join-fit x y c e f g
+  first-type : (B : List Arg) (b e x : ℕ) (ws : List ℕ) → x < 65537 → 0 < length ws → pendingType τ B b e (set ws 0 x) 1 ≡ stackUnder τ B b e x
+  unfolding pendingType
+  first-type B b e x ws h k = ap (λ z. join (entryType τ B b e z) nil) (getD-set-same ws 0 x 0 k) ∙ join-nil (entryType τ B b e x) ∙ own-type τ B b e x h
 
--- ---- a stack argument
-module _ (τ : RowTable) (args : List ℕ) (m by d l by₂ d₂ r j i a : ℕ) (h : i < m) (e : a ≡ getD args i 0) (u : stackUnder τ (argsOf τ args m) by d l ≡ raise d (ofKind stack (getD (argsOf τ args m) i noArg))) where
-  arg-under : stackUnder τ (argsOf τ args m) by d l ≡ stackUnder τ (argsOf τ args 0) d 0 (a + 1)
-  unfolding stackUnder
-  arg-under =
-      let q : suc a ≡ a + 1 = omega arith in
-      u ∙ ap (raise d) (arg-type τ args m i a h e stack ∙ ap (meanS τ) q) ∙ sym (raised d (meanS τ (a + 1))) ∙ ap (λ z. walk (acting z d) 0 (meanS τ (a + 1))) (sym (no-args τ args 0 refl))
+  first-meets : (x : ℕ) (ws : List ℕ) → x < 65537 → 0 < length ws → pendingMeets τ A d (set ws 0 x) 1 ≡ meets A d (meanS τ x)
+  unfolding pendingMeets
+  first-meets x ws h k = ap (λ z. entryMeets τ A d z && true) (getD-set-same ws 0 x 0 k) ∙ and-true (entryMeets τ A d x) ∙ own-meets τ A d x h
 
-  pub fill-items : (n : ℕ) → n ≡ items (stackUnder τ (argsOf τ args m) by d l) → n ≡ items (stackUnder τ (argsOf τ args 0) d 0 (a + 1))
-  fill-items n f = f ∙ ap items arg-under
+  first-pends : (n x : ℕ) (ws : List ℕ) → x < 65537 → 0 < length ws → Pends n x (set ws 0 x) 1
+  first-pends n x ws h k i b =
+      let q : i ≡ 0 = omega arith in
+      subst (λ z. Low n x z (getD (set ws 0 x) z 0)) (sym q) (subst (λ z. Low n x 0 z) (sym (getD-set-same ws 0 x 0 k)) ((λ u. omega arith), (λ u. absurd (omega arith))))
 
-  pub e-fill : {b o : Bool} → meets (argsOf τ args m) d (meanS τ l) ≡ fitsKind stack (argsOf τ args m) i → b ≡ isStackAt (τ .rows) a → b ≡ true
-      → o ≡ fitStacks τ (argsOf τ args 0) d 0 (a + 1) by₂ d₂ r j → o ≡ fitStacks τ (argsOf τ args m) by d l by₂ d₂ r j
-  unfolding fitStacks
-  e-fill f g t k =
-      let p : meets (argsOf τ args m) d (meanS τ l) ≡ true = f ∙ fits-stack τ args m i a h e g ∙ t in
-      let q : meets (argsOf τ args 0) 0 (meanS τ (a + 1)) ≡ true = ap (λ z. meets z 0 (meanS τ (a + 1))) (no-args τ args 0 refl) ∙ meets-none 0 (meanS τ (a + 1)) in
-      k ∙ rw (q, p, arg-under) refl
+  pub match-first : (ls rs : List ℕ) → l ≤ 514 → r ≤ 514 → 0 < length ls → 0 < length rs → Matching (set ls 0 l) 1 (set rs 0 r) 1
+  unfolding fitPending sameStacks
+  match-first ls rs a b p q =
+      record {
+        lefts = first-pends m l ls (omega arith) p;
+        rights = first-pends 0 r rs (omega arith) q;
+        fit = ap₂ _&&_ (ap₂ same (first-type A by d l ls (omega arith) p) (first-type [] by₂ d₂ r rs (omega arith) q)) (first-meets l ls (omega arith) p);
+      }
 
-  pub e-fill-not : {b : Bool} → meets (argsOf τ args m) d (meanS τ l) ≡ fitsKind stack (argsOf τ args m) i → b ≡ isStackAt (τ .rows) a → b ≡ false → false ≡ fitStacks τ (argsOf τ args m) by d l by₂ d₂ r j
-  unfolding fitStacks
-  e-fill-not f g t =
-      let p : meets (argsOf τ args m) d (meanS τ l) ≡ false = f ∙ fits-stack τ args m i a h e g ∙ t in
-      rw p (sym (and-false (starts (stackUnder τ (argsOf τ args m) by d l) (dropS j (stackUnder τ [] by₂ d₂ r)))))
+  module _ (ls : List ℕ) (i : ℕ) (rs : List ℕ) (j : ℕ) (g : Matching ls i rs j) (ls₂ rs₂ : List ℕ) where
+    abbrev D : Duo → Type 0
+    D o = DuoIs τ A m by d by₂ d₂ ls i rs j ls₂ rs₂ o
+
+    pub match-over : (o : Duo) → D o → o ≡ Over → true ≡ sameStacks τ A by d l by₂ d₂ r
+    match-over o f e = sym (subst (λ (z : Duo). D z) e f) ∙ g .fit
+
+    pub match-unlike : (o : Duo) → D o → o ≡ Unlike → false ≡ sameStacks τ A by d l by₂ d₂ r
+    match-unlike o f e = sym (subst (λ (z : Duo). D z) e f) ∙ g .fit
+
+    pub match-onward : (s : Duo) (n o : ℕ) → D s → s ≡ Onward n o → Matching ls₂ n rs₂ o × (mass ls₂ n < mass ls i)
+    match-onward s n o f e =
+        let h = subst (λ (z : Duo). D z) e f in
+        (record { lefts = h .1 .keeps l (g .lefts); rights = h .2 .keeps r (g .rights); fit = sym (h .0) ∙ g .fit }, h .1 .less)
+
+    -- two value rows
+    module _ (ls₃ rs₃ : List ℕ) where
+      pub match-own : (s : Duo) (t n u o : ℕ) {v : Bool} → Agree n ls₂ ls₃ → Agree o rs₂ rs₃ → D s → s ≡ OwnTwo t n u o → v ≡ fitValues τ A by d t by₂ d₂ u → v ≡ true → Matching ls₃ n rs₃ o × (mass ls₃ n < mass ls i)
+      match-own s t n u o p q f e w x =
+          let h = subst (λ (z : Duo). D z) e f in
+          let y = h .1 .less in
+          let k = mass-agree n ls₂ ls₃ p in (
+            record {
+              lefts = pends-agree m l n ls₂ ls₃ p (h .1 .keeps l (g .lefts));
+              rights = pends-agree 0 r o rs₂ rs₃ q (h .2 .keeps r (g .rights));
+              fit = fit-agree τ A by d by₂ d₂ n o ls₂ ls₃ rs₂ rs₃ p q ∙ ap (λ z. z && fitPending τ A by d by₂ d₂ ls₂ n rs₂ o) (sym x ∙ w) ∙ sym (h .0) ∙ g .fit;
+            },
+            omega arith,
+          )
+
+      pub match-given : (s : Duo) (t n u o : ℕ) {v : Bool} → Agree n ls₂ ls₃ → Agree o rs₂ rs₃ → D s → s ≡ GivenTwo t n u o → v ≡ fitValues τ [] d 0 t by₂ d₂ u → v ≡ true → Matching ls₃ n rs₃ o × (mass ls₃ n < mass ls i)
+      match-given s t n u o p q f e w x =
+          let h = subst (λ (z : Duo). D z) e f in
+          let y = h .1 .less in
+          let k = mass-agree n ls₂ ls₃ p in (
+            record {
+              lefts = pends-agree m l n ls₂ ls₃ p (h .1 .keeps l (g .lefts));
+              rights = pends-agree 0 r o rs₂ rs₃ q (h .2 .keeps r (g .rights));
+              fit = fit-agree τ A by d by₂ d₂ n o ls₂ ls₃ rs₂ rs₃ p q ∙ ap (λ z. z && fitPending τ A by d by₂ d₂ ls₂ n rs₂ o) (sym x ∙ w) ∙ sym (h .0) ∙ g .fit;
+            },
+            omega arith,
+          )
+
+    pub own-not : (s : Duo) (t n u o : ℕ) {v : Bool} → D s → s ≡ OwnTwo t n u o → v ≡ fitValues τ A by d t by₂ d₂ u → v ≡ false → false ≡ sameStacks τ A by d l by₂ d₂ r
+    own-not s t n u o f e w x =
+        let h = subst (λ (z : Duo). D z) e f in
+        ap (λ z. z && fitPending τ A by d by₂ d₂ ls₂ n rs₂ o) (sym x ∙ w) ∙ sym (h .0) ∙ g .fit
+
+    pub given-not : (s : Duo) (t n u o : ℕ) {v : Bool} → D s → s ≡ GivenTwo t n u o → v ≡ fitValues τ [] d 0 t by₂ d₂ u → v ≡ false → false ≡ sameStacks τ A by d l by₂ d₂ r
+    given-not s t n u o f e w x =
+        let h = subst (λ (z : Duo). D z) e f in
+        ap (λ z. z && fitPending τ A by d by₂ d₂ ls₂ n rs₂ o) (sym x ∙ w) ∙ sym (h .0) ∙ g .fit
+
+    -- how far the two rows and what is pending reach
+    pub own-low : (s : Duo) (t n u o : ℕ) → D s → s ≡ OwnTwo t n u o → (n + t ≤ l) × (o + u ≤ r)
+    own-low s t n u o f e = let h = subst (λ (z : Duo). D z) e f in (h .3 l (g .lefts), h .4 r (g .rights))
+
+    pub given-low : (s : Duo) (t n u o : ℕ) → D s → s ≡ GivenTwo t n u o → (0 < m) × (t < 514) × (n + t ≤ 514 + l) × (o + u ≤ r)
+    given-low s t n u o f e = let h = subst (λ (z : Duo). D z) e f in let k = h .3 l (g .lefts) in (k .0, k .1, k .2, h .4 r (g .rights))
+
+-- ---- tests
+pub not-true : {b : Bool} → not b ≡ false → b ≡ true
+not-true {b} e = go b e
+  where
+    go : (b : Bool) → not b ≡ false → b ≡ true
+    go true e = refl
+    go false e = sym e
+
+pub not-false : {b : Bool} → not b ≡ true → b ≡ false
+not-false {b} e = go b e
+  where
+    go : (b : Bool) → not b ≡ true → b ≡ false
+    go true e = sym e
+    go false e = refl
+
+pub plain-args : (τ : RowTable) (args : List ℕ) (d t by₂ d₂ u : ℕ) → fitValues τ (argsOf τ args 0) d 0 t by₂ d₂ u ≡ fitValues τ [] d 0 t by₂ d₂ u
+plain-args τ args d t by₂ d₂ u = ap (λ z. fitValues τ z d 0 t by₂ d₂ u) (no-args τ args 0 refl)

@@ -18,7 +18,7 @@ use Rattle.rows.specs.declared.Val.{Val}
 use Rattle.rows.specs.declared.Val.the-variants.{Int, Junk, ValVar, ValFill, Tuple, Pointer, Code}
 use Rattle.rows.specs.declared.Slot.{Slot}
 use Rattle.rows.specs.declared.Slot.the-variants.{Gap, Known}
-use Rattle.rows.specs.Read.{valueAt, valueTo, isStackAt, slotAt, onSlot, partsOf, meanV, meanS, mean, acting, valueUnder, stackUnder, partsUnder, codeOf, codeUnder, argsOf, placeV, OkV, OkSlot}
+use Rattle.rows.specs.Read.{valueAt, isStackAt, slotAt, onSlot, partsOf, meanV, meanS, mean, valueTo, acting, valueUnder, stackUnder, partsUnder, codeOf, codeUnder, argsOf, placeV, OkV, OkSlot}
 use Rattle.rows.proofs.Laws.{noArg, typeV, value-read}
 use Rattle.equal.specs.declared.Pair.{Pair}
 use Rattle.equal.specs.declared.Pair.the-variants.{Same, Differ, Filled, Tuples, Pointers, Codes}
@@ -26,9 +26,8 @@ use Rattle.equal.specs.declared.Heads.{Heads}
 use Rattle.equal.specs.declared.Heads.the-variants.{Apart, Both}
 use Rattle.equal.specs.Pairs.{pairOf, slotsOf, lettersFrom}
 use Rattle.equal.specs.Fit.{AtSame, fitValues, fitCodes, fitParts, sameStacks, big}
-use Rattle.equal.proofs.Laws.{and-false, and-true, and-swap, same-items}
-use Rattle.equal.proofs.Meets.{meets-none, meetsV, value-meets, arg-type, fits-value}
-use Rattle.equal.proofs.Items.{raised, no-args}
+use Rattle.pending.proofs.Meets.{and-false, and-true, and-swap, raised, no-args, meets-none, meetsV, value-meets, arg-type, fits-value}
+use Rattle.equal.proofs.Laws.{same-items}
 
 pub big-of : (j m : ℕ) → j < m → big m ≡ 68719476736
 big-of j zero h = absurd (not-suc-le-zero h)
@@ -209,7 +208,7 @@ module _ (τ : RowTable) (args : List ℕ) (m by d by₂ d₂ r j a : ℕ) (h : 
       rw k (sym (and-false (same (raise d (ofKind value (getD (argsOf τ args m) j noArg))) (valueUnder τ [] by₂ d₂ r))))
 
 -- ---- the same value row in the same context
-pub place-value : (τ : RowTable) (args : List ℕ) (m by d l by₂ d₂ r : ℕ) {b : Bool} → (b ≡ true → AtSame m by d l by₂ d₂ r 0) → b ≡ true → true ≡ fitValues τ (argsOf τ args m) by d l by₂ d₂ r
+pub place-value : (τ : RowTable) (args : List ℕ) (m by d l by₂ d₂ r : ℕ) {b : Bool} → (b ≡ true → AtSame m by d l by₂ d₂ r) → b ≡ true → true ≡ fitValues τ (argsOf τ args m) by d l by₂ d₂ r
 unfolding fitValues
 place-value τ args m by d l by₂ d₂ r f t =
     let s = f t in
@@ -224,24 +223,21 @@ one-differs {v} {x} y t e = ap (λ (z : Bool). z && y) (sym t ∙ e)
 
 -- ---- parts
 pub heads-low : (l r t u : ℕ) (x y : Slot) {h : Heads} → 0 < l → 0 < r → OkSlot l x → OkSlot r y → h ≡ slotsOf x y → h ≡ Both t u → (t < l) × (u < r)
-heads-low l r t u Gap Gap zl zr f g e i =
-    let p : t ≡ 0 = cc in
-    let q : u ≡ 0 = cc in
+heads-low l r t u Gap Gap a b f g e i =
+    let p : 0 ≡ t = cc in
+    let q : 0 ≡ u = cc in
     (omega arith, omega arith)
-heads-low l r t u Gap (Known b) zl zr f g e i = let z : _≡_ {A = ℕ} 0 1 = cc in absurd (omega arith)
-heads-low l r t u (Known a) Gap zl zr f g e i = let z : _≡_ {A = ℕ} 0 1 = cc in absurd (omega arith)
-heads-low l r t u (Known a) (Known b) zl zr f g e i =
-    let p : a ≡ t = cc in
-    let q : b ≡ u = cc in
+heads-low l r t u Gap (Known k) a b f g e i = let z : _≡_ {A = ℕ} 0 1 = cc in absurd (omega arith)
+heads-low l r t u (Known j) Gap a b f g e i = let z : _≡_ {A = ℕ} 0 1 = cc in absurd (omega arith)
+heads-low l r t u (Known j) (Known k) a b f g e i =
+    let p : j ≡ t = cc in
+    let q : k ≡ u = cc in
     (omega arith, omega arith)
 
-was-true : (v : Bool) {x : Bool} → not v ≡ false → v ≡ x → x ≡ true
-was-true true n e = sym e
-was-true false n e = sym e ∙ sym n
-
-was-false : (v : Bool) {x : Bool} → not v ≡ true → v ≡ x → x ≡ false
-was-false true n e = sym e ∙ sym n
-was-false false n e = sym e
+-- no row and no row
+none-fits : (τ : RowTable) (A : List Arg) (by d by₂ d₂ : ℕ) → fitValues τ A by d 0 by₂ d₂ 0 ≡ true
+unfolding fitValues valueUnder meanV valueTo walk same meets
+none-fits τ A by d by₂ d₂ = refl
 
 module _ (τ : RowTable) (A : List Arg) (by d : ℕ) (file : Bool) (l by₂ d₂ r : ℕ) where
   abbrev pub onHeads : Bool → Heads → Bool
@@ -250,59 +246,61 @@ module _ (τ : RowTable) (A : List Arg) (by d : ℕ) (file : Bool) (l by₂ d₂
 
   on-slots : (x y : Slot) (a b : Ty stack) → same (walk (acting A by) d (onSlot (meanV τ) x a)) (walk (acting [] by₂) d₂ (onSlot (meanV τ) y b)) && meets A d (onSlot (meanV τ) x a)
       ≡ onHeads (same (walk (acting A by) d a) (walk (acting [] by₂) d₂ b) && meets A d a) (slotsOf x y)
-  unfolding same walk meets fitValues valueUnder meanV valueTo
-  on-slots Gap Gap a b = refl
+  unfolding same walk meets fitValues valueUnder
+  on-slots Gap Gap a b = sym (ap (λ z. z && (same (walk (acting A by) d a) (walk (acting [] by₂) d₂ b) && meets A d a)) (none-fits τ A by d by₂ d₂))
   on-slots Gap (Known u) a b = refl
   on-slots (Known t) Gap a b = refl
   on-slots (Known t) (Known u) a b = and-swap (same (walk (acting A by) d (meanV τ t)) (walk (acting [] by₂) d₂ (meanV τ u))) (same (walk (acting A by) d a) (walk (acting [] by₂) d₂ b)) (meets A d (meanV τ t)) (meets A d a)
 
-  parts-end : (p q n : ℕ) → n ≡ 0 → true ≡ fitParts τ A by d file l p by₂ d₂ r q n
+  pub parts-end : (p q n : ℕ) → n ≡ 0 → true ≡ fitParts τ A by d file l p by₂ d₂ r q n
   unfolding fitParts partsUnder partsOf walk same meets
   parts-end p q zero e = refl
   parts-end p q (suc n) e = absurd (omega arith)
 
-  parts-are : (p q n : ℕ) {x y : Slot} {h k : Heads} → 0 < n → x ≡ slotAt file l (getD (τ .parts) p 0) → y ≡ slotAt file r (getD (τ .parts) q 0) → h ≡ slotsOf x y → h ≡ k
+  pub parts-are : (p q n : ℕ) {x y : Slot} {h k : Heads} → (n ≡ 0 → ⊥) → x ≡ slotAt file l (getD (τ .parts) p 0) → y ≡ slotAt file r (getD (τ .parts) q 0) → h ≡ slotsOf x y → h ≡ k
       → onHeads (fitParts τ A by d file l (p + 1) by₂ d₂ r (q + 1) (n - 1)) k ≡ fitParts τ A by d file l p by₂ d₂ r q n
   unfolding fitParts partsUnder partsOf
-  parts-are p q zero z e f g i = absurd (omega arith)
+  parts-are p q zero z e f g i = absurd (z refl)
   parts-are p q (suc n) {x} {y} {h} {k} z e f g i =
       let w : suc n - 1 ≡ n = omega arith in
       let v : k ≡ slotsOf (slotAt file l (getD (τ .parts) p 0)) (slotAt file r (getD (τ .parts) q 0)) = sym i ∙ g ∙ ap₂ slotsOf e f in
       rw (v, w, add-one p, add-one q) (sym (on-slots (slotAt file l (getD (τ .parts) p 0)) (slotAt file r (getD (τ .parts) q 0)) (partsOf (meanV τ) (τ .parts) file l (suc p) n) (partsOf (meanV τ) (τ .parts) file r (suc q) n)))
 
-  -- the first i parts fit, so the others decide
-  abbrev pub Passing : ℕ → ℕ → ℕ → ℕ → Type 0
-  Passing p q n i = (i ≤ n) × (fitParts τ A by d file l (p + i) by₂ d₂ r (q + i) (n - i) ≡ fitParts τ A by d file l p by₂ d₂ r q n)
+-- ---- parts, i of n being equal
+module _ (τ : RowTable) (A : List Arg) (by d : ℕ) (file : Bool) (l by₂ d₂ r p q n : ℕ) where
+  pub record PartsLeft (i : ℕ) : Type 0 where
+    pub most : i ≤ n
+    pub left : fitParts τ A by d file l (p + i) by₂ d₂ r (q + i) (n - i) ≡ fitParts τ A by d file l p by₂ d₂ r q n
 
-  pub passing-first : (p q n : ℕ) → Passing p q n 0
-  passing-first p q n =
+  pub parts-first : PartsLeft 0
+  parts-first =
       let a : p + 0 ≡ p = omega arith in
       let b : q + 0 ≡ q = omega arith in
       let c : n - 0 ≡ n = omega arith in
-      (omega arith, rw (a, b, c) refl)
+      record { most = omega arith; left = rw (a, b, c) refl }
 
-  pub passing-next : (p q n i t u : ℕ) {x y : Slot} {h : Heads} {v : Bool} → Passing p q n i → i < n → x ≡ slotAt file l (getD (τ .parts) (p + i) 0) → y ≡ slotAt file r (getD (τ .parts) (q + i) 0) → h ≡ slotsOf x y → h ≡ Both t u
-      → v ≡ fitValues τ A by d t by₂ d₂ u → not v ≡ false → Passing p q n (i + 1)
-  passing-next p q n i t u {v = v} w k e f g j m z =
-      let a : p + (i + 1) ≡ p + i + 1 = omega arith in
-      let b : q + (i + 1) ≡ q + i + 1 = omega arith in
-      let c : n - (i + 1) ≡ n - i - 1 = omega arith in
-      let s = parts-are (p + i) (q + i) (n - i) (omega arith) e f g j in
-      let o : fitParts τ A by d file l (p + i + 1) by₂ d₂ r (q + i + 1) (n - i - 1) ≡ fitValues τ A by d t by₂ d₂ u && fitParts τ A by d file l (p + i + 1) by₂ d₂ r (q + i + 1) (n - i - 1) = ap (λ (y : Bool). y && fitParts τ A by d file l (p + i + 1) by₂ d₂ r (q + i + 1) (n - i - 1)) (sym (was-true v z m)) in
-      (omega arith, rw (a, b, c) (o ∙ s ∙ w .1))
+  pub parts-last : (i : ℕ) → n ≤ i → PartsLeft i → true ≡ fitParts τ A by d file l p by₂ d₂ r q n
+  parts-last i h g = let m = g .most in parts-end τ A by d file l by₂ d₂ r (p + i) (q + i) (n - i) (omega arith) ∙ g .left
 
-  pub passing-differs : (p q n i t u : ℕ) {x y : Slot} {h : Heads} {v : Bool} → Passing p q n i → i < n → x ≡ slotAt file l (getD (τ .parts) (p + i) 0) → y ≡ slotAt file r (getD (τ .parts) (q + i) 0) → h ≡ slotsOf x y → h ≡ Both t u
-      → v ≡ fitValues τ A by d t by₂ d₂ u → not v ≡ true → false ≡ fitParts τ A by d file l p by₂ d₂ r q n
-  passing-differs p q n i t u {v = v} w k e f g j m z =
-      let o : false ≡ fitValues τ A by d t by₂ d₂ u && fitParts τ A by d file l (p + i + 1) by₂ d₂ r (q + i + 1) (n - i - 1) = ap (λ (y : Bool). y && fitParts τ A by d file l (p + i + 1) by₂ d₂ r (q + i + 1) (n - i - 1)) (sym (was-false v z m)) in
-      o ∙ parts-are (p + i) (q + i) (n - i) (omega arith) e f g j ∙ w .1
+  module _ (i : ℕ) (g : PartsLeft i) {x y : Slot} {h : Heads} (k : i < n) (e : x ≡ slotAt file l (getD (τ .parts) (p + i) 0)) (f : y ≡ slotAt file r (getD (τ .parts) (q + i) 0)) (s : h ≡ slotsOf x y) where
+    parts-step : (k : Heads) → h ≡ k → onHeads τ A by d file l by₂ d₂ r (fitParts τ A by d file l ((p + i) + 1) by₂ d₂ r ((q + i) + 1) ((n - i) - 1)) k ≡ fitParts τ A by d file l p by₂ d₂ r q n
+    parts-step j u = parts-are τ A by d file l by₂ d₂ r (p + i) (q + i) (n - i) (λ z. omega arith) e f s u ∙ g .left
 
-  pub passing-apart : (p q n i : ℕ) {x y : Slot} {h : Heads} → Passing p q n i → i < n → x ≡ slotAt file l (getD (τ .parts) (p + i) 0) → y ≡ slotAt file r (getD (τ .parts) (q + i) 0) → h ≡ slotsOf x y → h ≡ Apart
-      → false ≡ fitParts τ A by d file l p by₂ d₂ r q n
-  passing-apart p q n i w k e f g j = parts-are (p + i) (q + i) (n - i) (omega arith) e f g j ∙ w .1
+    pub parts-apart : h ≡ Apart → false ≡ fitParts τ A by d file l p by₂ d₂ r q n
+    parts-apart u = parts-step Apart u
 
-  pub passing-last : (p q n i : ℕ) → Passing p q n i → n ≤ i → true ≡ fitParts τ A by d file l p by₂ d₂ r q n
-  passing-last p q n i w k = parts-end (p + i) (q + i) (n - i) (omega arith) ∙ w .1
+    pub parts-differ : (t u : ℕ) {v : Bool} → h ≡ Both t u → v ≡ fitValues τ A by d t by₂ d₂ u → v ≡ false → false ≡ fitParts τ A by d file l p by₂ d₂ r q n
+    parts-differ t u w a b = ap (λ z. z && fitParts τ A by d file l ((p + i) + 1) by₂ d₂ r ((q + i) + 1) ((n - i) - 1)) (sym b ∙ a) ∙ parts-step (Both t u) w
+
+    pub parts-next : (t u : ℕ) {v : Bool} → h ≡ Both t u → v ≡ fitValues τ A by d t by₂ d₂ u → v ≡ true → PartsLeft (i + 1)
+    parts-next t u w a b =
+        let c : p + (i + 1) ≡ (p + i) + 1 = omega arith in
+        let j : q + (i + 1) ≡ (q + i) + 1 = omega arith in
+        let o : n - (i + 1) ≡ (n - i) - 1 = omega arith in
+        record {
+          most = omega arith;
+          left = rw (c, j, o) (ap (λ z. z && fitParts τ A by d file l ((p + i) + 1) by₂ d₂ r ((q + i) + 1) ((n - i) - 1)) (sym b ∙ a) ∙ parts-step (Both t u) w);
+        }
 
 -- ---- code
 length-span : (l : List ℕ) (i n : ℕ) → length (span l i n) ≡ n

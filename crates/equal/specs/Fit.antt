@@ -7,18 +7,19 @@ use mathlib.Core.List.{List, [], _∷_}
 use lib.Dec.{leb}
 use lib.ListN.{length, getD, take}
 use Rattle.syntax.specs.Syntax.{Kind, value, stack}
-use Rattle.types.specs.Types.{Ty, int, junk, var, tuple, pointer, code, items, Arg, meets, filled}
+use Rattle.types.specs.Types.{Ty, int, junk, var, tuple, pointer, code, Arg, meets, filled}
 use Rattle.types.specs.Equal.{same, sameLetters}
 use Rattle.tables.specs.Tables.{RowTable}
-use Rattle.rows.specs.Read.{partsOf, meanV, meanS, valueUnder, stackUnder, partsUnder, codeOf, codeUnder, argsOf, dropS, CountedTo}
-use Rattle.equal.specs.Pairs.{starts, lettersFrom}
+use Rattle.rows.specs.Read.{partsOf, meanV, meanS, valueUnder, stackUnder, partsUnder, codeOf, codeUnder, argsOf}
+use Rattle.pending.specs.Pending.{pendingType, pendingMeets, Pends, room, Rest}
+use Rattle.equal.specs.declared.Duo.{Duo}
+use Rattle.equal.specs.declared.Duo.the-variants.{Over, Unlike, Onward, OwnTwo, GivenTwo}
 
 -- ---- what the code relies on
--- the rows that the two sides and the arguments lead to are counted, and few
+-- the rows that the two sides and the arguments lead to are few
 pub record Tabled (τ : RowTable) (args : List ℕ) (m l r : ℕ) : Type 0 where
   pub top : ℕ
-  pub few : top ≤ 65536
-  pub counted : CountedTo τ top
+  pub few : top ≤ 514
   pub left : l ≤ top
   pub right : r ≤ top
   pub given : (j : ℕ) → j < m → suc (getD args j 0) ≤ top
@@ -31,12 +32,15 @@ big (suc m) = 68719476736
 abbrev pub Room : ℕ → ℕ → ℕ → ℕ → Type 0
 Room m by d l = by + d + 65536 * l + big m ≤ 1099511627776
 
-pub record AtSame (m by d l by₂ d₂ r j : ℕ) : Type 0 where
+-- room for what is pending: at most a row's number of entries, and more for arguments
+abbrev pub Spare : ℕ → ℕ → ℕ → ℕ → ℕ → Type 0
+Spare m l r a b = (l + room m < a) × (r < b) × (a ≤ 65536) × (b ≤ 65536)
+
+pub record AtSame (m by d l by₂ d₂ r : ℕ) : Type 0 where
   pub row : l ≡ r
   pub no-args : m ≡ 0
   pub lift : by ≡ by₂
   pub depth : d ≡ d₂
-  pub top : j ≡ 0
 
 -- ---- the left row with arguments A, the right row raised only
 module _ (τ : RowTable) (A : List Arg) (by d : ℕ) where
@@ -49,13 +53,27 @@ module _ (τ : RowTable) (A : List Arg) (by d : ℕ) where
   unfoldable pub fitParts : Bool → ℕ → ℕ → ℕ → ℕ → ℕ → ℕ → ℕ → Bool
   fitParts file l p by₂ d₂ r q n = same (partsUnder τ A by d file l p n) (partsUnder τ [] by₂ d₂ file r q n) && meets A d (partsOf (meanV τ) (τ .parts) file l p n)
 
-  -- the items of the right row from item j on start with those of the left row
-  unfoldable pub fitStacks : ℕ → ℕ → ℕ → ℕ → ℕ → Bool
-  fitStacks l by₂ d₂ r j = starts (stackUnder τ A by d l) (dropS j (stackUnder τ [] by₂ d₂ r)) && meets A d (meanS τ l)
-
   -- the two are equal
   unfoldable pub sameStacks : ℕ → ℕ → ℕ → ℕ → Bool
   sameStacks l by₂ d₂ r = same (stackUnder τ A by d l) (stackUnder τ [] by₂ d₂ r) && meets A d (meanS τ l)
+
+-- ---- stacks under way: i entries pending on the left, j on the right
+module _ (τ : RowTable) (A : List Arg) (by d by₂ d₂ : ℕ) where
+  unfoldable pub fitPending : List ℕ → ℕ → List ℕ → ℕ → Bool
+  fitPending ls i rs j = same (pendingType τ A by d ls i) (pendingType τ [] by₂ d₂ rs j) && pendingMeets τ A d ls i
+
+-- what is said of them by the next items; ls₂ and rs₂ are the entries then
+module _ (τ : RowTable) (A : List Arg) (m by d by₂ d₂ : ℕ) (ls : List ℕ) (i : ℕ) (rs : List ℕ) (j : ℕ) (ls₂ rs₂ : List ℕ) where
+  abbrev pub DuoIs : Duo → Type 0
+  DuoIs Over = fitPending τ A by d by₂ d₂ ls i rs j ≡ true
+  DuoIs Unlike = fitPending τ A by d by₂ d₂ ls i rs j ≡ false
+  DuoIs (Onward n o) = (fitPending τ A by d by₂ d₂ ls i rs j ≡ fitPending τ A by d by₂ d₂ ls₂ n rs₂ o) × Rest m ls i ls₂ n × Rest 0 rs j rs₂ o
+  DuoIs (OwnTwo t n u o) =
+      (fitPending τ A by d by₂ d₂ ls i rs j ≡ fitValues τ A by d t by₂ d₂ u && fitPending τ A by d by₂ d₂ ls₂ n rs₂ o) × Rest m ls i ls₂ n × Rest 0 rs j rs₂ o
+      × ((l : ℕ) → Pends m l ls i → n + t ≤ l) × ((r : ℕ) → Pends 0 r rs j → o + u ≤ r)
+  DuoIs (GivenTwo t n u o) =
+      (fitPending τ A by d by₂ d₂ ls i rs j ≡ fitValues τ [] d 0 t by₂ d₂ u && fitPending τ A by d by₂ d₂ ls₂ n rs₂ o) × Rest m ls i ls₂ n × Rest 0 rs j rs₂ o
+      × ((l : ℕ) → Pends m l ls i → (0 < m) × (t < 514) × (n + t ≤ 514 + l)) × ((r : ℕ) → Pends 0 r rs j → o + u ≤ r)
 
 -- ---- filling
 unfoldable pub isFull : Ty value → Option (Ty value) → Bool

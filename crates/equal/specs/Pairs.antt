@@ -1,22 +1,22 @@
--- What is left to compare of two forms, and the test that one stack starts with another.
-use Prim.Native.Nat.{ℕ, zero, suc}
-use mathlib.Core.Bool.{Bool, true, false, _&&_, cond}
+-- What is left to compare of two forms, of two parts, of two items.
+use Prim.Native.Nat.{ℕ}
+use mathlib.Core.Bool.{cond}
 use mathlib.Core.List.{List, map}
 use lib.Dec.{eqb}
-use Rattle.syntax.specs.Syntax.{Kind, value, stack}
-use Rattle.types.specs.Types.{Ty, nil, push, svar, gap}
-use Rattle.types.specs.Equal.{same}
+use Rattle.syntax.specs.Syntax.{Kind}
 use Rattle.tables.specs.Tables.{span, letterOf}
 use Rattle.rows.specs.declared.Val.{Val}
 use Rattle.rows.specs.declared.Val.the-variants.{Int, Junk, ValVar, ValFill, Tuple, Pointer, Code}
 use Rattle.rows.specs.declared.Slot.{Slot}
 use Rattle.rows.specs.declared.Slot.the-variants.{Gap, Known}
-use Rattle.rows.specs.declared.Item.{Item}
-use Rattle.rows.specs.declared.Item.the-variants.{NoItem, ValItem, VarItem}
+use Rattle.pending.specs.declared.Next.{Next}
+use Rattle.pending.specs.declared.Next.the-variants.{End, OwnNext, GivenNext, VarNext, Wrong}
 use Rattle.equal.specs.declared.Pair.{Pair}
 use Rattle.equal.specs.declared.Pair.the-variants.{Same, Differ, Filled, Tuples, Pointers, Codes}
 use Rattle.equal.specs.declared.Heads.{Heads}
 use Rattle.equal.specs.declared.Heads.the-variants.{Apart, Both}
+use Rattle.equal.specs.declared.Duo.{Duo}
+use Rattle.equal.specs.declared.Duo.the-variants.{Over, Unlike, Onward, OwnTwo, GivenTwo}
 
 abbrev pub pairInt : Val → Pair
 pairInt Int = Same
@@ -93,27 +93,41 @@ abbrev pub slotsOf : Slot → Slot → Heads
 slotsOf Gap y = gapWith y
 slotsOf (Known t) y = rowWith t y
 
-abbrev pub varIs : ℕ → Item → Bool
-varIs k NoItem = false
-varIs k (ValItem t) = false
-varIs k (VarItem i) = eqb k i
+abbrev pub endWith : Next → Duo
+endWith End = Over
+endWith (OwnNext u o) = Unlike
+endWith (GivenNext u o) = Unlike
+endWith (VarNext i o) = Unlike
+endWith Wrong = Unlike
+
+abbrev pub ownWith : ℕ → ℕ → Next → Duo
+ownWith t n End = Unlike
+ownWith t n (OwnNext u o) = OwnTwo t n u o
+ownWith t n (GivenNext u o) = Unlike
+ownWith t n (VarNext i o) = Unlike
+ownWith t n Wrong = Unlike
+
+abbrev pub givenWith : ℕ → ℕ → Next → Duo
+givenWith t n End = Unlike
+givenWith t n (OwnNext u o) = GivenTwo t n u o
+givenWith t n (GivenNext u o) = Unlike
+givenWith t n (VarNext i o) = Unlike
+givenWith t n Wrong = Unlike
+
+abbrev pub varWith : ℕ → ℕ → Next → Duo
+varWith k n End = Unlike
+varWith k n (OwnNext u o) = Unlike
+varWith k n (GivenNext u o) = Unlike
+varWith k n (VarNext i o) = cond (eqb k i) (Onward n o) Unlike
+varWith k n Wrong = Unlike
+
+abbrev pub duoOf : Next → Next → Duo
+duoOf End b = endWith b
+duoOf (OwnNext t n) b = ownWith t n b
+duoOf (GivenNext t n) b = givenWith t n b
+duoOf (VarNext k n) b = varWith k n b
+duoOf Wrong b = Unlike
 
 -- the n letters at p
 unfoldable pub lettersFrom : List ℕ → ℕ → ℕ → List Kind
 lettersFrom ps p n = map letterOf (span ps p n)
-
--- the second list starts with the first
-unfoldable pub starts : Ty stack → Ty stack → Bool
-starts nil s = true
-starts (push t a) nil = false
-starts (push t a) (push u s) = same t u && starts a s
-starts (push t a) (svar i s) = false
-starts (push t a) (gap s) = false
-starts (svar k a) nil = false
-starts (svar k a) (push u s) = false
-starts (svar k a) (svar i s) = eqb k i && starts a s
-starts (svar k a) (gap s) = false
-starts (gap a) nil = false
-starts (gap a) (push u s) = false
-starts (gap a) (svar i s) = false
-starts (gap a) (gap s) = starts a s

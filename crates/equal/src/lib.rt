@@ -1,27 +1,29 @@
 // Equality of the types that rows stand for (crate rows). A stack is compared as its list of items, so that two rows of different
-// shape can be equal. The left row stands in a context: some of its variables are filled by argument rows, the others are raised. The
-// right row is only raised. Value rows and stack rows are compared by rules that call each other; the row number falls.
+// shape can be equal: both lists are read from the top, each row once (crate pending). The left row stands in a context: some of its
+// variables are filled by argument rows, the others are raised. The right row is only raised. Value rows and stack rows are compared by
+// rules that call each other; the row number falls.
 // Promised: the test `same` of crate types of the two types, and, for `filled`, that no argument is of the wrong kind where it fills.
-// Asked: that the count of its items stands in each row (crate measure). Row numbers are links, as in crate rows.
-use rows::Item;
+// Asked: that there are at most 514 rows, which bounds what is pending. Row numbers are links, as in crate rows.
+use pending::Next;
 use rows::Slot;
-use rows::Stk;
 use rows::Val;
 ghost use mathlib.Core.Path.{_≡_};
 ghost use mathlib.Core.Bool.{true, false, cond};
-ghost use mathlib.Core.List.{[], _∷_, map};
+ghost use mathlib.Core.List.{List, [], _∷_, map};
 ghost use Prim.Native.Nat.{ℕ, suc, _+_, _-_, _*_, _≤_, _<_};
 ghost use lib.Dec.{eqb};
 ghost use lib.ListN.{length, getD};
-ghost use Rattle.types.specs.Types.{junk, items, arg};
+ghost use Rattle.types.specs.Types.{junk, arg};
 ghost use Rattle.syntax.specs.Syntax.{value, stack};
 ghost use Rattle.types.specs.Equal.{same, sameLetters};
 ghost use Rattle.types.specs.Rows.{typeAt, typesOf, allBelow};
 ghost use Rattle.tables.specs.Tables.{letterOf, rowsIn};
-ghost use Rattle.rows.specs.Read.{tab, lower, argsOf, stackUnder, meanS, Counted};
+ghost use Rattle.rows.specs.Read.{tab, lower, argsOf};
+ghost use Rattle.pending.specs.Pending.{room, Pends, Givens};
 ghost use Rattle.equal.specs.declared.Pair.the-variants.{Same, Differ, Tuples};
-ghost use Rattle.equal.specs.Pairs.{pairInt, pairJunk, pairValVar, pairTuple, pairPointer, pairCode, pairOf, gapWith, rowWith, slotsOf, varIs, lettersFrom};
-ghost use Rattle.equal.specs.Fit.{Room, Tabled, AtSame, fitValues, fitCodes, fitParts, fitStacks, big, fillsTo, fillCodes};
+ghost use Rattle.equal.specs.declared.Duo.the-variants.{Unlike, Onward};
+ghost use Rattle.equal.specs.Pairs.{pairInt, pairJunk, pairValVar, pairTuple, pairPointer, pairCode, pairOf, gapWith, rowWith, slotsOf, endWith, ownWith, givenWith, varWith, duoOf, lettersFrom};
+ghost use Rattle.equal.specs.Fit.{Room, Spare, Tabled, AtSame, fitValues, fitCodes, fitParts, sameStacks, DuoIs, big, fillsTo, fillCodes};
 
 // What is left to compare of two value rows.
 pub enum Pair {
@@ -37,6 +39,16 @@ pub enum Pair {
 pub enum Heads {
     Apart,
     Both(usize, usize),
+}
+
+// What is left to compare of two stacks: nothing, they are equal; nothing, they are not; what is pending after an equal variable; two
+// value rows, the left one in its context or of an argument, each with what is pending behind it.
+pub enum Duo {
+    Over,
+    Unlike,
+    Onward(usize, usize),
+    OwnTwo(usize, usize, usize, usize),
+    GivenTwo(usize, usize, usize, usize),
 }
 
 fn with_int(w: Val) -> Pair
@@ -182,15 +194,98 @@ fn two_slots(x: Slot, y: Slot) -> Heads
     }
 }
 
-// Item `it` is the stack variable k.
-fn is_var(k: usize, it: Item) -> bool
-    ensures { λ out. ⌜ out ≡ varIs k it ⌝ }
+fn end_with(b: Next) -> Duo
+    ensures { λ out. ⌜ out ≡ endWith b ⌝ }
 {
-    match it {
-        Item::NoItem => false,
-        Item::ValItem(_) => false,
-        Item::VarItem(i) => k == i,
+    match b {
+        Next::End => Duo::Over,
+        Next::OwnNext(_, _) => Duo::Unlike,
+        Next::GivenNext(_, _) => Duo::Unlike,
+        Next::VarNext(_, _) => Duo::Unlike,
+        Next::Wrong => Duo::Unlike,
     }
+}
+
+fn own_with(t: usize, n: usize, b: Next) -> Duo
+    ensures { λ out. ⌜ out ≡ ownWith t n b ⌝ }
+{
+    match b {
+        Next::End => Duo::Unlike,
+        Next::OwnNext(u, o) => Duo::OwnTwo(t, n, u, o),
+        Next::GivenNext(_, _) => Duo::Unlike,
+        Next::VarNext(_, _) => Duo::Unlike,
+        Next::Wrong => Duo::Unlike,
+    }
+}
+
+fn given_with(t: usize, n: usize, b: Next) -> Duo
+    ensures { λ out. ⌜ out ≡ givenWith t n b ⌝ }
+{
+    match b {
+        Next::End => Duo::Unlike,
+        Next::OwnNext(u, o) => Duo::GivenTwo(t, n, u, o),
+        Next::GivenNext(_, _) => Duo::Unlike,
+        Next::VarNext(_, _) => Duo::Unlike,
+        Next::Wrong => Duo::Unlike,
+    }
+}
+
+fn if_onward(k: usize, i: usize, n: usize, o: usize) -> Duo
+    ensures { λ out. ⌜ out ≡ cond (eqb k i) (Onward n o) Unlike ⌝ }
+{
+    if k == i {
+        return Duo::Onward(n, o);
+    }
+    Duo::Unlike
+}
+
+fn var_with(k: usize, n: usize, b: Next) -> Duo
+    ensures { λ out. ⌜ out ≡ varWith k n b ⌝ }
+{
+    match b {
+        Next::End => Duo::Unlike,
+        Next::OwnNext(_, _) => Duo::Unlike,
+        Next::GivenNext(_, _) => Duo::Unlike,
+        Next::VarNext(i, o) => if_onward(k, i, n, o),
+        Next::Wrong => Duo::Unlike,
+    }
+}
+
+// The next items a of the left and b of the right stack.
+fn two_items(a: Next, b: Next) -> Duo
+    ensures { λ out. ⌜ out ≡ duoOf a b ⌝ }
+{
+    match a {
+        Next::End => end_with(b),
+        Next::OwnNext(t, n) => own_with(t, n, b),
+        Next::GivenNext(t, n) => given_with(t, n, b),
+        Next::VarNext(k, n) => var_with(k, n, b),
+        Next::Wrong => Duo::Unlike,
+    }
+}
+
+// The next items of the i entries pending on the left and the j entries pending on the right.
+fn next_pair(
+    rows: &[u16],
+    args: &[u16],
+    m: usize,
+    by: usize,
+    d: usize,
+    left: &mut [usize],
+    i: usize,
+    by2: usize,
+    d2: usize,
+    right: &mut [usize],
+    j: usize,
+) -> Duo
+    requires { ⌜ (by + d ≤ 1099511627776) × (by2 + d2 ≤ 1099511627776) × Givens (now args) m ⌝ }
+    requires { ⌜ (room m < length (now left)) × (length (now left) ≤ 65536) × Pends m (length (now left) - suc (room m)) (now left) i ⌝ }
+    requires { ⌜ (0 < length (now right)) × (length (now right) ≤ 65536) × Pends 0 (length (now right) - 1) (now right) j ⌝ }
+    ensures { λ out. ⌜ ((ps : List ℕ) → DuoIs (tab (now (rows .entry)) ps) (argsOf (tab (now (rows .entry)) ps) (now (args .entry)) m) m by d by2 d2 (now (left .entry)) i (now (right .entry)) j (now (left .exit)) (now (right .exit)) out) ⌝ }
+{
+    let a = pending::next_item(rows, args, m, by, d, left, i);
+    let b = pending::next_item(rows, args, 0, by2, d2, right, j);
+    two_items(a, b)
 }
 
 fn same_letter(x: usize, y: usize) -> bool
@@ -221,18 +316,9 @@ fn same_letters(parts: &[u16], p: usize, a: usize, q: usize, b: usize) -> bool
     false
 }
 
-// The same row from its first item on in the same context, with no arguments.
-fn same_place(
-    m: usize,
-    by: usize,
-    d: usize,
-    l: usize,
-    by2: usize,
-    d2: usize,
-    r: usize,
-    j: usize,
-) -> bool
-    ensures { λ out. ⌜ (out ≡ true → AtSame m by d l by2 d2 r j) ⌝ }
+// The same row in the same context, with no arguments.
+fn same_place(m: usize, by: usize, d: usize, l: usize, by2: usize, d2: usize, r: usize) -> bool
+    ensures { λ out. ⌜ (out ≡ true → AtSame m by d l by2 d2 r) ⌝ }
 {
     if l != r {
         return false;
@@ -243,99 +329,7 @@ fn same_place(
     if by != by2 {
         return false;
     }
-    if d != d2 {
-        return false;
-    }
-    j == 0
-}
-
-fn minus(a: usize, b: usize) -> usize
-    ensures { λ out. ⌜ out ≡ a - b ⌝ }
-{
-    if a < b {
-        return 0;
-    }
-    a - b
-}
-
-// What is left of `left` after the items of stack row l in its context, or 0.
-fn less_items(
-    rows: &[u16],
-    parts: &[u16],
-    args: &[u16],
-    m: usize,
-    by: usize,
-    d: usize,
-    l: usize,
-    left: usize,
-) -> usize
-    requires { ⌜ Tabled (tab (now rows) (now parts)) (now args) m l 0 × (by + d ≤ 1099511627776) ⌝ }
-    ensures { λ out. ⌜ out ≡ left - items (stackUnder (tab (now (rows .entry)) (now (parts .entry))) (argsOf (tab (now (rows .entry)) (now (parts .entry))) (now (args .entry)) m) by d l) ⌝ }
-{
-    let c = rows::item_count(rows, l);
-    if c == 0 {
-        return left;
-    }
-    if m == 0 {
-        return minus(left, c);
-    }
-    let n = rows::read_stack(rows, l, m, by, d);
-    match n {
-        Stk::Nil => left,
-        Stk::StkVar(_) => minus(left, 1),
-        Stk::StkFill(i) => {
-            let a = rows::at(args, i);
-            minus(left, rows::item_count(rows, a + 1))
-        }
-        Stk::Push(_, x) => less_items(rows, parts, args, m, by, d, x, minus(left, 1)),
-        Stk::Join(x, y) => {
-            let e = less_items(rows, parts, args, m, by, d, x, left);
-            less_items(rows, parts, args, m, by, d, y, e)
-        }
-    }
-}
-
-// Stack row l in its context has c items.
-fn has_items(
-    rows: &[u16],
-    parts: &[u16],
-    args: &[u16],
-    m: usize,
-    by: usize,
-    d: usize,
-    l: usize,
-    c: usize,
-) -> bool
-    requires { ⌜ Tabled (tab (now rows) (now parts)) (now args) m l 0 × (by + d ≤ 1099511627776) × (c ≤ 65535) ⌝ }
-    ensures { λ out. ⌜ out ≡ eqb (items (stackUnder (tab (now (rows .entry)) (now (parts .entry))) (argsOf (tab (now (rows .entry)) (now (parts .entry))) (now (args .entry)) m) by d l)) c ⌝ }
-{
-    less_items(rows, parts, args, m, by, d, l, c + 1) == 1
-}
-
-// Of the n items of stack rows x and y in their context, those of x. The row with fewer items of its own is counted.
-fn first_items(
-    rows: &[u16],
-    parts: &[u16],
-    args: &[u16],
-    m: usize,
-    by: usize,
-    d: usize,
-    x: usize,
-    y: usize,
-    n: usize,
-) -> usize
-    requires { ⌜ Tabled (tab (now rows) (now parts)) (now args) m x y × (by + d ≤ 1099511627776) × (n ≡ items (stackUnder (tab (now rows) (now parts)) (argsOf (tab (now rows) (now parts)) (now args) m) by d x) + items (stackUnder (tab (now rows) (now parts)) (argsOf (tab (now rows) (now parts)) (now args) m) by d y)) ⌝ }
-    ensures { λ out. ⌜ out ≡ items (stackUnder (tab (now (rows .entry)) (now (parts .entry))) (argsOf (tab (now (rows .entry)) (now (parts .entry))) (now (args .entry)) m) by d x) ⌝ }
-{
-    if n == 0 {
-        return 0;
-    }
-    let a = rows::item_count(rows, x);
-    let b = rows::item_count(rows, y);
-    if a <= b {
-        return n - less_items(rows, parts, args, m, by, d, x, n);
-    }
-    less_items(rows, parts, args, m, by, d, y, n)
+    d == d2
 }
 
 // Value row l, its first m variables past d filled by the rows args and later ones raised by `by`, equals value row r, raised by by2 past d2.
@@ -350,11 +344,13 @@ fn eq_value(
     by2: usize,
     d2: usize,
     r: usize,
+    left: &mut [usize],
+    right: &mut [usize],
 ) -> bool
-    requires { ⌜ Tabled (tab (now rows) (now parts)) (now args) m l r × Room m by d l × Room 0 by2 d2 r ⌝ }
+    requires { ⌜ Tabled (tab (now rows) (now parts)) (now args) m l r × Room m by d l × Room 0 by2 d2 r × Spare m l r (length (now left)) (length (now right)) ⌝ }
     ensures { λ out. ⌜ out ≡ fitValues (tab (now (rows .entry)) (now (parts .entry))) (argsOf (tab (now (rows .entry)) (now (parts .entry))) (now (args .entry)) m) by d l by2 d2 r ⌝ }
 {
-    if same_place(m, by, d, l, by2, d2, r, 0) {
+    if same_place(m, by, d, l, by2, d2, r) {
         return true;
     }
     let v = rows::read_value(rows, l, m, by, d);
@@ -368,7 +364,7 @@ fn eq_value(
             if rows::is_stack(rows, a) {
                 return false;
             }
-            eq_value(rows, parts, args, 0, d, 0, a + 1, by2, d2, r)
+            eq_value(rows, parts, args, 0, d, 0, a + 1, by2, d2, r, left, right)
         }
         Pair::Tuples(a, b, c) => eq_parts(
             rows,
@@ -385,15 +381,28 @@ fn eq_value(
             a,
             b,
             c,
+            left,
+            right,
         ),
-        Pair::Pointers(x, y) => {
-            let c = rows::item_count(rows, y);
-            if has_items(rows, parts, args, m, by, d, x, c) {
-                return eq_stack(rows, parts, args, m, by, d, x, by2, d2, y, 0, c);
-            }
-            false
-        }
-        Pair::Codes(x, a, y, b) => eq_code(rows, parts, args, m, by, d, l, by2, d2, r, x, a, y, b),
+        Pair::Pointers(x, y) => eq_stack(rows, parts, args, m, by, d, x, by2, d2, y, left, right),
+        Pair::Codes(x, a, y, b) => eq_code(
+            rows,
+            parts,
+            args,
+            m,
+            by,
+            d,
+            l,
+            by2,
+            d2,
+            r,
+            x,
+            a,
+            y,
+            b,
+            left,
+            right,
+        ),
     }
 }
 
@@ -413,34 +422,47 @@ fn eq_code(
     p: usize,
     y: usize,
     q: usize,
+    left: &mut [usize],
+    right: &mut [usize],
 ) -> bool
-    requires { ⌜ Tabled (tab (now rows) (now parts)) (now args) m l r × Room m by d l × Room 0 by2 d2 r × (x < l) × (p ≤ 65535) × (y < r) × (q ≤ 65535) ⌝ }
+    requires { ⌜ Tabled (tab (now rows) (now parts)) (now args) m l r × Room m by d l × Room 0 by2 d2 r × (x < l) × (p ≤ 65535) × (y < r) × (q ≤ 65535) × Spare m l r (length (now left)) (length (now right)) ⌝ }
     ensures { λ out. ⌜ out ≡ fitCodes (tab (now (rows .entry)) (now (parts .entry))) (argsOf (tab (now (rows .entry)) (now (parts .entry))) (now (args .entry)) m) by d l x p by2 d2 r y q ⌝ }
 {
     let a = rows::letter_count(parts, p);
     let b = rows::letter_count(parts, q);
     if same_letters(parts, p + 9, a, q + 9, b) {
-        let c = rows::item_count(rows, y);
-        if has_items(rows, parts, args, m, by, a + d, x, c) {
-            if eq_stack(rows, parts, args, m, by, a + d, x, by2, b + d2, y, 0, c) {
-                return eq_parts(
-                    rows,
-                    parts,
-                    args,
-                    m,
-                    by,
-                    a + d,
-                    l,
-                    by2,
-                    b + d2,
-                    r,
-                    true,
-                    p,
-                    q,
-                    8,
-                );
-            }
-            return false;
+        if eq_stack(
+            rows,
+            parts,
+            args,
+            m,
+            by,
+            a + d,
+            x,
+            by2,
+            b + d2,
+            y,
+            left,
+            right,
+        ) {
+            return eq_parts(
+                rows,
+                parts,
+                args,
+                m,
+                by,
+                a + d,
+                l,
+                by2,
+                b + d2,
+                r,
+                true,
+                p,
+                q,
+                8,
+                left,
+                right,
+            );
         }
         return false;
     }
@@ -463,8 +485,10 @@ fn eq_parts(
     p: usize,
     q: usize,
     n: usize,
+    left: &mut [usize],
+    right: &mut [usize],
 ) -> bool
-    requires { ⌜ Tabled (tab (now rows) (now parts)) (now args) m l r × (by + d + 65536 * l + big m ≤ 1099511693312) × (by2 + d2 + 65536 * r ≤ 1099511693312) × (0 < l) × (0 < r) × (n ≤ 65535) × (p + n ≤ 131072) × (q + n ≤ 131072) ⌝ }
+    requires { ⌜ Tabled (tab (now rows) (now parts)) (now args) m l r × (by + d + 65536 * l + big m ≤ 1099511693312) × (by2 + d2 + 65536 * r ≤ 1099511693312) × (0 < l) × (0 < r) × (n ≤ 65535) × (p + n ≤ 131072) × (q + n ≤ 131072) × Spare m l r (length (now left)) (length (now right)) ⌝ }
     ensures { λ out. ⌜ out ≡ fitParts (tab (now (rows .entry)) (now (parts .entry))) (argsOf (tab (now (rows .entry)) (now (parts .entry))) (now (args .entry)) m) by d file l p by2 d2 r q n ⌝ }
 {
     let mut i = 0;
@@ -478,7 +502,7 @@ fn eq_parts(
                 return false;
             }
             Heads::Both(t, u) => {
-                if !eq_value(rows, parts, args, m, by, d, t, by2, d2, u) {
+                if !eq_value(rows, parts, args, m, by, d, t, by2, d2, u, left, right) {
                     return false;
                 }
             }
@@ -488,7 +512,7 @@ fn eq_parts(
     true
 }
 
-// Stack row l, which has n items in its context, matches stack row r from item j on.
+// Stack row l in its context equals stack row r. The rows still to be read stand in `left` and `right`.
 fn eq_stack(
     rows: &[u16],
     parts: &[u16],
@@ -500,78 +524,82 @@ fn eq_stack(
     by2: usize,
     d2: usize,
     r: usize,
-    j: usize,
-    n: usize,
+    left: &mut [usize],
+    right: &mut [usize],
 ) -> bool
-    requires { ⌜ Tabled (tab (now rows) (now parts)) (now args) m l r × Room m by d l × Room 0 by2 d2 r × (j + n ≤ 65535) × (n ≡ items (stackUnder (tab (now rows) (now parts)) (argsOf (tab (now rows) (now parts)) (now args) m) by d l)) ⌝ }
-    ensures { λ out. ⌜ out ≡ fitStacks (tab (now (rows .entry)) (now (parts .entry))) (argsOf (tab (now (rows .entry)) (now (parts .entry))) (now (args .entry)) m) by d l by2 d2 r j ⌝ }
+    requires { ⌜ Tabled (tab (now rows) (now parts)) (now args) m l r × Room m by d l × Room 0 by2 d2 r × Spare m l r (length (now left)) (length (now right)) ⌝ }
+    ensures { λ out. ⌜ out ≡ sameStacks (tab (now (rows .entry)) (now (parts .entry))) (argsOf (tab (now (rows .entry)) (now (parts .entry))) (now (args .entry)) m) by d l by2 d2 r ⌝ }
 {
-    if rows::item_count(rows, l) == 0 {
+    if same_place(m, by, d, l, by2, d2, r) {
         return true;
     }
-    if same_place(m, by, d, l, by2, d2, r, j) {
-        return true;
-    }
-    let x = rows::trim(rows, parts, l);
-    let w = rows::narrow(rows, parts, r, j, n);
-    eq_items(rows, parts, args, m, by, d, x, by2, d2, w.row, w.at, n)
-}
-
-// The same by the form of row l.
-fn eq_items(
-    rows: &[u16],
-    parts: &[u16],
-    args: &[u16],
-    m: usize,
-    by: usize,
-    d: usize,
-    l: usize,
-    by2: usize,
-    d2: usize,
-    r: usize,
-    j: usize,
-    n: usize,
-) -> bool
-    requires { ⌜ Tabled (tab (now rows) (now parts)) (now args) m l r × Room m by d l × Room 0 by2 d2 r × (j + n ≤ 65535) × (n ≡ items (stackUnder (tab (now rows) (now parts)) (argsOf (tab (now rows) (now parts)) (now args) m) by d l)) ⌝ }
-    ensures { λ out. ⌜ out ≡ fitStacks (tab (now (rows .entry)) (now (parts .entry))) (argsOf (tab (now (rows .entry)) (now (parts .entry))) (now (args .entry)) m) by d l by2 d2 r j ⌝ }
-{
-    let s = rows::read_stack(rows, l, m, by, d);
-    match s {
-        Stk::Nil => true,
-        Stk::StkVar(k) => is_var(k, rows::item_at(rows, parts, by2, d2, r, j)),
-        Stk::StkFill(i) => {
-            let a = rows::at(args, i);
-            if rows::is_stack(rows, a) {
-                return eq_stack(rows, parts, args, 0, d, 0, a + 1, by2, d2, r, j, n);
+    left[0] = l;
+    right[0] = r;
+    let mut i = 1;
+    let mut j = 1;
+    loop {
+        let s = next_pair(rows, args, m, by, d, left, i, by2, d2, right, j);
+        match s {
+            Duo::Over => {
+                return true;
             }
-            false
-        }
-        Stk::Push(t, x) => {
-            let it = rows::item_at(rows, parts, by2, d2, r, j);
-            match it {
-                Item::NoItem => false,
-                Item::ValItem(u) => {
-                    if eq_value(rows, parts, args, m, by, d, t, by2, d2, u) {
-                        return eq_stack(rows, parts, args, m, by, d, x, by2, d2, r, j + 1, n - 1);
-                    }
-                    false
+            Duo::Unlike => {
+                return false;
+            }
+            Duo::Onward(a, b) => {
+                i = a;
+                j = b;
+                continue;
+            }
+            Duo::OwnTwo(t, a, u, b) => {
+                if !eq_value(
+                    rows,
+                    parts,
+                    args,
+                    m,
+                    by,
+                    d,
+                    t,
+                    by2,
+                    d2,
+                    u,
+                    &mut left[a..],
+                    &mut right[b..],
+                ) {
+                    return false;
                 }
-                Item::VarItem(_) => false,
+                i = a;
+                j = b;
+                continue;
             }
-        }
-        Stk::Join(x, y) => {
-            let c = first_items(rows, parts, args, m, by, d, x, y, n);
-            if eq_stack(rows, parts, args, m, by, d, x, by2, d2, r, j, c) {
-                return eq_stack(rows, parts, args, m, by, d, y, by2, d2, r, j + c, n - c);
+            Duo::GivenTwo(t, a, u, b) => {
+                if !eq_value(
+                    rows,
+                    parts,
+                    args,
+                    0,
+                    d,
+                    0,
+                    t,
+                    by2,
+                    d2,
+                    u,
+                    &mut left[a..],
+                    &mut right[b..],
+                ) {
+                    return false;
+                }
+                i = a;
+                j = b;
+                continue;
             }
-            false
         }
     }
 }
 
 // The link to row x of n rows: none if there is no such row.
 fn link_of(n: usize, x: usize) -> usize
-    requires { ⌜ n ≤ 65536 ⌝ }
+    requires { ⌜ n ≤ 514 ⌝ }
     ensures { λ out. ⌜ out ≡ lower (n + 1) x ⌝ }
 {
     if x < n {
@@ -582,26 +610,52 @@ fn link_of(n: usize, x: usize) -> usize
 
 // The value types of rows l and r, of n rows, are equal.
 pub fn equal_values(rows: &[u16], parts: &[u16], n: usize, l: usize, r: usize) -> bool
-    requires { ⌜ Counted (tab (now rows) (now parts)) n ⌝ }
+    requires { ⌜ n ≤ 514 ⌝ }
     ensures { λ out. ⌜ out ≡ same (typeAt value (typesOf (rowsIn (tab (now (rows .entry)) (now (parts .entry))) n)) l) (typeAt value (typesOf (rowsIn (tab (now (rows .entry)) (now (parts .entry))) n)) r) ⌝ }
 {
     let x = link_of(n, l);
     let y = link_of(n, r);
-    eq_value(rows, parts, rows, 0, 0, 0, x, 0, 0, y)
+    let mut left = [0usize; 516];
+    let mut right = [0usize; 516];
+    eq_value(
+        rows,
+        parts,
+        rows,
+        0,
+        0,
+        0,
+        x,
+        0,
+        0,
+        y,
+        &mut left,
+        &mut right,
+    )
 }
 
 // The stack types of rows l and r, of n rows, are equal.
 pub fn equal_stacks(rows: &[u16], parts: &[u16], n: usize, l: usize, r: usize) -> bool
-    requires { ⌜ Counted (tab (now rows) (now parts)) n ⌝ }
+    requires { ⌜ n ≤ 514 ⌝ }
     ensures { λ out. ⌜ out ≡ same (typeAt stack (typesOf (rowsIn (tab (now (rows .entry)) (now (parts .entry))) n)) l) (typeAt stack (typesOf (rowsIn (tab (now (rows .entry)) (now (parts .entry))) n)) r) ⌝ }
 {
     let x = link_of(n, l);
     let y = link_of(n, r);
-    let c = rows::item_count(rows, y);
-    if rows::item_count(rows, x) == c {
-        return eq_stack(rows, parts, rows, 0, 0, 0, x, 0, 0, y, 0, c);
-    }
-    false
+    let mut left = [0usize; 516];
+    let mut right = [0usize; 516];
+    eq_stack(
+        rows,
+        parts,
+        rows,
+        0,
+        0,
+        0,
+        x,
+        0,
+        0,
+        y,
+        &mut left,
+        &mut right,
+    )
 }
 
 // The code type of row l with the stack x and its registers at p, filled by args, is that of row r with y and q.
@@ -615,8 +669,10 @@ fn fill_code(
     p: usize,
     y: usize,
     q: usize,
+    left: &mut [usize],
+    right: &mut [usize],
 ) -> bool
-    requires { ⌜ Tabled (tab (now rows) (now parts)) (now args) (length (now args)) l r × (x < l) × (p ≤ 65535) × (y < r) × (q ≤ 65535) ⌝ }
+    requires { ⌜ Tabled (tab (now rows) (now parts)) (now args) (length (now args)) l r × (x < l) × (p ≤ 65535) × (y < r) × (q ≤ 65535) × Spare (length (now args)) l r (length (now left)) (length (now right)) ⌝ }
     ensures { λ out. ⌜ out ≡ fillCodes (tab (now (rows .entry)) (now (parts .entry))) (now (args .entry)) l x p r y q ⌝ }
 {
     let m = args.len();
@@ -626,12 +682,25 @@ fn fill_code(
         return false;
     }
     if same_letters(parts, p + 9, a - m, q + 9, b) {
-        let c = rows::item_count(rows, y);
-        if has_items(rows, parts, args, m, 0, a - m, x, c) {
-            if eq_stack(rows, parts, args, m, 0, a - m, x, 0, b, y, 0, c) {
-                return eq_parts(rows, parts, args, m, 0, a - m, l, 0, b, r, true, p, q, 8);
-            }
-            return false;
+        if eq_stack(rows, parts, args, m, 0, a - m, x, 0, b, y, left, right) {
+            return eq_parts(
+                rows,
+                parts,
+                args,
+                m,
+                0,
+                a - m,
+                l,
+                0,
+                b,
+                r,
+                true,
+                p,
+                q,
+                8,
+                left,
+                right,
+            );
         }
         return false;
     }
@@ -641,9 +710,11 @@ fn fill_code(
 // The code type of row c, of n rows, its first variables filled by the rows args (in the order of their variables), is the type of row t.
 // False if c is no code row, if there are more arguments than letters, or if an argument of the wrong kind would fill a variable.
 pub fn filled(rows: &[u16], parts: &[u16], n: usize, c: usize, args: &[u16], t: usize) -> bool
-    requires { ⌜ Counted (tab (now rows) (now parts)) n × (allBelow n (now args) ≡ true) ⌝ }
+    requires { ⌜ (n ≤ 514) × (allBelow n (now args) ≡ true) ⌝ }
     ensures { λ out. ⌜ out ≡ fillsTo (map (λ (x : ℕ). getD (typesOf (rowsIn (tab (now (rows .entry)) (now (parts .entry))) n)) x (arg value junk)) (now (args .entry))) (typeAt value (typesOf (rowsIn (tab (now (rows .entry)) (now (parts .entry))) n)) c) (typeAt value (typesOf (rowsIn (tab (now (rows .entry)) (now (parts .entry))) n)) t) ⌝ }
 {
+    let mut left = [0usize; 1030];
+    let mut right = [0usize; 516];
     let l = link_of(n, c);
     let r = link_of(n, t);
     let v = rows::read_value(rows, l, 0, 0, 0);
@@ -655,6 +726,18 @@ pub fn filled(rows: &[u16], parts: &[u16], n: usize, c: usize, args: &[u16], t: 
         Pair::Filled(_) => false,
         Pair::Tuples(_, _, _) => false,
         Pair::Pointers(_, _) => false,
-        Pair::Codes(x, a, y, b) => fill_code(rows, parts, args, l, r, x, a, y, b),
+        Pair::Codes(x, a, y, b) => fill_code(
+            rows,
+            parts,
+            args,
+            l,
+            r,
+            x,
+            a,
+            y,
+            b,
+            &mut left,
+            &mut right,
+        ),
     }
 }

@@ -31,6 +31,7 @@ heightKind = 3
 abbrev pub junkKind : ℕ
 junkKind = 4
 
+-- the five words: an integer with bits n, label l, the handle of the tuple at heap word a, height p, junk
 abbrev pub integer : ℕ → Word
 integer n = record { kind = intKind; number = n }
 
@@ -57,9 +58,11 @@ pub record Memory : Type 0 where
 abbrev pub capacity : Memory → ℕ
 capacity m = min (length (m .kinds)) (length (m .numbers))
 
+-- word i; past the ends stand the kind of junk and 0
 unfoldable pub at : Memory → ℕ → Word
 at m i = record { kind = getD (m .kinds) i junkKind; number = getD (m .numbers) i 0 }
 
+-- word i replaced
 unfoldable pub put : Memory → ℕ → Word → Memory
 put m i w = record { kinds = set (m .kinds) i (w .kind); numbers = set (m .numbers) i (w .number) }
 
@@ -86,9 +89,11 @@ abbrev pub heapLimit : ℕ
 heapLimit = 2048
 
 -- ---- the program, as the machine sees it
+-- the instructions of each block
 abbrev pub Bodies : Type 0
 Bodies = List (List Instr)
 
+-- the instructions of all blocks, one after the other
 unfoldable pub flat : Bodies → List Instr
 flat [] = []
 flat (b ∷ bs) = b ++ flat bs
@@ -97,6 +102,7 @@ flat (b ∷ bs) = b ++ flat bs
 unfoldable pub startOf : Bodies → ℕ → ℕ
 startOf P l = length (flat (take l P))
 
+-- the instruction at the position
 unfoldable pub fetch : Bodies → State → Option Instr
 fetch P σ = getElem? (flat P) (σ .position)
 
@@ -107,9 +113,11 @@ compute add x y = (x + y) % modulus
 compute sub x y = (x + (modulus - y)) % modulus
 compute mul x y = (x * y) % modulus
 
+-- the three signs of the branch tests
 pub data Sign : Type 0 where
   negative null positive : Sign
 
+-- the sign of an integer, given as bits
 unfoldable pub signOf : ℕ → Sign
 signOf n = cond (eqb n 0) null (cond (ltb n half) positive negative)
 
@@ -135,13 +143,16 @@ taken blte null = true
 taken blte positive = false
 
 -- ---- one step
+-- how a step ends a run: at `halt`, "stack full", "heap full", "stuck"
 pub data Stop : Type 0 where
   halted stackFull heapFull stuck : Stop
 
+-- what a step gives, or the stop
 pub data Result (A : Type 0) : Type 0 where
   go : A → Result A
   stop : Stop → Result A
 
+-- the word of a base, by the registers R
 unfoldable pub baseWord : Memory → Base → Word
 baseWord R (reg r) = at R r
 baseWord R (lit n) = integer n
@@ -164,12 +175,15 @@ unless s b r = cond b r (stop s)
 abbrev pub setRegister : State → ℕ → Word → State
 setRegister σ d w = record { registers = put (σ .registers) d w; stack = σ .stack; heap = σ .heap; depth = σ .depth; used = σ .used; position = suc (σ .position) }
 
+-- the stack's words are m, of which d are in use
 abbrev pub setStack : State → Memory → ℕ → State
 setStack σ m d = record { registers = σ .registers; stack = m; heap = σ .heap; depth = d; used = σ .used; position = suc (σ .position) }
 
+-- the heap's words are m
 abbrev pub setHeap : State → Memory → State
 setHeap σ m = record { registers = σ .registers; stack = σ .stack; heap = m; depth = σ .depth; used = σ .used; position = suc (σ .position) }
 
+-- the next instruction is at p
 abbrev pub setPosition : State → ℕ → State
 setPosition σ p = record { registers = σ .registers; stack = σ .stack; heap = σ .heap; depth = σ .depth; used = σ .used; position = p }
 
@@ -177,6 +191,7 @@ setPosition σ p = record { registers = σ .registers; stack = σ .stack; heap =
 abbrev pub lengthAt : State → ℕ → ℕ
 lengthAt σ a = at (σ .heap) a .number
 
+-- where component i of the tuple at a stands, behind its length word
 abbrev pub componentAt : ℕ → ℕ → ℕ
 componentAt a i = a + suc i
 
@@ -211,6 +226,7 @@ exec P σ (ssp d i s t) = only heightKind (at (σ .registers) d) (λ p. unless s
 exec P σ (jmp v) = jump P σ (wordOf (σ .registers) v)
 exec P σ (halt t) = stop halted
 
+-- what the instruction fetched does; stuck where there is none
 abbrev pub execNext : Bodies → State → Option Instr → Result State
 execNext P σ none = stop stuck
 execNext P σ (some x) = exec P σ x

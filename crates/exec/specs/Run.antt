@@ -20,14 +20,17 @@ pub data End : Type 0 where
   paused : End
   stopped : Stop → End
 
+-- a run: its end, its steps, the state that it leaves
 pub record Ran : Type 0 where
   pub end : End
   pub steps : ℕ
   pub state : State
 
+-- a run that ends at once
 abbrev pub ended : End → State → Ran
 ended e σ = record { end = e; steps = 0; state = σ }
 
+-- the run with a step before it
 abbrev pub oneMore : Ran → Ran
 oneMore r = record { end = r .end; steps = suc (r .steps); state = r .state }
 
@@ -51,6 +54,7 @@ unfoldable pub wordsFrom : Memory → ℕ → ℕ → List Word
 wordsFrom m i zero = []
 wordsFrom m i (suc n) = at m i ∷ wordsFrom m (suc i) n
 
+-- the first n words
 abbrev pub inUse : Memory → ℕ → List Word
 inUse m n = wordsFrom m 0 n
 
@@ -82,6 +86,7 @@ goodWord H w =
     || (eqb (w .kind) heightKind && leb (w .number) 256)
     || (eqb (w .kind) junkKind && eqb (w .number) 0)
 
+-- every word is good, by the used heap H
 unfoldable pub goodWords : List Word → List Word → Bool
 goodWords H [] = true
 goodWords H (w ∷ ws) = goodWord H w && goodWords H ws
@@ -102,6 +107,7 @@ unfoldable pub longEnough : State → Bool
 longEnough σ = leb 8 (capacity (σ .registers)) && leb stackLimit (capacity (σ .stack)) && leb heapLimit (capacity (σ .heap))
 
 -- ---- starting and continuing
+-- what starting and continuing answer
 pub data Answer : Type 0 where
   refused : ℕ → ℕ → Answer  -- number, line
   haltedAfter : ℕ → ℕ → ℕ → Answer  -- steps, r1's kind and number
@@ -112,6 +118,7 @@ pub record Outcome : Type 0 where
   pub answer : Answer
   pub state : State
 
+-- the answer to a run: its end, its steps, and r1 if it halted
 unfoldable pub answerOf : End → ℕ → Word → Answer
 answerOf paused n w = pausedAfter n
 answerOf (stopped halted) n w = haltedAfter n (w .kind) (w .number)
@@ -119,6 +126,7 @@ answerOf (stopped stackFull) n w = stackFullAfter n
 answerOf (stopped heapFull) n w = heapFullAfter n
 answerOf (stopped stuck) n w = stuckAfter n
 
+-- the outcome of a run
 unfoldable pub outcome : Ran → Outcome
 outcome r = record { answer = answerOf (r .end) (r .steps) (at (r .state .registers) 0); state = r .state }
 
@@ -126,6 +134,7 @@ outcome r = record { answer = answerOf (r .end) (r .steps) (at (r .state .regist
 abbrev pub refuse : State → ℕ → ℕ → Outcome
 refuse σ n line = record { answer = refused n line; state = σ }
 
+-- the program as the machine sees it
 unfoldable pub bodies : Program → Bodies
 bodies P = map (λ B. B .body) (P .blocks)
 
@@ -134,6 +143,7 @@ unfoldable pub wanted : List Block → ℕ
 wanted [] = 0
 wanted (B ∷ Bs) = declared (B .regs)
 
+-- the refusal, if it bars a start: a fault 1 to 6, or one on the first line behind the rows
 abbrev pub barredBy : ℕ → Option Refusal → Option Refusal
 barredBy rows none = none
 barredBy rows (some r) = when (leb (r .number) 6 || eqb (r .line) (suc rows)) r
@@ -154,6 +164,7 @@ initial xs σ = record {
   position = 0;
 }
 
+-- a start that no fault of the program bars: 15 on malformed samples or another count of them, 16 on short memory; else a run
 abbrev pub startOn : Program → Option (List ℕ) → ℕ → State → Outcome
 startOn P none m σ = refuse σ 15 0
 startOn P (some xs) m σ =
@@ -161,6 +172,7 @@ startOn P (some xs) m σ =
     (cond (longEnough σ) (outcome (run (bodies P) (budget m) (initial xs σ))) (refuse σ 16 0))
     (refuse σ 15 0)
 
+-- a start, unless a fault of the program bars it
 abbrev pub startUnless : Option Refusal → Program → Option (List ℕ) → ℕ → State → Outcome
 startUnless none P xs m σ = startOn P xs m σ
 startUnless (some r) P xs m σ = refuse σ (r .number) (r .line)
@@ -169,6 +181,7 @@ startUnless (some r) P xs m σ = refuse σ (r .number) (r .line)
 unfoldable pub starting : List ℕ → List ℕ → ℕ → State → Outcome
 starting text samples m σ = startUnless (barred text) (programOf text) (samplesOf samples) m σ
 
+-- a continuing, unless a fault of the program bars it: 16 on short memory or bad form; else a run
 abbrev pub continueUnless : Option Refusal → Program → ℕ → State → Outcome
 continueUnless none P m σ = cond (longEnough σ && goodForm (bodies P) σ) (outcome (run (bodies P) (budget m) σ)) (refuse σ 16 0)
 continueUnless (some r) P m σ = refuse σ (r .number) (r .line)

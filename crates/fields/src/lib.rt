@@ -368,8 +368,8 @@ fn carried(l: &[u8], t: &[u8], out: &mut [u16], at: usize) -> OperandRead
     }
 }
 
-// An operand. The rows of its arguments, at most eight, are written from `at` on; nothing where it is plain or none.
-pub fn operand(f: &[u8], out: &mut [u16], at: usize) -> OperandRead
+// An operand, looked for at its `=`. The rows of its arguments, at most eight, are written from `at` on; nothing where it is plain or none.
+fn any_operand(f: &[u8], out: &mut [u16], at: usize) -> OperandRead
     ensures { λ r. ⌜ OperandIs (operand (now (f .entry))) (now (out .entry)) at r (now (out .exit)) ⌝ }
 {
     let e = lines::part_end(f, 0, b'=');
@@ -382,4 +382,19 @@ pub fn operand(f: &[u8], out: &mut [u16], at: usize) -> OperandRead
         return no_operand();
     }
     carried(&f[0..e], t, out, at)
+}
+
+// The same; a literal, which has no `=`, is read at once.
+pub fn operand(f: &[u8], out: &mut [u16], at: usize) -> OperandRead
+    ensures { λ r. ⌜ OperandIs (operand (now (f .entry))) (now (out .entry)) at r (now (out .exit)) ⌝ }
+{
+    match numbers::literal(f) {
+        Number::Value(v) => OperandRead {
+            kind: 1,
+            number: v,
+            count: 0,
+            row: 0,
+        },
+        Number::Bad => any_operand(f, out, at),
+    }
 }

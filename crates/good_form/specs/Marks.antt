@@ -18,6 +18,7 @@ unfoldable pub leftAfter : ℕ → Word → ℕ
 leftAfter zero w = tupleLength w
 leftAfter (suc k) w = k
 
+-- the marks of words before which k components of a tuple are left
 unfoldable pub marksFrom : List Word → ℕ → List ℕ
 marksFrom [] k = []
 marksFrom (w ∷ ws) k = markOf k ∷ marksFrom ws (leftAfter k w)
@@ -31,6 +32,7 @@ goodBy marks w =
     || (eqb (w .kind) heightKind && leb (w .number) 256)
     || (eqb (w .kind) junkKind && eqb (w .number) 0)
 
+-- every word is good
 unfoldable pub allGoodBy : List ℕ → List Word → Bool
 allGoodBy marks [] = true
 allGoodBy marks (w ∷ ws) = goodBy marks w && allGoodBy marks ws

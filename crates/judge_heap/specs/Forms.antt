@@ -14,6 +14,7 @@ use Rattle.context.specs.Context.{regsOf}
 use Rattle.context.specs.Told.{toldOf, answer}
 use Rattle.typing.specs.Typing.{typesIn}
 
+-- Γ from sp and the registers
 abbrev pub held : Ty stack → Ty stack → Context
 held s g = record { sp = s; regs = g }
 

@@ -22,11 +22,6 @@ use Rattle.typing.proofs.Judging.{ifNone, known-told, slp-lacks, slp-goes, tail
 use Rattle.judge_stack.proofs.Laws.{least-zero, cond-zero, tail-fits, tail-same}
 use Rattle.judge_through.specs.Forms.{Replaced, IsTail}
 
-pub answer-any : {A : Type 0} (k : ℕ) (x y : A) → (k ≡ 0 → ⊥) → answer k x ≡ answer k y
-unfolding answer
-answer-any zero x y h = absurd (h refl)
-answer-any (suc k) x y h = refl
-
 pub link-there : (k u : ℕ) → ifNone (suc k) u ≡ 0 → u ≡ 0 → ⊥
 unfolding ifNone
 link-there k zero e z = omega arith

@@ -7,6 +7,7 @@ use lib.ListN.{length, getD, drop}
 use Rattle.text.specs.Bytes.{split, Line, ended, unended, linesOf}
 
 -- ---- parts
+-- the first part; empty where there is none
 abbrev pub firstOf : List (List ℕ) → List ℕ
 firstOf [] = []
 firstOf (p ∷ ps) = p
@@ -16,9 +17,11 @@ unfoldable pub firstPart : ℕ → List ℕ → List ℕ
 firstPart c s = firstOf (split c s)
 
 -- ---- lines
+-- the byte LF
 abbrev pub lf : ℕ
 lf = code "\n"
 
+-- a line's bytes without its LF
 unfoldable pub contents : Line → List ℕ
 contents (ended s) = s
 contents (unended s) = s

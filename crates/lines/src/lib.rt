@@ -1,4 +1,4 @@
-// Lines of a text, found as parts of the caller's bytes: where a line ends, line n, and how many there are.
+// Lines of a text, found as parts of the caller's bytes: where a line ends, and line n.
 // Promises: the answers are those of `split` and `linesOf` of crate text, on every input; the laws that a loop over
 // all lines, or over the parts of a line, goes by are in proofs/Parts.antt.
 ghost use mathlib.Core.Path.{_≡_};
@@ -59,17 +59,4 @@ pub fn line(text: &[u8], n: usize) -> &[u8]
     let at = line_start(text, n);
     let e = line_end(text, at);
     &text[at..e]
-}
-
-// How many lines there are; one without a LF counts.
-pub fn count_lines(text: &[u8]) -> usize
-    ensures { λ r. ⌜ r ≡ length (linesOf (now (text .entry))) ⌝ }
-{
-    let mut n: usize = 0;
-    let mut at = 0;
-    while at < text.len() {
-        at = next_line(text, at);
-        n += 1;
-    }
-    n
 }

@@ -26,6 +26,7 @@ pub record Space (σ : Store) (u t : ℕ) : Type 0 where
   pub uses : 64 * 512 ≤ u
   pub tops : 512 ≤ t
 
+-- the answer that names fault n on a line
 abbrev pub faulty : ℕ → ℕ → Loaded
 faulty n line = record { fault = n; line = line; rows = 0; blocks = 0; instrs = 0 }
 
@@ -34,6 +35,7 @@ abbrev pub refusalOf : Loaded → Option Refusal
 refusalOf r = cond (eqb (r .fault) 0) none (some (record { number = r .fault; line = r .line; items = [] }))
 
 -- ---- the tables of a text that passes one and two have passed
+-- tables σ, uses and tops of the text, as counted in r
 pub record IsLoaded (text : List ℕ) (σ : Store) (uses tops : List ℕ) (r : Loaded) : Type 0 where
   -- what they stand for
   pub rows : rowsIn (rowTable σ) (r .rows) ≡ rowsOf (entriesOf text)

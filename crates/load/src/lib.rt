@@ -29,6 +29,7 @@ fn refused(fault: usize, line: usize) -> Loaded
     }
 }
 
+// Reads the text into the tables; where passes one and two find no fault, makes them ready for pass three too.
 pub fn load(
     text: &[u8],
     rows: &mut [u16],

@@ -18,6 +18,7 @@ pub struct Place {
     pub position: usize,
 }
 
+// Why a run stops.
 pub enum Stop {
     Halted,
     StackFull,

@@ -29,9 +29,11 @@ use Rattle.exec.specs.Run as run-of
 abbrev pub with-lines : String → String → String → List ℕ
 with-lines l₇ l₈ l₉ = bytes "I\nU,0,0\nE\nC,-,2,1,-,-,-,-,-,-,-\nB,3\nld,r2,r1,0\n" ++ bytes l₇ ++ bytes l₈ ++ bytes l₉
 
+-- "T is the program under Loads worked through"
 abbrev pub T : List ℕ
 T = with-lines "ld,r3,r1,1\n" "sub,r1,r2,r3\n" "halt,0\n"
 
+-- refused, with no item to name
 abbrev pub refuse : ℕ → ℕ → Verdict
 refuse n line = refused (record { number = n; line = line; items = [] })
 
@@ -39,6 +41,7 @@ refuse n line = refused (record { number = n; line = line; items = [] })
 abbrev pub lent : ℕ → ℕ → ℕ → Memory
 lent n k m = record { kinds = replicate n k; numbers = replicate n m }
 
+-- lent state that held anything, here 9 everywhere
 abbrev pub fresh : State
 fresh = record { registers = lent 8 9 9; stack = lent 256 9 9; heap = lent 2048 9 9; depth = 9; used = 9; position = 9 }
 
@@ -54,6 +57,7 @@ doubled i (suc n) = rowA i i ∷ doubled (suc i) n
 abbrev joined : List Row
 joined = rowI ∷ rowE ∷ rowK 0 1 ∷ rowX 0 ∷ rowA 2 3 ∷ rowK 0 3 ∷ []
 
+-- document 01, "Marked": T accepted; T's run; budget 2 on T pauses; T's faults; empty text; and the five that need no program
 pub record Marked : Type 0 where
   pub t-accepted : check T ≡ accepted 1 4
   pub t-run : starting T (bytes "41200\n15600\n") 1000000 fresh .answer ≡ haltedAfter 3 0 25600
@@ -69,6 +73,7 @@ pub record Marked : Type 0 where
   pub depth-fits : (P : Bodies) (m : Memory) → exec P (deep 192 m) (salloc 64) ≡ go (record { registers = m; stack = puts m 192 (replicate 64 junkWord); heap = m; depth = 256; used = 0; position = 1 })
   pub depth-full : (P : Bodies) (m : Memory) → exec P (deep 193 m) (salloc 64) ≡ stop stackFull
 
+-- all of them hold
 pub marked : Marked
 unfolding given numberOf itemsOf lowest lowestLine earliest bytes sameBytes split linesFrom linesOf fieldsOf isDigit allDigits isDecimal spelled number literal _>>=_ end each rest rowNumber index amount register letter eachLetter letters known carrier carried operand forms formNamed entryOf parse isLast placeAfter inOrder mayEnd counted tooMany lineFaults linesFaults passOne said entriesOf rowsOf grouped listingsOf join items variable below walk raising raise kindOf ofKind place filling fill fitsKind meets filled same sameLetters typeAt components registers meaning meanings typesOf isValue isCode isOf knownRefs rowRefs operandRefs operandsRefs names baseLabels labels isSort allBelow allOfSort total sizeOf sizesFrom sizesOf rowFaults rowsFaults refsFaults entryFaults entriesFaults passTwo blockOf blocksOf programFrom programOf junks ints entryRegs faultsOf _▹_ _&_ orFault need noneOf itemAt replaced under above asInt asTuple asPointer asCode isKind isStack isFile isFormed formedArg formedArgs formed three.known integerAt tupleAt pointerAt assign labelType base lettersLeft isFilled applied three.operand operands unfits noneLeft targetOf newTail judge bodyFaults declared isEntry blockFaults blocksFaults hasNone passThree passes instrCount check at put puts flat startOf fetch compute signOf taken baseWord wordOf only unless jump exec step after run budget wordsFrom tupleLength endToEnd startsAt goodWord goodWords goodForm longEnough answerOf outcome bodies wanted barred initial starting continuing sample samplesFrom samplesOf passTwoOf signed
 marked = record {
@@ -100,6 +105,7 @@ many (suc n) = bytes "I\n" ++ many n
 abbrev depth-257 : State
 depth-257 = record { registers = lent 8 4 0; stack = lent 300 4 0; heap = lent 2048 0 0; depth = 257; used = 0; position = 0 }
 
+-- one example for each number left: 1 to 3, 5 to 7, 12 to 16
 pub record Examples : Type 0 where
   pub no-form : check (with-lines "ld,r9,r1,1\n" "sub,r1,r2,r3\n" "halt,0\n") ≡ refuse 1 7
   pub not-ended : check (with-lines "ld,r3,r1,1\n" "sub,r1,r2,r3\n" "") ≡ refuse 2 9
@@ -113,6 +119,7 @@ pub record Examples : Type 0 where
   pub three-samples : starting T (bytes "1\n2\n3\n") 9 fresh ≡ run-of.refuse fresh 15 0
   pub bad-depth : continuing T 9 depth-257 ≡ run-of.refuse depth-257 16 0
 
+-- all of them hold
 pub examples : Examples
 unfolding given numberOf itemsOf lowest lowestLine earliest bytes sameBytes split linesFrom linesOf fieldsOf isDigit allDigits isDecimal spelled number literal _>>=_ end each rest rowNumber index amount register letter eachLetter letters known carrier carried operand forms formNamed entryOf parse isLast placeAfter inOrder mayEnd counted tooMany lineFaults linesFaults passOne said entriesOf rowsOf grouped listingsOf join items variable below walk raising raise kindOf ofKind place filling fill fitsKind meets filled same sameLetters typeAt components registers meaning meanings typesOf isValue isCode isOf knownRefs rowRefs operandRefs operandsRefs names baseLabels labels isSort allBelow allOfSort total sizeOf sizesFrom sizesOf rowFaults rowsFaults refsFaults entryFaults entriesFaults passTwo blockOf blocksOf programFrom programOf junks ints entryRegs faultsOf _▹_ _&_ orFault need noneOf itemAt replaced under above asInt asTuple asPointer asCode isKind isStack isFile isFormed formedArg formedArgs formed three.known integerAt tupleAt pointerAt assign labelType base lettersLeft isFilled applied three.operand operands unfits noneLeft targetOf newTail judge bodyFaults declared isEntry blockFaults blocksFaults hasNone passThree passes instrCount check at put puts flat startOf fetch compute signOf taken baseWord wordOf only unless jump exec step after run budget wordsFrom tupleLength endToEnd startsAt goodWord goodWords goodForm longEnough answerOf outcome bodies wanted barred initial starting continuing sample samplesFrom samplesOf passTwoOf signed
 examples = record {

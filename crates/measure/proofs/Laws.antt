@@ -24,7 +24,7 @@ use Rattle.rows.specs.declared.Slot.the-variants.{Gap, Known}
 use Rattle.rows.specs.Read.{tab, lower, valueWith, stackWith, valueAt, stackAt, isStackAt, slotAt, placeV, placeS, OkV, OkSlot, buildV, buildS, valueTo, stackTo, meanV, meanS, itemsAt, CountedTo, Counted}
 use Rattle.rows.proofs.Laws.{LowV, LowS, lowV-at, lowS-at, slot-low, plain-value, plain-stack, stack-is}
 use Rattle.rows.proofs.Bridge.{rows-snoc, kind-value, counted-from}
-use Rattle.measure.specs.Size.{slotSize, slotRow, partsSize, underV, underS, sizeTo, sizeAt, CountsFilled}
+use Rattle.measure.specs.Size.{Measured, slotSize, slotRow, partsSize, underV, underS, sizeTo, sizeAt, CountsFilled}
 
 -- ---- sizes that agree below h agree at row h
 module _ (h : ℕ) (f g : ℕ → ℕ) (e : (x : ℕ) → x < h → f x ≡ g x) where
@@ -106,6 +106,9 @@ module _ (τ : RowTable) where
 
   pub spent-none : (h left : ℕ) → h ≡ 0 → left ≡ left - sizeAt τ h
   spent-none h left e = let q = size-none in let p : sizeAt τ h ≡ sizeAt τ 0 = ap (sizeAt τ) e in omega arith
+
+  pub spent-known : (sizes : List ℕ) (h left : ℕ) {s o : ℕ} → Measured τ sizes → s ≡ getD sizes h 0 → (s ≡ 0 → ⊥) → o ≡ left - s → o ≡ left - sizeAt τ h
+  spent-known sizes h left m e z g = g ∙ ap (λ x. left - x) (e ∙ m h (λ q. z (e ∙ q)))
 
   -- the forms that the readers answer
   pub under-value : (h : ℕ) {n k : Val} → n ≡ valueAt (τ .rows) (placeV 0 0 0) h → n ≡ k → underV (sizeAt τ) (τ .parts) h (valueAt (τ .rows) ValVar h) ≡ underV (sizeAt τ) (τ .parts) h k

@@ -6,9 +6,9 @@ use Prim.Native.Nat.{ℕ, zero, suc, _+_, _-_, _<_, _≤_}
 use native.Mathlib.Omega.{arith}
 use native.Mathlib.Nat.{not-suc-le-zero, add-zero, zero-add}
 use lib.Dec.{eqb, leb, ltb}
-use lib.ListN.{length, length-append, getD, List·getD-eq-default, List·getD-append}
-use lib.Seq.{getD-at}
-use borrow.Author.Tests.{eq-eqb, ne-eqb, leb-true, leb-false, ltb-true, ltb-false, le-leb, lt-ltb, le-ltb}
+use lib.ListN.{length, length-append, getD, set, List·getD-eq-default, List·getD-append}
+use lib.Seq.{getD-at, getD-set-same, getD-set-other, set-out}
+use borrow.Author.Tests.{eqb-true, eqb-false, eq-eqb, ne-eqb, leb-true, leb-false, ltb-true, ltb-false, le-leb, lt-ltb, le-ltb}
 use Rattle.syntax.specs.Syntax.{Row}
 use Rattle.types.specs.Rows.{Sort, valueRow, knownRefs, rowRefs, total, sizeOf, sizesFrom, sizesOf}
 use Rattle.tables.specs.Tables.{RowTable, cell, span, knownOf, codeRowAt, rowFrom, rowAt, rowsFrom, rowsIn}
@@ -16,7 +16,7 @@ use Rattle.rows.specs.declared.Val.the-variants.{ValVar}
 use Rattle.rows.specs.declared.Stk.the-variants.{StkVar}
 use Rattle.rows.specs.Read.{lower, valueWith, stackWith, isStackAt, slotAt}
 use Rattle.rows.proofs.Bridge.{rows-snoc}
-use Rattle.measure.specs.Size.{slotSize, partsSize, underV, underS, sizeAt}
+use Rattle.measure.specs.Size.{slotSize, partsSize, underV, underS, sizeAt, Measured}
 use Rattle.measure.proofs.Laws.{size-none, size-is}
 
 sizes-append : (S : List ℕ) (xs ys : List Row) → sizesFrom S (xs ++ ys) ≡ sizesFrom (sizesFrom S xs) ys
@@ -143,3 +143,32 @@ module _ (τ : RowTable) where
       go : (b : Bool) → ltb 4096 (sizeAt τ (suc r)) ≡ b → eqb o 0 ≡ b
       go true g = let l = ltb-true 4096 (sizeAt τ (suc r)) g in eq-eqb o 0 (omega (arith, q))
       go false g = let l = ltb-false 4096 (sizeAt τ (suc r)) g in ne-eqb o 0 (λ z. omega (arith, q))
+
+  -- what is left of 4,097 after row r tells its size
+  pub is-over : (r rest : ℕ) → rest ≡ 4097 - sizeAt τ (r + 1) → rest ≡ 0 → true ≡ ltb 4096 (sizeOf (sizesOf (rowsIn τ r)) (rowAt τ r))
+  is-over r rest e z = sym (eq-eqb rest 0 z) ∙ over-limit r (r + 1) rest refl e
+
+  pub not-over : (r rest : ℕ) → rest ≡ 4097 - sizeAt τ (r + 1) → (rest ≡ 0 → ⊥) → false ≡ ltb 4096 (sizeOf (sizesOf (rowsIn τ r)) (rowAt τ r))
+  not-over r rest e z = sym (ne-eqb rest 0 z) ∙ over-limit r (r + 1) rest refl e
+
+  -- one size more in the table
+  pub measured-set : (sizes : List ℕ) (h s : ℕ) → Measured τ sizes → s ≡ sizeAt τ h → Measured τ (set sizes h s)
+  measured-set sizes h s m e x z = go (leb (length sizes) h) refl
+    where
+      go : (b : Bool) → leb (length sizes) h ≡ b → getD (set sizes h s) x 0 ≡ sizeAt τ x
+      go true g =
+          let q : set sizes h s ≡ sizes = set-out sizes h s (leb-true (length sizes) h g) in
+          ap (λ (l : List ℕ). getD l x 0) q ∙ m x (λ w. z (ap (λ (l : List ℕ). getD l x 0) q ∙ w))
+      go false g = other (eqb x h) refl
+        where
+          other : (b : Bool) → eqb x h ≡ b → getD (set sizes h s) x 0 ≡ sizeAt τ x
+          other true k =
+              let p : x ≡ h = eqb-true x h k in
+              rw p (getD-set-same sizes h s 0 (let l = leb-false (length sizes) h g in omega arith) ∙ e)
+          other false k =
+              let p = eqb-false x h k in
+              let q : getD (set sizes h s) x 0 ≡ getD sizes x 0 = getD-set-other sizes h x s 0 p in
+              q ∙ m x (λ w. z (q ∙ w))
+
+  pub measured-kept : (sizes : List ℕ) (r rest : ℕ) → Measured τ sizes → rest ≡ 4097 - sizeAt τ (r + 1) → (rest ≡ 0 → ⊥) → Measured τ (set sizes (r + 1) (4097 - rest))
+  measured-kept sizes r rest m e z = measured-set sizes (r + 1) (4097 - rest) m (omega (arith, e, z))

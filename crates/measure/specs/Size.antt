@@ -53,6 +53,10 @@ sizeTo (suc n) τ (suc r) = suc (cond (isStackAt (τ .rows) r) (underS (sizeTo n
 unfoldable pub sizeAt : RowTable → ℕ → ℕ
 sizeAt τ h = sizeTo (suc h) τ h
 
+-- each entry of the table of sizes is that of its row, or 0 for a row that is not measured yet
+abbrev pub Measured : RowTable → List ℕ → Type 0
+Measured τ sizes = (h : ℕ) → (getD sizes h 0 ≡ 0 → ⊥) → getD sizes h 0 ≡ sizeAt τ h
+
 -- the first n rows are counted, and all rows are as before
 pub record CountsFilled (before after parts : List ℕ) (n : ℕ) : Type 0 where
   pub counted : Counted (tab after parts) n

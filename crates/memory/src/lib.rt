@@ -9,22 +9,28 @@ ghost use Rattle.exec.specs.Machine.{at, put, puts, junkKind, junkWord, baseWor
 ghost use Rattle.tables.specs.Tables.{cell, baseOf, operandAt};
 ghost use Rattle.memory.specs.Lent.{wordIs, lent, operandTable, tupleOf};
 
-// The kinds of words.
+// The kinds of words: an integer.
 pub const INT: u8 = 0;
 
+// A label.
 pub const CODE: u8 = 1;
 
+// A tuple's handle.
 pub const TUPLE: u8 = 2;
 
+// A stack height.
 pub const HEIGHT: u8 = 3;
 
+// Junk, of number 0.
 pub const JUNK: u8 = 4;
 
+// A word: its kind, and its number.
 pub struct Word {
     pub kind: u8,
     pub number: u32,
 }
 
+// A number of 32 bits, as an index.
 pub fn wide(x: u32) -> usize
     ensures { λ r. ⌜ (r ≡ x) × (r < 4294967296) ⌝ }
 {

@@ -8,10 +8,10 @@ use Prim.Native.Nat.{ℕ, suc, _+_, _-_, _*_, _<_, _≤_}
 use native.Mathlib.Nat.{le-refl, le-trans}
 use native.Mathlib.Omega.{arith}
 use native.Mathlib.Numerals.{add-one}
-use lib.Dec.{eqb, leb}
+use lib.Dec.{eqb, leb, ltb}
 use lib.ListN.{length, getD, take, drop, drop-of-length-le, length-drop}
 use lib.Seq.{drop-cons, take-all}
-use borrow.Author.Tests.{eq-eqb, ne-eqb, le-leb, lt-leb, leb-true}
+use borrow.Author.Tests.{eq-eqb, ne-eqb, le-leb, lt-leb, leb-true, leb-false, le-ltb}
 use Rattle.syntax.specs.Bits.{modulus, half}
 use Rattle.syntax.specs.Partial.{bind, when}
 use Rattle.text.specs.Bytes.{isDigit, allDigits, isDecimal, spelled, number, literal}
@@ -41,6 +41,15 @@ pub digit-is : (b : ℕ) → 48 ≤ b → b ≤ 57 → b - 48 ≡ digitOf b
 unfolding digitOf isDigit
 digit-is b k h = simp (le-leb 48 b k, le-leb b 57 h)
 
+pub past-low : (b : ℕ) → b < 48 → true ≡ ltb 9 (digitOf b)
+past-low b h = ap (ltb 9) (digit-low b h)
+
+pub past-high : (b : ℕ) → 48 ≤ b → 57 < b → true ≡ ltb 9 (digitOf b)
+past-high b k h = ap (ltb 9) (digit-high b k h)
+
+pub within : (b : ℕ) → 48 ≤ b → b ≤ 57 → false ≡ ltb 9 (digitOf b)
+within b k h = sym (le-ltb 9 (b - 48) (omega arith)) ∙ ap (ltb 9) (digit-is b k h)
+
 -- a byte's value tells whether it is a digit
 no-digit : (b : ℕ) → 9 < digitOf b → isDigit b ≡ false
 unfolding digitOf isDigit
@@ -51,13 +60,20 @@ no-digit b h = go (leb 48 b) (leb b 57) refl refl
     go true false p q = refl
     go true true p q = let u : b ≤ 57 = leb-true b 57 q in let e = digit-is b (leb-true 48 b p) u in absurd (omega arith)
 
-a-digit : (b : ℕ) → digitOf b ≤ 9 → (isDigit b ≡ true) × (b - 48 ≡ digitOf b)
+pub a-digit : (b : ℕ) → digitOf b ≤ 9 → (isDigit b ≡ true) × (b - 48 ≡ digitOf b)
 unfolding digitOf
 a-digit b h = go (isDigit b) refl
   where
     go : (x : Bool) → isDigit b ≡ x → (isDigit b ≡ true) × (b - 48 ≡ digitOf b)
     go true e = (e, simp e)
     go false e = let q : digitOf b ≡ 10 = simp e in absurd (omega arith)
+
+pub digit-from : (b : ℕ) → digitOf b ≤ 9 → 48 ≤ b
+digit-from b h = go (leb 48 b) refl
+  where
+    go : (x : Bool) → leb 48 b ≡ x → 48 ≤ b
+    go true e = leb-true 48 b e
+    go false e = let k = digit-low b (leb-false 48 b e) in absurd (omega arith)
 
 spelled-grows : (s : List ℕ) (n : ℕ) → n ≤ spelled n s
 unfolding spelled

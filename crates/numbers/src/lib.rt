@@ -3,8 +3,8 @@
 // text say of the whole field; reading stops as soon as the number is above its bound, however many digits follow.
 ghost use mathlib.Core.Path.{_≡_};
 ghost use mathlib.Core.Option.{some};
-ghost use Prim.Native.Nat.{_-_};
-ghost use lib.Dec.{leb};
+ghost use Prim.Native.Nat.{_-_, _≤_};
+ghost use lib.Dec.{leb, ltb};
 ghost use Rattle.syntax.specs.Bits.{modulus};
 ghost use Rattle.syntax.specs.Partial.{bind, when};
 ghost use Rattle.text.specs.Bytes.{number, literal};
@@ -17,16 +17,24 @@ pub enum Number {
     Bad,
 }
 
-// A digit's value; 10 for any other byte.
-fn digit(b: u8) -> u64
-    ensures { λ r. ⌜ r ≡ digitOf b ⌝ }
+// The byte is no digit.
+fn no_digit(b: u8) -> bool
+    ensures { λ r. ⌜ r ≡ ltb 9 (digitOf b) ⌝ }
 {
     if b < b'0' {
-        return 10;
+        return true;
     }
     if b'9' < b {
-        return 10;
+        return true;
     }
+    false
+}
+
+// A digit's value.
+fn digit(b: u8) -> u64
+    requires { ⌜ digitOf b ≤ 9 ⌝ }
+    ensures { λ r. ⌜ (r ≡ digitOf b) × (r ≤ 9) ⌝ }
+{
     (b as u64) - 48
 }
 
@@ -38,11 +46,11 @@ fn digits(s: &[u8], high: u32) -> Number
     let mut n: u64 = 0;
     let mut i = 0;
     while i < s.len() {
-        let d = digit(s[i]);
-        if 9 < d {
+        let b = s[i];
+        if no_digit(b) {
             return Number::Bad;
         }
-        n = n * 10 + d;
+        n = n * 10 + digit(b);
         if top < n {
             return Number::Bad;
         }

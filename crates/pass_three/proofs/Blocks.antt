@@ -1,6 +1,5 @@
 -- The lowest line of pass three, block by block.
 use Prim.Native.Nat.{ℕ, zero, suc, _+_, _-_, _*_, _≤_, _<_}
-use native.Mathlib.Nat.{add-zero}
 use native.Mathlib.Omega.{arith}
 use mathlib.Core.Path.{_≡_, refl, ap, ap₂, sym, subst, _∙_}
 use mathlib.Core.Bool.{Bool, true, false, not, _&&_, cond}
@@ -10,18 +9,19 @@ use lib.Dec.{eqb, ltb}
 use lib.ListN.{length, getD, replicate, length-replicate}
 use borrow.Author.Tests.{ne-eqb, lt-ltb, ltb-false}
 use Rattle.syntax.specs.Syntax.{Kind, value, stack, Instr}
-use Rattle.syntax.specs.Fault.{Fault, given, numberOf, lowest, Pass, Clear, Refusal, itemsOf, refuse, lowestLine, orElse}
+use Rattle.syntax.specs.Fault.{Fault, given, numberOf, lowest, Pass, Refusal, itemsOf, refuse, lowestLine, orElse}
 use Rattle.syntax.proofs.Least.{leastOf, given-none, Numbered, numbered-given, numbered-append, items-given, items-append, line-next, line-here, line-append, line-after}
 use Rattle.text.specs.PassOne.{Listing}
-use Rattle.types.specs.Types.{Ty, int, junk, var, tuple, pointer, code, items, Arg, aStack}
+use Rattle.types.specs.Types.{Ty, code, items, Arg, aStack}
 use Rattle.types.specs.Rows.{typeAt, typesOf}
 use Rattle.tables.specs.Tables.{RowTable, cell, span, letterOf, lettersAt, rowsIn, OperandTable, instrsFrom, blocksFrom}
-use Rattle.tables.proofs.Steps.{length-rows, endOf, listingAt, blocks-step}
+use Rattle.tables.proofs.Steps.{length-rows, length-instrs, endOf, listingAt, blocks-step}
 use Rattle.types.proofs.Meaning.{length-types}
 use Rattle.valid.specs.Program.{Block, Program, blockOf, blocksOf}
 use Rattle.valid.specs.Rules.{Context, atStart}
 use Rattle.valid.specs.PassThree.{holds, isFormed, isEntry, bodyFaults, blockFaults, blocksFaults, hasNone, passThree}
 use Rattle.valid.proofs.Clear.{clear-replicate}
+use Rattle.valid.proofs.Order.{body-of}
 use Rattle.rows.specs.Read.{tab, lower, valueAt, placeV, meanV, meanS, partsOf}
 use Rattle.rows.specs.declared.Val.{Val}
 use Rattle.rows.specs.declared.Val.the-variants.{Code}
@@ -70,20 +70,6 @@ module _ (P : Program) (T : List Arg) (β ι : List ℕ) (ω : OperandTable) (ni
   unfoldable pub blocksLeft : ℕ → Option Refusal
   blocksLeft b = lowestLine (n + b + startAt b + 1) (blocksFaults P (eqb b 0) (blocksOf T (blocksFrom β ι ω ni b (nb - b))))
 
-  length-instrs : (j k : ℕ) → length (instrsFrom ι ω j k) ≡ k
-  unfolding instrsFrom
-  length-instrs j zero = refl
-  length-instrs j (suc k) = ap suc (length-instrs (suc j) k)
-
-  body-of : (t : Ty value) (xs : List Instr) → blockOf t xs .body ≡ xs
-  unfolding blockOf
-  body-of int xs = refl
-  body-of junk xs = refl
-  body-of (var k) xs = refl
-  body-of (tuple a) xs = refl
-  body-of (pointer a) xs = refl
-  body-of (code q a r) xs = refl
-
   faults-more : (first : Bool) (B : Block) (Bs : List Block) → blocksFaults P first (B ∷ Bs) ≡ blockPass P first B ++ blocksFaults P false Bs
   unfolding blocksFaults
   faults-more first B Bs = refl
@@ -93,7 +79,7 @@ module _ (P : Program) (T : List Arg) (β ι : List ℕ) (ω : OperandTable) (ni
   blocks-more b h = ap (λ (l : List Listing). blocksOf T l) (blocks-step β ι ω ni nb b h)
 
   length-pass : (first : Bool) (b : ℕ) → length (blockPass P first (theBlock T β ι ω ni nb b)) ≡ suc (endOf β ni nb b - cell 2 β b 1)
-  length-pass first b = ap suc (length-body P (theBlock T β ι ω ni nb b .letters) (holds (atStart (theBlock T β ι ω ni nb b))) (theBlock T β ι ω ni nb b .body) ∙ ap length (body-of (typeAt value T (cell 2 β b 0)) (instrsFrom ι ω (cell 2 β b 1) (endOf β ni nb b - cell 2 β b 1))) ∙ length-instrs (cell 2 β b 1) (endOf β ni nb b - cell 2 β b 1))
+  length-pass first b = ap suc (length-body P (theBlock T β ι ω ni nb b .letters) (holds (atStart (theBlock T β ι ω ni nb b))) (theBlock T β ι ω ni nb b .body) ∙ ap length (body-of (typeAt value T (cell 2 β b 0)) (instrsFrom ι ω (cell 2 β b 1) (endOf β ni nb b - cell 2 β b 1))) ∙ length-instrs ι ω (cell 2 β b 1) (endOf β ni nb b - cell 2 β b 1))
 
   end-start : (b : ℕ) → endOf β ni nb b ≡ startAt (b + 1)
   unfolding endOf
@@ -140,9 +126,6 @@ module _ (P : Program) (T : List Arg) (β ι : List ℕ) (ω : OperandTable) (ni
   length-blocks b zero = refl
   length-blocks b (suc zero) = refl
   length-blocks b (suc (suc k)) = ap suc (length-blocks (suc b) (suc k))
-
-  abbrev theBlocks : List Block
-  theBlocks = blocksOf T (blocksFrom β ι ω ni 0 nb)
 
   nothing-more : (m : ℕ) (p : Pass) → lowestLine m (p ++ [] ∷ []) ≡ lowestLine m p
   nothing-more m p = line-append m p ([] ∷ []) ∙ go (lowestLine m p)

@@ -45,9 +45,6 @@ low-items (unfit j ∷ fs) (low-unfit l h) i k = at j i (itemsOf fs) l (low-item
     at j i xs l f (later k) = f k
 
 -- ---- premises
-abbrev LowJ : {A : Type 0} → Judged A → Type 0
-LowJ J = Low (faultsOf J)
-
 module _ {A B : Type 0} where
   then : (J : Judged A) (k : A → Judged B) → Low (faultsOf J) → ((x : A) → Low (faultsOf (k x))) → Low (faultsOf (J ▹ k))
   unfolding _▹_ faultsOf

@@ -68,9 +68,6 @@ module _ {A : Type 0} where
   told-fails (fails f fs) (suc k) x e z = sym (ap lack-of e)
 
 module _ (P : Program) (Δ : List Kind) where
-  abbrev bodyLine : ℕ → Context → List Instr → Option Refusal
-  bodyLine n Γ xs = lowestLine n (bodyFaults P Δ (holds Γ) xs)
-
   pub body-next : (n : ℕ) (Γ Γ′ : Context) (x : Instr) (xs : List Instr) (k item : ℕ) → Answered (judge P Δ Γ x) k Γ′ item → k ≡ 0 → lowestLine n (bodyFaults P Δ (holds Γ) (x ∷ xs)) ≡ lowestLine (suc n) (bodyFaults P Δ (holds Γ′) xs)
   unfolding bodyFaults
   body-next n Γ Γ′ x xs k item a z =

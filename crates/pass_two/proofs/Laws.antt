@@ -6,9 +6,9 @@ use mathlib.Core.Path.{_≡_, refl, ap, ap₂, sym, subst, _∙_}
 use mathlib.Core.Bool.{Bool, true, false, not, cond}
 use mathlib.Core.Option.{Option, none, some}
 use mathlib.Core.List.{List, [], _∷_, _++_, map, append-eq-nil-iff}
-use lib.ListN.{length}
-use lib.Dec.{ltb, eqb}
-use borrow.Author.Tests.{ne-eqb, eqb-true, eqb-false, ltb-false}
+use lib.ListN.{length, length-replicate, getD, replicate, getD-replicate, List·getD-eq-default}
+use lib.Dec.{ltb, leb, eqb}
+use borrow.Author.Tests.{ne-eqb, eqb-true, eqb-false, leb-true, leb-false, ltb-false}
 use Rattle.syntax.specs.Syntax.{Row}
 use Rattle.syntax.specs.Fault.{Fault, Clear, given, numberOf, lowest, Refusal, itemsOf, lowestLine, orElse}
 use Rattle.syntax.proofs.Least.{least, leastOf, given-none, line-next, line-here}
@@ -17,6 +17,7 @@ use Rattle.text.proofs.Entries.{entriesIn}
 use Rattle.types.specs.Rows.{Ref, rowRefs, allBelow, allOfSort, sizeOf, sizesFrom, sizesOf, rowFaults, rowsFaults, refsFaults, passTwo, entriesFaults}
 use Rattle.tables.specs.Tables.{RowTable, rowAt, rowsFrom, rowsIn}
 use Rattle.rows.proofs.Bridge.{rows-snoc}
+use Rattle.measure.specs.Size.{Measured}
 use Rattle.refs.specs.declared.Found.{Found}
 use Rattle.refs.specs.Refs.{rowRefsFaults, foundOf, refusalOf}
 use Rattle.refs.proofs.References.{row-least, numbered-row, items-row}
@@ -54,6 +55,17 @@ module _ (τ : RowTable) (r f : ℕ) (e : f ≡ leastOf (rowRefsFaults τ r)) wh
   pub row-size : (b : Bool) → b ≡ ltb 4096 (sizeOf (sizesOf (rowsIn τ r)) (rowAt τ r)) → f ≡ 0 → cond b 6 0 ≡ leastOf (faultsAt τ r)
   unfolding least
   row-size b q z = ap (λ (x : Bool). least 0 (cond x 6 0)) q ∙ ap (λ (x : ℕ). least x (cond (ltb 4096 (sizeOf (sizesOf (rowsIn τ r)) (rowAt τ r))) 6 0)) (sym z) ∙ sym by-size
+
+-- ---- no size is known yet
+zero-at : (n h : ℕ) → _≡_ {A = ℕ} (getD (replicate n 0) h 0) 0
+zero-at n h = go (leb n h) refl
+  where
+    go : (b : Bool) → leb n h ≡ b → _≡_ {A = ℕ} (getD (replicate n 0) h 0) 0
+    go true e = List·getD-eq-default (replicate n 0) 0 (let l = leb-true n h e in let k = length-replicate {A = ℕ} n 0 in omega arith)
+    go false e = getD-replicate n h 0 0 (let l = leb-false n h e in omega arith)
+
+pub measured-none : (τ : RowTable) (n : ℕ) → Measured τ (replicate n 0)
+measured-none τ n h z = absurd (z (zero-at n h))
 
 -- ---- the type lines from row r on
 module _ (τ : RowTable) (n : ℕ) where

@@ -21,6 +21,7 @@ pub record Holds (τ : RowTable) (n : ℕ) (β : List ℕ) (nb : ℕ) (P : Progr
   pub labels : (Δ : List Kind) (l : ℕ) → labelType P Δ (getElem? (P .blocks) l) ≡ when (ltb l nb) (typeAt value (P .types) (cell 2 β l 0))
 
 -- ---- items
+-- i is one of the list
 pub data In (i : ℕ) : List ℕ → Type 0 where
   first : {xs : List ℕ} → In i (i ∷ xs)
   later : {x : ℕ} {xs : List ℕ} → In i xs → In i (x ∷ xs)

@@ -24,6 +24,7 @@ abbrev pub Short : Operand → Type 0
 Short (plain b) = Unit
 Short (inst b ts t) = length ts ≤ 8
 
+-- every operand is
 abbrev pub AllShort : List Operand → Type 0
 AllShort [] = Unit
 AllShort (v ∷ vs) = Short v × AllShort vs
@@ -32,6 +33,7 @@ AllShort (v ∷ vs) = Short v × AllShort vs
 abbrev pub SmallInstr : Instr → Type 0
 SmallInstr x = AllShort (names x .operands) × (length (names x .operands) ≤ 16)
 
+-- the bounds of a line
 abbrev pub SmallEntry : Entry → Type 0
 SmallEntry (row r) = SmallRow r
 SmallEntry (block c) = Unit

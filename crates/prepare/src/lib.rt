@@ -23,6 +23,7 @@ fn put_two(rows: &mut [u16], n: usize)
     rows[j] = 1;
 }
 
+// Puts the two rows behind the n of the text, counts the items of stack rows, and finds how rows use variables.
 pub fn prepare(rows: &mut [u16], parts: &[u16], n: usize, uses: &mut [u8], tops: &mut [u16])
     requires { ⌜ (n ≤ 512) × (4 * n + 8 ≤ length (now rows)) × (64 * n ≤ length (now uses)) × (n ≤ length (now tops)) ⌝ }
     requires { ⌜ Clear (rowsFaults [] [] (rowsIn (tab (now rows) (now parts)) n)) × ((r : ℕ) → r < n → SmallRow (rowAt (tab (now rows) (now parts)) r)) ⌝ }

@@ -8,6 +8,7 @@ ghost use Prim.Native.Nat.{_-_};
 ghost use lib.ListN.{length, take, drop, set};
 ghost use Rattle.reader.specs.Reading.{pastLf, lineFrom, nextFrom, endedAt, moved, ReadAll};
 
+// A lent text, and where in it the next line starts.
 pub struct Reader<'a> {
     pub text: &'a [u8],
     pub at: usize,

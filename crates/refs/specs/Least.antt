@@ -22,6 +22,7 @@ kindFits anyRow k = true
 abbrev pub refLeast : List ℕ → ℕ → Sort → ℕ → ℕ
 refLeast rs n s t = cond (ltb t n) (cond (kindFits s (cell 4 rs t 0)) 0 5) 4
 
+-- the least fault of rows named, 0 for none
 unfoldable pub refsLeast : List ℕ → ℕ → List Ref → ℕ
 refsLeast rs n [] = 0
 refsLeast rs n (r ∷ refs) = least (refLeast rs n (r .sort) (r .row)) (refsLeast rs n refs)
@@ -33,6 +34,7 @@ partRefs Register zero = []
 partRefs Register (suc t) = ref valueRow t ∷ []
 partRefs Argument t = ref anyRow t ∷ []
 
+-- what a list of rows names
 unfoldable pub listRefs : Part → List ℕ → List Ref
 listRefs p [] = []
 listRefs p (x ∷ xs) = partRefs p x ++ listRefs p xs
@@ -42,6 +44,7 @@ listRefs p (x ∷ xs) = partRefs p x ++ listRefs p xs
 abbrev pub labelLeast : ℕ → ℕ → ℕ → ℕ
 labelLeast nb k l = cond (ltb k 2) 0 (cond (ltb l nb) 0 4)
 
+-- the least fault of what operands name, their labels below nb
 unfoldable pub operandsLeast : List ℕ → ℕ → ℕ → List Operand → ℕ
 operandsLeast rs n nb vs = least (cond (allBelow nb (labels vs)) 0 4) (refsLeast rs n (operandsRefs vs))
 
@@ -74,9 +77,11 @@ instrNames =
     ∷ (1 ∷ 0 ∷ [])
     ∷ []
 
+-- which entry of an instruction with the code k is its row t
 abbrev pub givenPlace : ℕ → ℕ
 givenPlace k = getD (getD instrNames k []) 0 0
 
+-- the operands of an instruction with the code k, as the table says it
 abbrev pub operandCount : ℕ → ℕ
 operandCount k = getD (getD instrNames k []) 1 0
 

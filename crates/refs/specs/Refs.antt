@@ -12,6 +12,7 @@ use Rattle.types.specs.Rows.{rowRefs, refsFaults, entriesFaults}
 use Rattle.refs.specs.declared.Found.{Found}
 
 -- ---- tables
+-- the operands, as the functions are lent them
 abbrev pub operandTable : List ℕ → List ℕ → List ℕ → OperandTable
 operandTable operands numbers args = record { operands = operands; numbers = numbers; args = args }
 

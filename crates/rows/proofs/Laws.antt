@@ -410,28 +410,6 @@ module _ (τ : RowTable) (r j n : ℕ) where
   pub found-last : (x i : ℕ) {s : Step} → Found x i → s ≡ downOf (τ .rows) (stackAt (τ .rows) StkVar x) i n → s ≡ Stay → Narrowed τ r j n x i
   found-last x i f e g = record { row-low = f .0; at-low = f .1; same = f .2; rest = f .3; stays = sym e ∙ g }
 
-take-all : (n : ℕ) (a : Ty stack) → items a ≤ n → takeS n a ≡ a
-unfolding takeS items
-take-all zero nil h = refl
-take-all (suc n) nil h = refl
-take-all zero (push t a) h = absurd (not-suc-le-zero h)
-take-all (suc n) (push t a) h = ap (push t) (take-all n a (omega arith))
-take-all zero (svar k a) h = absurd (not-suc-le-zero h)
-take-all (suc n) (svar k a) h = ap (svar k) (take-all n a (omega arith))
-take-all zero (gap a) h = absurd (not-suc-le-zero h)
-take-all (suc n) (gap a) h = ap gap (take-all n a (omega arith))
-
-pub trimmed : (τ : RowTable) (h n x i : ℕ) → n ≡ items (meanS τ h) → Narrowed τ h 0 n x i → (meanS τ x ≡ meanS τ h) × (x ≤ h)
-unfolding dropS
-trimmed τ h n x i e w = (at-top i refl (w .at-low), w .row-low)
-  where
-    at-top : (z : ℕ) → i ≡ z → z ≤ 0 → meanS τ x ≡ meanS τ h
-    at-top (suc z) q l = absurd (not-suc-le-zero l)
-    at-top zero q l =
-        let s : takeS n (meanS τ h) ≡ takeS n (meanS τ x) = w .same ∙ ap (λ k. takeS n (dropS k (meanS τ x))) q in
-        let g = w .rest in
-        sym (take-all n (meanS τ x) (omega arith)) ∙ sym s ∙ take-all n (meanS τ h) (omega arith)
-
 -- ---- variables in a context
 abbrev pub noArg : Arg
 noArg = arg value junk

@@ -8,7 +8,7 @@ ghost use Prim.Native.Nat.{ℕ, _+_, _-_, _*_, _≤_, _<_};
 ghost use mathlib.Core.List.{[]};
 ghost use lib.ListN.{length, getD};
 ghost use Rattle.tables.specs.Tables.{cell};
-ghost use Rattle.rows.specs.Read.{tab, lower, valueWith, stackWith, valueAt, stackAt, placeV, placeS, OkV, OkS, slotAt, OkSlot, itemsAt, CountedTo, isStackAt, ItemOf, stackUnder, meanS, downOf, Narrowed, headOf};
+ghost use Rattle.rows.specs.Read.{tab, lower, valueWith, stackWith, valueAt, stackAt, placeV, placeS, OkV, OkS, slotAt, OkSlot, itemsAt, CountedTo, isStackAt, ItemOf, stackUnder, downOf, Narrowed, headOf};
 ghost use Rattle.rows.specs.declared.Stk.the-variants.{StkVar};
 
 // A value row; a row of another sort is junk. A variable is placed: it stays one, or it is filled by argument j.
@@ -52,6 +52,7 @@ pub struct Place {
     pub at: usize,
 }
 
+// A place further down that has the items looked for, or none.
 pub enum Step {
     Stay,
     Down(usize, usize),
@@ -288,15 +289,6 @@ pub fn narrow(rows: &[u16], parts: &[u16], r: usize, j: usize, n: usize) -> Plac
             }
         }
     }
-}
-
-// The lowest row that has the items of stack row h: joins with a row of no items are skipped.
-pub fn trim(rows: &[u16], parts: &[u16], h: usize) -> usize
-    requires { ⌜ (h ≤ 65536) × CountedTo (tab (now rows) (now parts)) h ⌝ }
-    ensures { λ out. ⌜ (meanS (tab (now (rows .entry)) (now (parts .entry))) out ≡ meanS (tab (now (rows .entry)) (now (parts .entry))) h) × (out ≤ h) ⌝ }
-{
-    let w = narrow(rows, parts, h, 0, item_count(rows, h));
-    w.row
 }
 
 fn head(s: Stk) -> Item

@@ -1,17 +1,28 @@
 -- From one turn of the loop to the run.
-use mathlib.Core.Path.{_≡_, refl, ap, sym, _∙_}
+use mathlib.Core.Path.{_≡_, refl, ap, sym, _∙_, subst}
 use mathlib.Core.Bool.{Bool, true, false}
 use mathlib.Core.List.{List}
-use Prim.Native.Nat.{ℕ, zero, suc, _+_, _-_, _<_, _≤_}
-use native.Mathlib.Nat.{zero-add, add-zero, add-suc, sub-zero}
+use Prim.Native.Nat.{ℕ, zero, suc, _+_, _-_, _<_, _≤_, min}
+use native.Mathlib.Nat.{zero-add, add-zero, add-suc, sub-zero, add-assoc, not-suc-le-zero, min-le-left, min-le-right}
 use native.Mathlib.Omega.{arith}
-use lib.Dec.{ltb}
-use borrow.Author.Tests.{ltb-true, ltb-false}
+use lib.Dec.{leb, ltb}
+use lib.ListN.{length}
+use borrow.Author.Tests.{ltb-true, ltb-false, leb-true}
 use Rattle.exec.specs.Machine.{State, Bodies, Stop, Result, go, stop, step}
-use Rattle.exec.specs.Run.{End, Ran, paused, stopped, ended, oneMore, after, run}
-use Rattle.machine.specs.Step.{Tables, stepAt}
+use Rattle.exec.specs.Run.{End, Ran, paused, stopped, ended, oneMore, after, run, longEnough}
+use Rattle.tables.specs.Tables.{OperandTable}
+use Rattle.machine.specs.declared.Place.{Place}
+use Rattle.machine.specs.Step.{Tables, operandsOf, stateOf, nextAt, resultOf, stepAt}
+use Rattle.predecode.specs.Plan.{Plan}
+use Rattle.predecode.proofs.Rows.{and3}
+use Rattle.machine.specs.declared.Next.{Next}
+use Rattle.quick.specs.declared.Moved.{Moved}
+use Rattle.quick.specs.declared.Moved.the-variants.{To, Left}
+use Rattle.quick.specs.Made.{Made, Checked}
+use Rattle.quick.proofs.Laws.{plan-checked}
 use Rattle.machine.specs.Represents.{Represents}
 use Rattle.machine.proofs.Exec.{step-is}
+use Rattle.runner.specs.Runs.{later}
 use Rattle.effect.specs.Turn.{Turn, turn}
 use Rattle.effect.specs.Turn as turns
 
@@ -77,10 +88,6 @@ module _ (σ τ : State) where
   ends-is s false (go σ′) e = absurd (one-two (sym (ap number e)))
 
 -- ---- runs
--- k steps were made before
-abbrev pub later : ℕ → Ran → Ran
-later k r = record { end = r .end; steps = k + r .steps; state = r .state }
-
 none-before : (r : Ran) → later 0 r ≡ r
 none-before r = λ i. record { end = r .end; steps = zero-add (r .steps) i; state = r .state }
 
@@ -139,3 +146,50 @@ module _ (T : Tables) (σ : State) (b k : ℕ) where
         let w : Ends σ τ s (stepAt T σ) = ends-is σ τ s more (stepAt T σ) h in
         (λ i. record { end = stopped s; steps = sym (add-zero k) i; state = w .same i })
         ∙ ap (later k) (sym (at-stop P σ s (b - k) (sym (step-is T args P rep σ) ∙ w .stops)))
+
+-- ---- a step made at once
+module _ (T : Tables) (σ τ : State) (b k : ℕ) (args : List ℕ) (P : Bodies) (rep : Represents T args P) where
+  pub stepped : k < b → ((ω : OperandTable) → resultOf ω σ (nextAt T σ) ≡ go τ) → later (k + 1) (run P (b - (k + 1)) τ) ≡ later k (run P (b - k) σ)
+  unfolding stepAt
+  stepped l h =
+      let n : ℕ = b - (k + 1) in
+      let e : suc n ≡ b - k = omega arith in
+      let s : step P σ ≡ go τ = sym (step-is T args P rep σ) ∙ h (operandsOf T) in
+      let r : Ran = run P n τ in
+      let q : k + 1 + r .steps ≡ k + suc (r .steps) = omega arith in
+      (λ i. record { end = r .end; steps = q i; state = r .state })
+      ∙ ap (later k) (sym (one-step P σ τ n s) ∙ ap (λ (m : ℕ). run P m σ) e)
+
+-- steps k, then m of what is left
+pub both : (P : Bodies) (σ τ : State) (b k m : ℕ) → k ≤ b → m ≤ b - k → later m (run P (b - k - m) τ) ≡ run P (b - k) σ → later (k + m) (run P (b - (k + m)) τ) ≡ later k (run P (b - k) σ)
+both P σ τ b k m l j h =
+    let e : b - (k + m) ≡ b - k - m = omega arith in
+    ap (λ (n : ℕ). later (k + m) (run P n τ)) e
+    ∙ (λ i. record { end = run P (b - k - m) τ .end; steps = add-assoc k m (run P (b - k - m) τ .steps) i; state = run P (b - k - m) τ .state })
+    ∙ ap (later k) h
+
+-- ---- lent memory as long as the limits
+pub long : (rk rn sk sn hk hn : List ℕ) (p : Place) → longEnough (stateOf rk rn sk sn hk hn p) ≡ true → (8 ≤ length rk) × (8 ≤ length rn) × (256 ≤ length sk) × (256 ≤ length sn) × (2048 ≤ length hk) × (2048 ≤ length hn)
+unfolding longEnough
+long rk rn sk sn hk hn p e =
+    let a = and3 (leb 8 (min (length rk) (length rn))) (leb 256 (min (length sk) (length sn))) (leb 2048 (min (length hk) (length hn))) e in
+    let r : 8 ≤ min (length rk) (length rn) = leb-true 8 (min (length rk) (length rn)) (a .0) in
+    let s : 256 ≤ min (length sk) (length sn) = leb-true 256 (min (length sk) (length sn)) (a .1) in
+    let h : 2048 ≤ min (length hk) (length hn) = leb-true 2048 (min (length hk) (length hn)) (a .2) in
+    (omega (arith, min-le-left (length rk) (length rn)), omega (arith, min-le-right (length rk) (length rn)), omega (arith, min-le-left (length sk) (length sn)), omega (arith, min-le-right (length sk) (length sn)), omega (arith, min-le-left (length hk) (length hn)), omega (arith, min-le-right (length hk) (length hn)))
+
+-- ---- rows that are there
+pub rows-checked : (T : Tables) (φ : List ℕ) (n : ℕ) → (0 < n → n ≡ T .count) → (0 < n → Plan T φ) → Checked φ n
+rows-checked T φ zero e h = record { low = λ j l s. absurd (not-suc-le-zero l) }
+rows-checked T φ (suc n) e h = let k : 0 < suc n = omega arith in subst (λ (m : ℕ). Checked φ m) (sym (e k)) (plan-checked T φ (h k))
+
+pub positive : (n : ℕ) → (n ≡ 0 → ⊥) → 0 < n
+positive zero h = absurd (h refl)
+positive (suc n) h = omega arith
+
+-- ---- what is told of a step made at once
+pub made-to : (x : Next) (σ τ : State) (r : Moved) (to : Place) → r ≡ To to → Made x σ r τ → Made x σ (To to) τ
+made-to x σ τ r to e h = subst (λ (m : Moved). Made x σ m τ) e h
+
+pub made-left : (x : Next) (σ τ : State) (r : Moved) → r ≡ Left → Made x σ r τ → τ ≡ σ
+made-left x σ τ r e h = subst (λ (m : Moved). Made x σ m τ) e h

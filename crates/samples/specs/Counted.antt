@@ -6,5 +6,6 @@ use lib.Dec.{eqb}
 use lib.ListN.{length}
 use Rattle.syntax.specs.Partial.{bind, when}
 
+-- the samples, if there are n
 abbrev pub exactly : ℕ → Option (List ℕ) → Option (List ℕ)
 exactly n o = bind o (λ xs. when (eqb (length xs) n) xs)

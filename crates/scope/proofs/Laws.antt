@@ -277,13 +277,13 @@ respected-leaf uses tops ps (suc (suc (suc c))) a b x₃ x₄ x₅ h = go (eqb (
         rw q
 
 -- a row's uses are those of its type
-type-use : (τ : RowTable) (r : ℕ) (uses : List ℕ) (k : ℕ) → Checked τ r → Free τ r uses → rowUse uses k (rowAt τ r) ≡ freeIn k (rowType τ r)
+pub type-use : (τ : RowTable) (r : ℕ) (uses : List ℕ) (k : ℕ) → Checked τ r → Free τ r uses → rowUse uses k (rowAt τ r) ≡ freeIn k (rowType τ r)
 unfolding rowType
 type-use τ r uses k c h = row-use τ r uses h k (rowAt τ r) (low τ r (rowRefs (rowAt τ r)) (c .lower) (c .sorts))
 
 -- row r, from its entries
 module _ (rows ps : List ℕ) (r : ℕ) {c a b : ℕ} (p : c ≡ cell 4 rows r 0) (q : a ≡ cell 4 rows r 1) (e : b ≡ cell 4 rows r 2) where
-  row-from : rowFrom ps c a b ≡ rowAt (tab rows ps) r
+  pub row-from : rowFrom ps c a b ≡ rowAt (tab rows ps) r
   unfolding rowAt
   row-from = rw (p, q, e)
 
@@ -354,7 +354,7 @@ arg-made : (Δ : List Kind) (a : Arg) → properIn a ≡ true → respectedIn a 
 unfolding formedArg properIn respectedIn freeIn
 arg-made Δ (arg κ t) p e f = formed-made Δ aStack t p e f
 
-top-past : (f : ℕ → ℕ) (n k : ℕ) → topOf f n ≤ k → k < n → f k ≡ 0
+pub top-past : (f : ℕ → ℕ) (n k : ℕ) → topOf f n ≤ k → k < n → f k ≡ 0
 unfolding topOf
 top-past f zero k h l = absurd (not-suc-le-zero l)
 top-past f (suc n) k h l = go (eqb (f n) 0) refl h (top-past f n)

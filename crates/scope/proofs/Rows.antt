@@ -270,6 +270,40 @@ row-high uses k h (rowX j) l = rw (ne-eqb j k (λ e. omega arith))
 row-high uses k h (rowK t s) l = rw (use-high uses k t h, unused-both) (use-high uses k s h)
 row-high uses k h (rowA a b) l = rw (use-high uses k a h, unused-both) (use-high uses k b h)
 
+-- ---- no variable from `bound` on is free, where that holds of the rows named
+-- a row that is not itself a variable
+abbrev pub NoVariable : Row → Type 0
+NoVariable rowI = Unit
+NoVariable rowN = Unit
+NoVariable (rowV j) = ⊥
+NoVariable (rowU ts) = Unit
+NoVariable (rowP s) = Unit
+NoVariable (rowC q s rs) = Unit
+NoVariable rowE = Unit
+NoVariable (rowX j) = ⊥
+NoVariable (rowK t s) = Unit
+NoVariable (rowA a b) = Unit
+
+module _ (τ : RowTable) (r bound : ℕ) (uses : List ℕ) (past : (t k : ℕ) → t < r → bound ≤ k → useAt uses k t ≡ 0) where
+  parts-past : (k : ℕ) → bound ≤ k → (rs : List (Option ℕ)) → Low τ r (knownRefs rs) → partsUse uses k rs ≡ 0
+  unfolding partsUse partUse knownRefs
+  parts-past k h [] l = refl
+  parts-past k h (none ∷ rs) l = unused-both (partsUse uses k rs) ∙ parts-past k h rs l
+  parts-past k h (some t ∷ rs) l = rw (past t k (l .0) h, unused-both) (parts-past k h rs (l .2))
+
+  pub row-past : (k : ℕ) → bound ≤ k → (x : Row) → NoVariable x → Low τ r (rowRefs x) → rowUse uses k x ≡ 0
+  unfolding rowUse codeUse rowRefs
+  row-past k h rowI v l = refl
+  row-past k h rowN v l = refl
+  row-past k h (rowV j) v l = absurd v
+  row-past k h (rowU ts) v l = parts-past k h (map some ts) (rw (← (known-refs ts)) l)
+  row-past k h (rowP s) v l = past s k (l .0) h
+  row-past k h (rowC q s rs) v l = rw (past s (length q + k) (l .0) (omega arith), unused-both) (parts-past (length q + k) (omega arith) rs (l .2))
+  row-past k h rowE v l = refl
+  row-past k h (rowX j) v l = absurd v
+  row-past k h (rowK t s) v l = rw (past t k (l .0) h, unused-both) (past s k (l .2 .0) h)
+  row-past k h (rowA a b) v l = rw (past a k (l .0) h, unused-both) (past b k (l .2 .0) h)
+
 -- ---- the types of rows have lists of items as their use asks
 proper-use : (u w : Use) (t : Ty value) → proper u t ≡ true → proper w t ≡ true
 unfolding proper
@@ -367,6 +401,18 @@ eight-from ps k a b =
     (either Eight (eqb k 6) rowE _ tt
     (either Eight (eqb k 7) (rowX a) _ tt
     (either Eight (eqb k 8) (rowK a b) (rowA a b) tt tt))))))))
+
+pub no-variable : (ps : List ℕ) (k a b : ℕ) → (k ≡ 2 → ⊥) → (k ≡ 7 → ⊥) → NoVariable (rowFrom ps k a b)
+unfolding rowFrom codeRowAt
+no-variable ps k a b p q =
+    rw (ne-eqb k 2 p, ne-eqb k 7 q)
+    (either NoVariable (eqb k 0) rowI _ tt
+    (either NoVariable (eqb k 1) rowN _ tt
+    (either NoVariable (eqb k 3) (rowU (span ps a b)) _ tt
+    (either NoVariable (eqb k 4) (rowP a) _ tt
+    (either NoVariable (eqb k 5) (codeRowAt ps a b) _ tt
+    (either NoVariable (eqb k 6) rowE _ tt
+    (either NoVariable (eqb k 8) (rowK a b) (rowA a b) tt tt)))))))
 
 eight-at : (τ : RowTable) (r : ℕ) → Eight (rowAt τ r)
 unfolding rowAt

@@ -84,6 +84,14 @@ topIn a = cond (respectedIn a) (topOf (λ k. freeIn k a) 64) 255
 abbrev pub Free : RowTable → ℕ → List ℕ → Type 0
 Free τ n uses = (r k : ℕ) → r < n → useAt uses k r ≡ freeIn k (rowType τ r)
 
+-- no variable from `bound` on is free in the first n rows
+abbrev pub Within : RowTable → ℕ → ℕ → Type 0
+Within τ n bound = (r k : ℕ) → r < n → bound ≤ k → freeIn k (rowType τ r) ≡ 0
+
+-- entries i to j are 0 now, and those before them as they were
+abbrev pub Cleared : List ℕ → List ℕ → ℕ → ℕ → Type 0
+Cleared before after i j = ((x : ℕ) → x < i → getD after x 0 ≡ getD before x 0) × ((x : ℕ) → i ≤ x → x < j → getD after x 0 ≡ 0)
+
 -- both tables are right for the first n rows, and have room for them
 pub record Scoped (τ : RowTable) (n : ℕ) (uses tops : List ℕ) : Type 0 where
   pub room : 64 * n ≤ length uses

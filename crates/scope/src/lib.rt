@@ -1,14 +1,15 @@
 // Fault 7: is every variable of a row bound by the block's letters, and of its letter?
 // Two tables are filled once, each row from the rows that it names. `uses` has 64 entries a row, one for each variable: how it is free in
 // the row, 0 not, 1 as a value variable, 2 as a stack variable, 3 as both. `tops` has one entry a row: one more than the highest free
-// variable, or 255 if some variable is bound inside the row by a letter of the other kind.
+// variable, or 255 if some variable is bound inside the row by a letter of the other kind. The rows before a row give a bound, past which
+// no variable is free in them: only the variables below it are looked for.
 // Promises: `find_all` makes tables that are right for the types of the rows (`Scoped`, specs/Scoped.antt), and from such tables `formed`
 // answers whether the type of a row is well-formed under the letters given (`formedArg` of crate valid). Laws for callers: proofs/Callers.antt.
 ghost use mathlib.Core.Path.{_≡_};
 ghost use mathlib.Core.Bool.{_&&_, cond};
 ghost use mathlib.Core.List.{map};
 ghost use Prim.Native.Nat.{ℕ, suc, _+_, _*_, _^_, _<_, _≤_};
-ghost use lib.Dec.{eqb};
+ghost use lib.Dec.{eqb, ltb};
 ghost use lib.ListN.{length, getD, getElem?};
 ghost use Rattle.syntax.specs.Syntax.{value};
 ghost use Rattle.types.specs.Types.{junk, arg};
@@ -17,7 +18,7 @@ ghost use Rattle.valid.specs.PassThree.{formedArg};
 ghost use Rattle.tables.specs.Tables.{cell, span, letterOf, knownOf, lettersAt, codeRowAt, rowFrom, rowAt, rowsIn};
 ghost use Rattle.rows.specs.Read.{tab};
 ghost use Rattle.scope.specs.Free.{both, useOf, fits, fitTo, topOf, freeIn};
-ghost use Rattle.scope.specs.Scoped.{partsAt, useAt, partUse, partsUse, codeUse, rowUse, respectedAt, partRespected, partsRespected, rowRespected, rowType, Free, Scoped, Checked};
+ghost use Rattle.scope.specs.Scoped.{partsAt, useAt, partUse, partsUse, codeUse, rowUse, respectedAt, partRespected, partsRespected, rowRespected, rowType, Free, Within, Cleared, Scoped, Checked};
 
 fn narrow(x: usize) -> u16
     requires { ⌜ x ≤ 65535 ⌝ }
@@ -300,23 +301,60 @@ fn raised(top: usize, u: u8, k: usize) -> usize
     k + 1
 }
 
-// Fills the uses of row r; answers one more than its highest free variable.
-fn fill_uses(rows: &[u16], parts: &[u16], uses: &mut [u8], r: usize) -> usize
-    requires { ⌜ (64 * r + 64 ≤ length (now uses)) × Checked (tab (now rows) (now parts)) r × Free (tab (now rows) (now parts)) r (now uses) ⌝ }
+// A bound of the variables of a row of kind c: that of the rows before it, or, of a variable itself, 64.
+fn limit_of(c: usize, bound: usize) -> usize
+    requires { ⌜ bound ≤ 64 ⌝ }
+    ensures { λ out. ⌜ (out ≡ cond (eqb c 2) 64 (cond (eqb c 7) 64 bound)) × (out ≤ 64) ⌝ }
+{
+    if c == 2 {
+        return 64;
+    }
+    if c == 7 {
+        return 64;
+    }
+    bound
+}
+
+// Entries `from` to `to` become 0.
+fn clear(uses: &mut [u8], from: usize, to: usize)
+    requires { ⌜ to ≤ length (now uses) ⌝ }
+    ensures { λ _. ⌜ Cleared (now (uses .entry)) (now (uses .exit)) from to ⌝ }
+{
+    let mut i = from;
+    while i < to {
+        uses[i] = 0;
+        i += 1;
+    }
+}
+
+// Fills the uses of row r, none from `bound` on being free in the rows before it; answers one more than its highest free variable.
+fn fill_uses(rows: &[u16], parts: &[u16], uses: &mut [u8], r: usize, bound: usize) -> usize
+    requires { ⌜ (64 * r + 64 ≤ length (now uses)) × Checked (tab (now rows) (now parts)) r × Free (tab (now rows) (now parts)) r (now uses) × (bound ≤ 64) × Within (tab (now rows) (now parts)) r bound ⌝ }
     ensures { λ out. ⌜ (out ≡ topOf (λ k. freeIn k (rowType (tab (now (rows .entry)) (now (parts .entry))) r)) 64) × Free (tab (now (rows .entry)) (now (parts .entry))) (suc r) (now (uses .exit)) ⌝ }
 {
     let c = entry(rows, r, 0);
     let a = entry(rows, r, 1);
     let b = entry(rows, r, 2);
+    let limit = limit_of(c, bound);
     let mut top = 0;
     let mut k = 0;
-    while k < 64 {
+    while k < limit {
         let u = form_use(parts, uses, c, a, b, k);
         uses[64 * r + k] = u;
         top = raised(top, u, k);
         k += 1;
     }
+    clear(uses, 64 * r + limit, 64 * r + 64);
     top
+}
+
+fn larger(a: usize, b: usize) -> usize
+    ensures { λ out. ⌜ out ≡ cond (ltb a b) b a ⌝ }
+{
+    if a < b {
+        return b;
+    }
+    a
 }
 
 fn mark(respected: bool, top: usize) -> u16
@@ -329,14 +367,22 @@ fn mark(respected: bool, top: usize) -> u16
     255
 }
 
-// Fills the entries of row r, those of the rows before it being there.
-pub fn find_uses(rows: &[u16], parts: &[u16], uses: &mut [u8], tops: &mut [u16], r: usize)
-    requires { ⌜ (64 * r + 64 ≤ length (now uses)) × (r < length (now tops)) × Checked (tab (now rows) (now parts)) r × Scoped (tab (now rows) (now parts)) r (now uses) (now tops) ⌝ }
-    ensures { λ _. ⌜ Scoped (tab (now (rows .entry)) (now (parts .entry))) (suc r) (now (uses .exit)) (now (tops .exit)) ⌝ }
+// Fills the entries of row r, those of the rows before it being there; from bound to bound.
+pub fn find_uses(
+    rows: &[u16],
+    parts: &[u16],
+    uses: &mut [u8],
+    tops: &mut [u16],
+    r: usize,
+    bound: usize,
+) -> usize
+    requires { ⌜ (64 * r + 64 ≤ length (now uses)) × (r < length (now tops)) × Checked (tab (now rows) (now parts)) r × Scoped (tab (now rows) (now parts)) r (now uses) (now tops) × (bound ≤ 64) × Within (tab (now rows) (now parts)) r bound ⌝ }
+    ensures { λ out. ⌜ Scoped (tab (now (rows .entry)) (now (parts .entry))) (suc r) (now (uses .exit)) (now (tops .exit)) × (out ≤ 64) × Within (tab (now (rows .entry)) (now (parts .entry))) (suc r) out ⌝ }
 {
     let respected = row_respected(rows, parts, uses, tops, r);
-    let top = fill_uses(rows, parts, uses, r);
+    let top = fill_uses(rows, parts, uses, r, bound);
     tops[r] = mark(respected, top);
+    larger(bound, top)
 }
 
 // Fills the entries of the n rows.
@@ -344,9 +390,10 @@ pub fn find_all(rows: &[u16], parts: &[u16], uses: &mut [u8], tops: &mut [u16], 
     requires { ⌜ (64 * n ≤ length (now uses)) × (n ≤ length (now tops)) × ((r : ℕ) → r < n → Checked (tab (now rows) (now parts)) r) ⌝ }
     ensures { λ _. ⌜ Scoped (tab (now (rows .entry)) (now (parts .entry))) n (now (uses .exit)) (now (tops .exit)) ⌝ }
 {
+    let mut bound = 0;
     let mut r = 0;
     while r < n {
-        find_uses(rows, parts, uses, tops, r);
+        bound = find_uses(rows, parts, uses, tops, r, bound);
         r += 1;
     }
 }

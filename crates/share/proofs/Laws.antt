@@ -19,7 +19,7 @@ use Rattle.types.proofs.Meaning.{typeIn, as-kind}
 use Rattle.tables.specs.Tables.{RowTable, cell, rowsIn}
 use Rattle.rows.specs.Read.{tab, isStackAt, meanV, meanS, argOf}
 use Rattle.rows.proofs.Bridge.{arg-at}
-use Rattle.share.specs.Shared.{firstOf, Firsts, newA, newB, newSlot, newPart, entryAt, partAt, FilledRows, FilledParts}
+use Rattle.share.specs.Shared.{firstOf, Firsts, newA, newB, newSlot, newPart, entryAt, partAt, FilledRows, FilledParts, FilledRow}
 
 -- the product of two numbers of k bits has at most k + k
 pub below : (k : ℕ) {a b : ℕ} → a < 2 ^ k → b < 2 ^ k → a * b < 2 ^ (k + k)
@@ -134,11 +134,31 @@ module _ (g : ℕ → ℕ → ℕ) (before l : List ℕ) (m i : ℕ) where
       let k : 4 * r + e - 4 * r ≡ e = omega arith in
       F .2 (4 * r + e) (omega arith) ∙ rw (d, k) refl
 
-  pub filled-parts : Filling 17 g (17 * m) before l i → 17 * m ≤ i → (r e : ℕ) → r < m → e < 17 → getD l (17 * r + e) 0 ≡ g r e
-  filled-parts F h r e p q =
-      let d : (17 * r + e) / 17 ≡ r = omega arith in
-      let k : 17 * r + e - 17 * r ≡ e = omega arith in
-      F .2 (17 * r + e) (omega arith) ∙ rw (d, k) refl
+-- ---- a table filled record by record
+module _ (base : ℕ) (g : ℕ → ℕ) (before : List ℕ) where
+  pub row-first : FilledRow base 0 g before before
+  row-first = (λ j h. absurd (omega arith), λ x h. refl)
+
+  pub row-next : (l : List ℕ) (j x y : ℕ) → base + j < length l → x ≡ g j → y ≡ x → FilledRow base j g before l → FilledRow base (j + 1) g before (set l (base + j) y)
+  row-next l j x y room e f F = (λ i m. go i m (eqb i j) refl, λ z m. getD-set-other l (base + j) z y 0 (λ q. omega arith) ∙ F .1 z m)
+    where
+      go : (i : ℕ) → i < j + 1 → (b : Bool) → eqb i j ≡ b → getD (set l (base + j) y) (base + i) 0 ≡ g i
+      go i m true t =
+          let z : i ≡ j = eqb-true i j t in
+          rw z (getD-set-same l (base + j) y 0 room ∙ f ∙ e)
+      go i m false t =
+          let z : i ≡ j → ⊥ = eqb-false i j t in
+          getD-set-other l (base + j) (base + i) y 0 (λ q. z (omega arith)) ∙ F .0 i (omega (arith, z))
+
+pub parts-next : (g : ℕ → ℕ → ℕ) (before l : List ℕ) (r : ℕ) → ((s j : ℕ) → s < r → j < 17 → getD before (17 * s + j) 0 ≡ g s j) → FilledRow (17 * r) 17 (g r) before l → (s j : ℕ) → s < r + 1 → j < 17 → getD l (17 * s + j) 0 ≡ g s j
+parts-next g before l r h F s j m k = go (eqb s r) refl
+  where
+    go : (b : Bool) → eqb s r ≡ b → getD l (17 * s + j) 0 ≡ g s j
+    go true t = let z : s ≡ r = eqb-true s r t in rw z (F .0 j k)
+    go false t =
+        let z : s ≡ r → ⊥ = eqb-false s r t in
+        let q : s < r = omega (arith, z) in
+        F .1 (17 * s + j) (omega arith) ∙ h s j q k
 
 -- ---- rows of the same type
 module _ (τ : RowTable) (m c r : ℕ) (hc : c < m) (hr : r < m) where

@@ -49,6 +49,10 @@ FilledRows first rows m l = (r e : ℕ) → r < m → e < 4 → cell 4 l r e ≡
 abbrev pub FilledParts : List ℕ → List ℕ → List ℕ → ℕ → List ℕ → Type 0
 FilledParts first rows ps n l = (r j : ℕ) → r < n → j < 17 → cell 17 l r j ≡ partAt first rows ps r j
 
+-- entry base + j of a table is g j, for j below n, and those before are as they were
+abbrev pub FilledRow : ℕ → ℕ → (ℕ → ℕ) → List ℕ → List ℕ → Type 0
+FilledRow base n g before after = ((j : ℕ) → j < n → getD after (base + j) 0 ≡ g j) × ((x : ℕ) → x < base → getD after x 0 ≡ getD before x 0)
+
 -- ---- what is promised: σ stands for the same types as τ, n rows and two more, and serves as well
 pub record Shared (τ σ : RowTable) (n : ℕ) : Type 0 where
   pub types : typesOf (rowsIn σ n) ≡ typesOf (rowsIn τ n)

@@ -15,7 +15,7 @@ ghost use Rattle.types.specs.Rows.{typesOf, rowsFaults};
 ghost use Rattle.tables.specs.Tables.{cell, rowAt, rowsIn};
 ghost use Rattle.rows.specs.Read.{tab, Counted};
 ghost use Rattle.premises.specs.Bounds.{SmallRow};
-ghost use Rattle.share.specs.Shared.{firstOf, Firsts, newA, newB, newSlot, newPart, entryAt, partAt, FilledRows, FilledParts, Shared};
+ghost use Rattle.share.specs.Shared.{firstOf, Firsts, newA, newB, newSlot, newPart, entryAt, partAt, FilledRows, FilledParts, FilledRow, Shared};
 
 fn narrow(x: usize) -> u16
     requires { ⌜ x ≤ 65535 ⌝ }
@@ -108,16 +108,6 @@ fn new_entry(rows: &[u16], first: &[u16], r: usize, e: usize) -> usize
     x
 }
 
-fn part_at(rows: &[u16], parts: &[u16], first: &[u16], r: usize, j: usize) -> usize
-    requires { ⌜ (r ≤ 514) × (j ≤ 16) ⌝ }
-    ensures { λ out. ⌜ (out ≡ partAt (now (first .entry)) (now (rows .entry)) (now (parts .entry)) r j) × (out ≤ 65535) ⌝ }
-{
-    let k = rows::entry(rows, r, 0);
-    let a = rows::entry(rows, r, 1);
-    let b = rows::entry(rows, r, 2);
-    new_part(parts, first, k, a, b, j)
-}
-
 fn fill_rows(rows: &[u16], first: &[u16], m: usize, rows2: &mut [u16])
     requires { ⌜ (m ≤ 514) × (4 * m ≤ length (now rows2)) ⌝ }
     ensures { λ _. ⌜ FilledRows (now (first .entry)) (now (rows .entry)) m (now (rows2 .exit)) ⌝ }
@@ -131,16 +121,31 @@ fn fill_rows(rows: &[u16], first: &[u16], m: usize, rows2: &mut [u16])
     }
 }
 
+// The 17 parts of row r.
+fn fill_row(rows: &[u16], parts: &[u16], first: &[u16], r: usize, parts2: &mut [u16])
+    requires { ⌜ (r ≤ 512) × (17 * r + 17 ≤ length (now parts2)) ⌝ }
+    ensures { λ _. ⌜ FilledRow (17 * r) 17 (partAt (now (first .entry)) (now (rows .entry)) (now (parts .entry)) r) (now (parts2 .entry)) (now (parts2 .exit)) ⌝ }
+{
+    let k = rows::entry(rows, r, 0);
+    let a = rows::entry(rows, r, 1);
+    let b = rows::entry(rows, r, 2);
+    let base = 17 * r;
+    let mut j = 0;
+    while j < 17 {
+        let x = new_part(parts, first, k, a, b, j);
+        parts2[base + j] = narrow(x);
+        j += 1;
+    }
+}
+
 fn fill_parts(rows: &[u16], parts: &[u16], first: &[u16], n: usize, parts2: &mut [u16])
     requires { ⌜ (n ≤ 512) × (17 * n ≤ length (now parts2)) ⌝ }
     ensures { λ _. ⌜ FilledParts (now (first .entry)) (now (rows .entry)) (now (parts .entry)) n (now (parts2 .exit)) ⌝ }
 {
-    let mut i = 0;
-    while i < 17 * n {
-        let r = i / 17;
-        let x = part_at(rows, parts, first, r, i - 17 * r);
-        parts2[i] = narrow(x);
-        i += 1;
+    let mut r = 0;
+    while r < n {
+        fill_row(rows, parts, first, r, parts2);
+        r += 1;
     }
 }
 
@@ -279,7 +284,7 @@ fn put_hash(rows: &[u16], parts: &[u16], first: &[u16], work: &mut [u32], r: usi
 // ---- which row stands for a row
 // Rows c and r, of m rows, are of the same type.
 fn same_type(rows: &[u16], parts: &[u16], m: usize, c: usize, r: usize) -> bool
-    requires { ⌜ Counted (tab (now rows) (now parts)) m × (c < m) × (r < m) ⌝ }
+    requires { ⌜ (m ≤ 514) × (c < m) × (r < m) ⌝ }
     ensures { λ out. ⌜ (out ≡ true → getD (typesOf (rowsIn (tab (now (rows .entry)) (now (parts .entry))) m)) c (arg value junk) ≡ getD (typesOf (rowsIn (tab (now (rows .entry)) (now (parts .entry))) m)) r (arg value junk)) ⌝ }
 {
     let s = rows::is_stack(rows, r);
@@ -317,30 +322,87 @@ fn stands_for(
     same_type(rows, parts, m, c, r)
 }
 
-// The first row that is found to have the type of row r.
-fn first_like(rows: &[u16], parts: &[u16], m: usize, first: &[u16], work: &[u32], r: usize) -> usize
+// The rows that stand for themselves, chained by their hashes modulo 256: entry h of `chains` is one more than the last row of chain h, and
+// entry 256 + c one more than the row before row c in its chain. Nothing is promised of it.
+fn chain_of(work: &[u32], r: usize) -> usize
+    requires { ⌜ r ≤ 514 ⌝ }
+    ensures { λ out. ⌜ out < 256 ⌝ }
+{
+    (get(work, 2 * r) % 256) as usize
+}
+
+// Entry i, if it is below c; else 0.
+fn below(chains: &[u16], i: usize, c: usize) -> usize
+    requires { ⌜ 0 < c ⌝ }
+    ensures { λ out. ⌜ out < c ⌝ }
+{
+    let x = rows::at(chains, i);
+    if x < c {
+        return x;
+    }
+    0
+}
+
+fn put_link(chains: &mut [u16], i: usize, x: u16) {
+    if i < chains.len() {
+        chains[i] = x;
+    }
+}
+
+// Row r becomes the last of its chain if it stands for itself, row c standing for it.
+fn chain_row(chains: &mut [u16], work: &[u32], c: usize, r: usize)
+    requires { ⌜ r ≤ 514 ⌝ }
+{
+    if c != r {
+        return;
+    }
+    let h = chain_of(work, r);
+    let last = rows::at(chains, h);
+    put_link(chains, 256 + r, narrow(last));
+    put_link(chains, h, narrow(r + 1));
+}
+
+// A row that is found to have the type of row r.
+fn first_like(
+    rows: &[u16],
+    parts: &[u16],
+    m: usize,
+    first: &[u16],
+    work: &[u32],
+    chains: &[u16],
+    r: usize,
+) -> usize
     requires { ⌜ (m ≤ 514) × Counted (tab (now rows) (now parts)) m × (r < m) ⌝ }
     ensures { λ out. ⌜ (getD (typesOf (rowsIn (tab (now (rows .entry)) (now (parts .entry))) m)) out (arg value junk) ≡ getD (typesOf (rowsIn (tab (now (rows .entry)) (now (parts .entry))) m)) r (arg value junk)) × (out ≤ r) ⌝ }
 {
-    let mut c = 0;
-    while c < r {
-        if stands_for(rows, parts, m, first, work, c, r) {
-            return c;
+    let h = chain_of(work, r);
+    let mut c = below(chains, h, r + 1);
+    while 0 < c {
+        if stands_for(rows, parts, m, first, work, c - 1, r) {
+            return c - 1;
         }
-        c += 1;
+        c = below(chains, 255 + c, c);
     }
     r
 }
 
-fn find_first(rows: &[u16], parts: &[u16], n: usize, first: &mut [u16], work: &mut [u32])
+fn find_first(
+    rows: &[u16],
+    parts: &[u16],
+    n: usize,
+    first: &mut [u16],
+    work: &mut [u32],
+    chains: &mut [u16],
+)
     requires { ⌜ (n ≤ 512) × Counted (tab (now rows) (now parts)) (n + 2) × (n ≤ length (now first)) ⌝ }
     ensures { λ _. ⌜ Firsts (tab (now (rows .entry)) (now (parts .entry))) (n + 2) (now (first .exit)) n ⌝ }
 {
     let mut r = 0;
     while r < n {
         put_hash(rows, parts, first, work, r);
-        let c = first_like(rows, parts, n + 2, first, work, r);
+        let c = first_like(rows, parts, n + 2, first, work, chains, r);
         first[r] = narrow(c);
+        chain_row(chains, work, c, r);
         r += 1;
     }
 }
@@ -360,7 +422,8 @@ pub fn share(
     requires { ⌜ Clear (rowsFaults [] [] (rowsIn (tab (now rows) (now parts)) n)) × ((r : ℕ) → r < n → SmallRow (rowAt (tab (now rows) (now parts)) r)) ⌝ }
     ensures { λ _. ⌜ Shared (tab (now (rows .entry)) (now (parts .entry))) (tab (now (rows2 .exit)) (now (parts2 .exit))) n ⌝ }
 {
-    find_first(rows, parts, n, first, work);
+    let mut chains = [0u16; 768];
+    find_first(rows, parts, n, first, work, &mut chains);
     fill_rows(rows, first, n + 2, rows2);
     fill_parts(rows, parts, first, n, parts2);
 }

@@ -20,6 +20,7 @@ unfoldable pub fromTop : Memory → ℕ → List Word
 fromTop m zero = []
 fromTop m (suc d) = at m d ∷ fromTop m d
 
+-- the types that tuples were made with are closed
 abbrev pub AllClosed : Tuples → Type 0
 AllClosed [] = Unit
 AllClosed (c ∷ Ψ) = Wf [] aTuple c × AllClosed Ψ
@@ -78,6 +79,7 @@ Ends P σ Θ Ψ (stackFullAfter n) = Unit
 Ends P σ Θ Ψ (heapFullAfter n) = Unit
 Ends P σ Θ Ψ (stuckAfter n) = ⊥
 
+-- the steps that an answer tells; a refusal makes none
 unfoldable pub stepsOf : Answer → ℕ
 stepsOf (refused n line) = 0
 stepsOf (haltedAfter n k m) = n
@@ -113,6 +115,7 @@ pub record Refuses (σ : State) (o : Outcome) : Type 0 where
   pub answer : o .answer ≡ refused number line
   pub unchanged : o .state ≡ σ
 
+-- a call of the list: a starting or a continuing
 pub data Call : Type 0 where
   starts : List ℕ → ℕ → Call  -- samples, budget
   continues : ℕ → Call  -- budget

@@ -8,6 +8,7 @@ use lib.IntN.{ℤ, pos, negsuc}
 abbrev pub width : ℕ
 width = 32
 
+-- 2^32; bits are a number below it
 abbrev pub modulus : ℕ
 modulus = 2 ^ width
 

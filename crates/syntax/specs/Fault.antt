@@ -10,6 +10,7 @@ use lib.Dec.{eqb}
 pub data Fault : Type 0 where
   fault unfit : ℕ → Fault
 
+-- the number of a fault in the table of document 01
 unfoldable pub numberOf : Fault → ℕ
 numberOf (fault n) = n
 numberOf (unfit i) = 10
@@ -27,6 +28,7 @@ abbrev pub Clear : Pass → Type 0
 Clear [] = Unit
 Clear (fs ∷ p) = (fs ≡ []) × Clear p
 
+-- "number and line": what a refused text is told
 pub record Refusal : Type 0 where
   pub number : ℕ
   pub line : ℕ
@@ -43,6 +45,7 @@ unfoldable pub lowest : ℕ → List Fault → ℕ
 lowest n [] = n
 lowest n (f ∷ fs) = lowest (min n (numberOf f)) fs
 
+-- the refusal with number n on the line where the faults fs stand
 abbrev pub refuse : ℕ → ℕ → List Fault → Refusal
 refuse n line fs = record { number = n; line = line; items = cond (eqb n 10) (itemsOf fs) [] }
 
@@ -52,6 +55,7 @@ lowestLine n [] = none
 lowestLine n ([] ∷ ls) = lowestLine (suc n) ls
 lowestLine n ((f ∷ fs) ∷ ls) = some (refuse (lowest (numberOf f) fs) n (f ∷ fs))
 
+-- the first refusal, or the second where there is none
 abbrev pub orElse : Option Refusal → Option Refusal → Option Refusal
 orElse none s = s
 orElse (some r) s = some r

@@ -24,9 +24,11 @@ pub data Operand : Type 0 where
   plain : Base → Operand
   inst : Base → List ℕ → ℕ → Operand
 
+-- `add,d,s,v` `sub,d,s,v` `mul,d,s,v`
 pub data Arith : Type 0 where
   add sub mul : Arith
 
+-- "`beq,r,v` and `bneq bgt blt bgte blte`"
 pub data Branch : Type 0 where
   beq bneq bgt blt bgte blte : Branch
 

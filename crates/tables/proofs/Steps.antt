@@ -57,6 +57,11 @@ instrs-step ι ω i e h =
     let f : i + 1 ≡ suc i = omega arith in
     rw (q, f) refl
 
+pub length-instrs : (ι : List ℕ) (ω : OperandTable) (j k : ℕ) → length (instrsFrom ι ω j k) ≡ k
+unfolding instrsFrom
+length-instrs ι ω j zero = refl
+length-instrs ι ω j (suc k) = ap suc (length-instrs ι ω (suc j) k)
+
 -- ---- blocks
 -- where block b of nb ends
 unfoldable pub endOf : List ℕ → ℕ → ℕ → ℕ → ℕ

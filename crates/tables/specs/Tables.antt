@@ -26,10 +26,12 @@ pub record RowTable : Type 0 where
   pub rows : List ℕ
   pub parts : List ℕ
 
+-- a letter as it is kept: 0 for v, else s
 unfoldable pub letterOf : ℕ → Kind
 letterOf zero = value
 letterOf (suc n) = stack
 
+-- a register's row as it is kept: 0 for `-`, else one more than the row
 unfoldable pub knownOf : ℕ → Option ℕ
 knownOf zero = none
 knownOf (suc t) = some t
@@ -38,9 +40,11 @@ knownOf (suc t) = some t
 unfoldable pub lettersAt : List ℕ → ℕ → List Kind
 lettersAt ps p = map letterOf (span ps (p + 9) (getD ps (p + 8) 0))
 
+-- the C row with stack s whose registers start at p; its letters stand as written
 unfoldable pub codeRowAt : List ℕ → ℕ → ℕ → Row
 codeRowAt ps s p = rowC (reverse (lettersAt ps p)) s (map knownOf (span ps p 8))
 
+-- the row of kind k with the numbers a and b
 unfoldable pub rowFrom : List ℕ → ℕ → ℕ → ℕ → Row
 rowFrom ps k a b =
     cond (eqb k 0) rowI
@@ -53,6 +57,7 @@ rowFrom ps k a b =
     (cond (eqb k 7) (rowX a)
     (cond (eqb k 8) (rowK a b) (rowA a b)))))))))
 
+-- row r of the table
 unfoldable pub rowAt : RowTable → ℕ → Row
 rowAt τ r = rowFrom (τ .parts) (cell 4 (τ .rows) r 0) (cell 4 (τ .rows) r 1) (cell 4 (τ .rows) r 2)
 
@@ -61,6 +66,7 @@ unfoldable pub rowsFrom : RowTable → ℕ → ℕ → List Row
 rowsFrom τ i zero = []
 rowsFrom τ i (suc n) = rowAt τ i ∷ rowsFrom τ (suc i) n
 
+-- the first n rows
 abbrev pub rowsIn : RowTable → ℕ → List Row
 rowsIn τ n = rowsFrom τ 0 n
 
@@ -72,19 +78,23 @@ pub record OperandTable : Type 0 where
   pub numbers : List ℕ
   pub args : List ℕ
 
+-- the base of kind k with number n
 unfoldable pub baseOf : ℕ → ℕ → Base
 baseOf zero n = reg n
 baseOf (suc zero) n = lit n
 baseOf (suc (suc k)) n = lab n
 
+-- base b, plain if it has no arguments; else with them and the resulting row t
 unfoldable pub operandOf : Base → List ℕ → ℕ → Operand
 operandOf b [] t = plain b
 operandOf b (a ∷ ts) t = inst b (a ∷ ts) t
 
+-- operand v of the table
 unfoldable pub operandAt : OperandTable → ℕ → Operand
 operandAt ω v =
     operandOf (baseOf (cell 4 (ω .operands) v 0) (getD (ω .numbers) v 0)) (span (ω .args) (8 * v) (cell 4 (ω .operands) v 1)) (cell 4 (ω .operands) v 2)
 
+-- operands v to v + n - 1
 unfoldable pub operandsAt : OperandTable → ℕ → ℕ → List Operand
 operandsAt ω v zero = []
 operandsAt ω v (suc n) = operandAt ω v ∷ operandsAt ω (suc v) n
@@ -117,9 +127,11 @@ instrFrom ω k a b c d v n =
     (cond (eqb k 20) (ssp a b c d)
     (cond (eqb k 21) (jmp (operandAt ω v)) (halt a))))))))))))))))))))))
 
+-- instruction j of the table
 unfoldable pub instrAt : List ℕ → OperandTable → ℕ → Instr
 instrAt ι ω j = instrFrom ω (cell 8 ι j 0) (cell 8 ι j 1) (cell 8 ι j 2) (cell 8 ι j 3) (cell 8 ι j 4) (cell 8 ι j 5) (cell 8 ι j 6)
 
+-- instructions j to j + n - 1
 unfoldable pub instrsFrom : List ℕ → OperandTable → ℕ → ℕ → List Instr
 instrsFrom ι ω j zero = []
 instrsFrom ι ω j (suc n) = instrAt ι ω j ∷ instrsFrom ι ω (suc j) n

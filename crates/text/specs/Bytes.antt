@@ -15,6 +15,7 @@ unfoldable pub bytes : String → List ℕ
 bytes Str.[] = []
 bytes (Str._∷_ c s) = code c ∷ bytes s
 
+-- two texts are equal, byte by byte
 unfoldable pub sameBytes : List ℕ → List ℕ → Bool
 sameBytes [] [] = true
 sameBytes [] (c ∷ t) = false
@@ -22,6 +23,7 @@ sameBytes (b ∷ s) [] = false
 sameBytes (b ∷ s) (c ∷ t) = eqb b c && sameBytes s t
 
 -- ---- parts
+-- parts with a byte b before them: one that parts (true) puts an empty part first, any other joins the first part
 abbrev pub part : Bool → ℕ → List (List ℕ) → List (List ℕ)
 part true b ps = [] ∷ ps
 part false b [] = (b ∷ []) ∷ []
@@ -43,6 +45,7 @@ linesFrom ([] ∷ []) = []
 linesFrom ((b ∷ s) ∷ []) = unended (b ∷ s) ∷ []
 linesFrom (p ∷ q ∷ ps) = ended p ∷ linesFrom (q ∷ ps)
 
+-- the lines of a text, parted at LF
 unfoldable pub linesOf : List ℕ → List Line
 linesOf text = linesFrom (split (code "\n") text)
 
@@ -51,9 +54,11 @@ unfoldable pub fieldsOf : List ℕ → List (List ℕ)
 fieldsOf line = split (code ",") line
 
 -- ---- numbers
+-- the byte is a decimal digit
 unfoldable pub isDigit : ℕ → Bool
 isDigit b = leb (code "0") b && leb b (code "9")
 
+-- every byte is a digit
 unfoldable pub allDigits : List ℕ → Bool
 allDigits [] = true
 allDigits (b ∷ s) = isDigit b && allDigits s

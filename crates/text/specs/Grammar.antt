@@ -11,6 +11,7 @@ use Rattle.syntax.specs.Syntax.{Kind, value, stack, Row, rowI, rowN, rowE, rowV
 use Rattle.syntax.specs.Partial.{bind, when}
 use Rattle.text.specs.Bytes.{bytes, sameBytes, split, Line, ended, unended, fieldsOf, number, literal}
 
+-- a field: its bytes
 abbrev pub Field : Type 0
 Field = List ℕ
 
@@ -29,6 +30,7 @@ unfoldable pub end : Entry → Form
 end e [] = some e
 end e (f ∷ fs) = none
 
+-- every field read alike; none if one is not of that form
 unfoldable pub each : {A : Type 0} → (Field → Option A) → List Field → Option (List A)
 each p [] = some []
 each p (f ∷ fs) = bind (p f) (λ x. bind (each p fs) (λ xs. some (x ∷ xs)))
@@ -55,9 +57,11 @@ unfoldable pub register : Field → Option ℕ
 register [] = none
 register (b ∷ s) = bind (when (eqb b (code "r")) s) (λ s. bind (number 1 8 s) (λ n. some (n - 1)))
 
+-- "one letter per bound variable (v value, s stack)"
 unfoldable pub letter : ℕ → Option Kind
 letter b = cond (eqb b (code "v")) (some value) (when (eqb b (code "s")) stack)
 
+-- all bytes read as letters, in the order of the text
 unfoldable pub eachLetter : List ℕ → Option (List Kind)
 eachLetter [] = some []
 eachLetter (b ∷ s) = bind (letter b) (λ κ. bind (eachLetter s) (λ q. some (κ ∷ q)))
@@ -75,6 +79,7 @@ unfoldable pub carrier : Field → Option Base
 carrier [] = none
 carrier (b ∷ s) = cond (eqb b (code "#")) (bind (number 0 63 s) (λ l. some (lab l))) (bind (register (b ∷ s)) (λ r. some (reg r)))
 
+-- a register or label as read, or else a literal
 abbrev pub orLiteral : Option Base → Field → Option Base
 orLiteral none f = bind (literal f) (λ n. some (lit n))
 orLiteral (some b) f = some b
@@ -84,12 +89,14 @@ unfoldable pub carried : List Field → Field → Option Operand
 carried [] t = none
 carried (b ∷ ts) t = bind (carrier b) (λ c. bind (each rowNumber ts) (λ rs. bind (rowNumber t) (λ r. when (leb 1 (length ts) && leb (length ts) 8) (inst c rs r))))
 
+-- an operand from its parts between `=`: one is a plain operand, two are what carries arguments and the resulting row
 abbrev pub fromParts : List Field → Option Operand
 fromParts [] = none
 fromParts (b ∷ []) = bind (orLiteral (carrier b) b) (λ c. some (plain c))
 fromParts (l ∷ t ∷ []) = carried (split (code ":") l) t
 fromParts (l ∷ t ∷ u ∷ ps) = none
 
+-- an operand v
 unfoldable pub operand : Field → Option Operand
 operand f = fromParts (split (code "=") f)
 
@@ -99,9 +106,11 @@ pub record Named : Type 0 where
   pub name : String
   pub fields : Form
 
+-- the form f under the name s
 abbrev pub named : String → Form → Named
 named s f = record { name = s; fields = f }
 
+-- `add,d,s,v` and its like
 abbrev pub arith : Arith → Form
 arith o = do
   d ← register
@@ -109,12 +118,14 @@ arith o = do
   v ← operand
   end (instr (aop o d s v))
 
+-- `beq,r,v` and its like
 abbrev pub branch : Branch → Form
 branch o = do
   r ← register
   v ← operand
   end (instr (bop o r v))
 
+-- all forms: type lines, a block's line, instructions
 unfoldable pub forms : List Named
 forms =
     named "I" (end (row rowI))
@@ -158,6 +169,7 @@ unfoldable pub formNamed : List Named → Field → Form
 formNamed [] f fs = none
 formNamed (n ∷ ns) f fs = cond (sameBytes (bytes (n .name)) f) (n .fields fs) (formNamed ns f fs)
 
+-- what the fields of a line say, by its first field
 unfoldable pub entryOf : List Field → Option Entry
 entryOf [] = none
 entryOf (f ∷ fs) = formNamed forms f fs

@@ -34,6 +34,7 @@ isLast (halt t) = true
 pub data Place : Type 0 where
   atRows inBlock behindBlock : Place
 
+-- where the line after this one stands
 unfoldable pub placeAfter : Entry → Place
 placeAfter (row r) = atRows
 placeAfter (block c) = inBlock
@@ -58,14 +59,17 @@ mayEnd inBlock = false
 mayEnd behindBlock = true
 
 -- ---- counts
+-- how many type lines, blocks and instructions were read
 pub record Counts : Type 0 where
   pub rows : ℕ
   pub blocks : ℕ
   pub instrs : ℕ
 
+-- before the first line
 abbrev pub none-yet : Counts
 none-yet = record { rows = 0; blocks = 0; instrs = 0 }
 
+-- with this line counted too
 unfoldable pub counted : Counts → Entry → Counts
 counted n (row r) = record { rows = suc (n .rows); blocks = n .blocks; instrs = n .instrs }
 counted n (block c) = record { rows = n .rows; blocks = suc (n .blocks); instrs = n .instrs }
@@ -78,6 +82,7 @@ tooMany n (block c) = leb 64 (n .blocks)
 tooMany n (instr x) = leb 1024 (n .instrs)
 
 -- ---- faults
+-- the faults of a line that stands there, after so many: 1 if it is of no form; else 2 out of order, 3 too many
 unfoldable pub lineFaults : Place → Counts → Option Entry → List Fault
 lineFaults p n none = fault 1 ∷ []
 lineFaults p n (some e) = given (not (inOrder p e)) 2 ++ given (tooMany n e) 3
@@ -87,26 +92,32 @@ abbrev pub after : Place → Option Entry → Place
 after p none = p
 after p (some e) = placeAfter e
 
+-- the counts after a line; one of no form is not counted
 abbrev pub with-one : Counts → Option Entry → Counts
 with-one n none = n
 with-one n (some e) = counted n e
 
+-- the faults of each line from there on, and behind the last 2 "at file end: last line + 1"
 unfoldable pub linesFaults : Place → Counts → List (Option Entry) → Pass
 linesFaults p n [] = given (not (mayEnd p)) 2 ∷ []
 linesFaults p n (e ∷ es) = lineFaults p n e ∷ linesFaults (after p e) (with-one n e) es
 
+-- pass one, from line 0 on: "text too long: line 0", that is over 65,536 bytes
 unfoldable pub passOne : List ℕ → Pass
 passOne text = given (ltb 65536 (length text)) 3 ∷ linesFaults atRows none-yet (map parse (linesOf text))
 
 -- ---- what the text says
+-- what the lines of some form say
 unfoldable pub said : List (Option Entry) → List Entry
 said [] = []
 said (none ∷ es) = said es
 said (some e ∷ es) = e ∷ said es
 
+-- what the text says, line by line
 unfoldable pub entriesOf : List ℕ → List Entry
 entriesOf text = said (map parse (linesOf text))
 
+-- the type lines among them: rows 0, 1, ..
 unfoldable pub rowsOf : List Entry → List Row
 rowsOf [] = []
 rowsOf (row r ∷ es) = r ∷ rowsOf es
@@ -125,5 +136,6 @@ grouped (row r ∷ es) = grouped es
 grouped (block c ∷ es) = ([], record { code = c; body = grouped es .0 } ∷ grouped es .1)
 grouped (instr x ∷ es) = (x ∷ grouped es .0, grouped es .1)
 
+-- the blocks among them: labels 0, 1, ..
 unfoldable pub listingsOf : List Entry → List Listing
 listingsOf es = grouped es .1

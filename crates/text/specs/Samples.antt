@@ -5,10 +5,12 @@ use mathlib.Core.List.{List, [], _∷_}
 use Rattle.syntax.specs.Partial.{bind}
 use Rattle.text.specs.Bytes.{Line, ended, unended, linesOf, literal}
 
+-- a line's sample; a line without LF has none
 unfoldable pub sample : Line → Option ℕ
 sample (ended s) = literal s
 sample (unended s) = none
 
+-- the samples of all lines; none if a line has none
 unfoldable pub samplesFrom : List Line → Option (List ℕ)
 samplesFrom [] = some []
 samplesFrom (l ∷ ls) = bind (sample l) (λ n. bind (samplesFrom ls) (λ ns. some (n ∷ ns)))

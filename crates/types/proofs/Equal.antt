@@ -118,11 +118,3 @@ same-false x y n = go (same x y) refl
     go : (b : Bool) → same x y ≡ b → b ≡ false
     go true e = absurd (n (same-sound x y e))
     go false e = refl
-
-test1 : same (tuple (push int (push (var 3) nil))) (tuple (push int (push (var 3) nil))) ≡ true
-unfolding same
-test1 = refl
-
-test2 : same (tuple (push int (push (var 3) nil))) (tuple (push int (push (var 4) nil))) ≡ false
-unfolding same
-test2 = refl

@@ -6,6 +6,7 @@ use lib.Dec.{eqb}
 use Rattle.syntax.specs.Syntax.{Kind, value, stack}
 use Rattle.types.specs.Types.{Ty, int, junk, var, tuple, pointer, code, nil, push, svar, gap}
 
+-- "letters q included": two lists of letters are equal
 unfoldable pub sameLetters : List Kind → List Kind → Bool
 sameLetters [] [] = true
 sameLetters [] (κ ∷ q) = false

@@ -14,15 +14,18 @@ use Rattle.types.specs.Types.{Ty, int, junk, var, tuple, pointer, code, 
 unfoldable pub typeAt : (κ : Kind) → List Arg → ℕ → Ty κ
 typeAt κ table r = ofKind κ (getD table r (arg value junk))
 
+-- the types of a tuple's components, from their rows
 unfoldable pub components : List Arg → List ℕ → Ty stack
 components table [] = nil
 components table (t ∷ ts) = push (typeAt value table t) (components table ts)
 
+-- the types of a code row's registers; nothing is known of `-`
 unfoldable pub registers : List Arg → List (Option ℕ) → Ty stack
 registers table [] = nil
 registers table (none ∷ ts) = gap (registers table ts)
 registers table (some t ∷ ts) = push (typeAt value table t) (registers table ts)
 
+-- what a row means, by the types of the rows before it
 unfoldable pub meaning : List Arg → Row → Arg
 meaning table rowI = arg value int
 meaning table rowN = arg value junk
@@ -35,6 +38,7 @@ meaning table (rowX k) = arg stack (svar k nil)
 meaning table (rowK t s) = arg stack (push (typeAt value table t) (typeAt stack table s))
 meaning table (rowA s₁ s₂) = arg stack (join (typeAt stack table s₁) (typeAt stack table s₂))
 
+-- the types of the rows before, then of these
 unfoldable pub meanings : List Arg → List Row → List Arg
 meanings table [] = table
 meanings table (r ∷ rs) = meanings (table ++ meaning table r ∷ []) rs
@@ -48,6 +52,7 @@ typesOf rows = meanings [] rows
 pub data Sort : Type 0 where
   valueRow stackRow codeRow anyRow : Sort
 
+-- "Value rows": I N V U P C; the others are stack rows
 unfoldable pub isValue : Row → Bool
 isValue rowI = true
 isValue rowN = true
@@ -60,6 +65,7 @@ isValue (rowX k) = false
 isValue (rowK t s) = false
 isValue (rowA s₁ s₂) = false
 
+-- a code row
 unfoldable pub isCode : Row → Bool
 isCode rowI = false
 isCode rowN = false
@@ -72,24 +78,29 @@ isCode (rowX k) = false
 isCode (rowK t s) = false
 isCode (rowA s₁ s₂) = false
 
+-- the row is of the sort needed
 unfoldable pub isOf : Sort → Row → Bool
 isOf valueRow r = isValue r
 isOf stackRow r = not (isValue r)
 isOf codeRow r = isCode r
 isOf anyRow r = true
 
+-- a row that a line names, and the sort that it must be of
 pub record Ref : Type 0 where
   pub sort : Sort
   pub row : ℕ
 
+-- the row r, needed as sort s
 abbrev pub ref : Sort → ℕ → Ref
 ref s r = record { sort = s; row = r }
 
+-- the rows of the registers that are not `-`: values
 unfoldable pub knownRefs : List (Option ℕ) → List Ref
 knownRefs [] = []
 knownRefs (none ∷ rs) = knownRefs rs
 knownRefs (some r ∷ rs) = ref valueRow r ∷ knownRefs rs
 
+-- the rows that a row names
 unfoldable pub rowRefs : Row → List Ref
 rowRefs rowI = []
 rowRefs rowN = []
@@ -102,10 +113,12 @@ rowRefs (rowX k) = []
 rowRefs (rowK t s) = ref valueRow t ∷ ref stackRow s ∷ []
 rowRefs (rowA s₁ s₂) = ref stackRow s₁ ∷ ref stackRow s₂ ∷ []
 
+-- the rows that an operand names: its arguments ("value or stack") and its resulting row ("code")
 unfoldable pub operandRefs : Operand → List Ref
 operandRefs (plain b) = []
 operandRefs (inst b ts t) = map (ref anyRow) ts ++ ref codeRow t ∷ []
 
+-- the rows that operands name
 unfoldable pub operandsRefs : List Operand → List Ref
 operandsRefs [] = []
 operandsRefs (v ∷ vs) = operandRefs v ++ operandsRefs vs
@@ -115,12 +128,15 @@ pub record Names : Type 0 where
   pub given : List ℕ
   pub operands : List Operand
 
+-- one operand, and no row t
 abbrev pub operand : Operand → Names
 operand v = record { given = []; operands = v ∷ [] }
 
+-- the rows ts, and no operand
 abbrev pub only : List ℕ → Names
 only ts = record { given = ts; operands = [] }
 
+-- what each instruction names
 unfoldable pub names : Instr → Names
 names (aop o d s v) = operand v
 names (bop o r v) = operand v
@@ -139,21 +155,25 @@ names (ssp d i s t) = only (t ∷ [])
 names (jmp v) = operand v
 names (halt t) = only (t ∷ [])
 
+-- the label of a base, if it is one
 unfoldable pub baseLabels : Base → List ℕ
 baseLabels (reg r) = []
 baseLabels (lit n) = []
 baseLabels (lab l) = l ∷ []
 
+-- the labels that operands name
 unfoldable pub labels : List Operand → List ℕ
 labels [] = []
 labels (plain b ∷ vs) = baseLabels b ++ labels vs
 labels (inst b ts t ∷ vs) = baseLabels b ++ labels vs
 
 -- ---- faults
+-- the row, if it exists, is of the sort needed
 unfoldable pub isSort : Sort → Option Row → Bool
 isSort s none = true
 isSort s (some r) = isOf s r
 
+-- every number is below n
 unfoldable pub allBelow : ℕ → List ℕ → Bool
 allBelow n [] = true
 allBelow n (k ∷ ks) = ltb k n && allBelow n ks
@@ -163,6 +183,7 @@ unfoldable pub allOfSort : List Row → List Ref → Bool
 allOfSort rows [] = true
 allOfSort rows (r ∷ rs) = isSort (r .sort) (getElem? rows (r .row)) && allOfSort rows rs
 
+-- the numbers of the rows named
 abbrev pub rowsIn : List Ref → List ℕ
 rowsIn rs = map (λ r. r .row) rs
 
@@ -171,13 +192,16 @@ unfoldable pub total : List ℕ → List Ref → ℕ
 total sizes [] = 0
 total sizes (r ∷ rs) = getD sizes (r .row) 0 + total sizes rs
 
+-- the size of row r, by the sizes of the rows before it
 unfoldable pub sizeOf : List ℕ → Row → ℕ
 sizeOf sizes r = suc (total sizes (rowRefs r))
 
+-- the sizes of the rows before, then of these
 unfoldable pub sizesFrom : List ℕ → List Row → List ℕ
 sizesFrom sizes [] = sizes
 sizesFrom sizes (r ∷ rs) = sizesFrom (sizes ++ sizeOf sizes r ∷ []) rs
 
+-- the sizes of all rows
 unfoldable pub sizesOf : List Row → List ℕ
 sizesOf rows = sizesFrom [] rows
 
@@ -188,10 +212,12 @@ rowFaults before sizes r =
     ++ given (not (allOfSort before (rowRefs r))) 5
     ++ given (ltb 4096 (sizeOf sizes r)) 6
 
+-- the faults of each type line, by the rows before it and their sizes
 unfoldable pub rowsFaults : List Row → List ℕ → List Row → Pass
 rowsFaults before sizes [] = []
 rowsFaults before sizes (r ∷ rs) = rowFaults before sizes r ∷ rowsFaults (before ++ r ∷ []) (sizes ++ sizeOf sizes r ∷ []) rs
 
+-- 4 if a row named does not exist, 5 if one is of another sort than needed
 unfoldable pub refsFaults : List Row → List Ref → List Fault
 refsFaults rows rs = given (not (allBelow (length rows) (rowsIn rs))) 4 ++ given (not (allOfSort rows rs)) 5
 

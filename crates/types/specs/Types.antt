@@ -70,13 +70,16 @@ walk f d (gap a) = gap (walk f d a)
 unfoldable pub raising : ℕ → Act
 raising m d κ k = below d k (variable κ k) (λ j. variable κ (j + (m + d)))
 
+-- the type under m binders more: its free variables raised by m
 unfoldable pub raise : ℕ → {κ : Kind} → Ty κ → Ty κ
 raise m t = walk (raising m) 0 t
 
 -- ---- filling
+-- a type argument: a type of either kind
 pub data Arg : Type 0 where
   arg : (κ : Kind) → Ty κ → Arg
 
+-- the kind of an argument
 unfoldable pub kindOf : Arg → Kind
 kindOf (arg κ t) = κ
 
@@ -94,6 +97,7 @@ place κ d [] j = variable κ (j + d)
 place κ d (a ∷ A) zero = raise d (ofKind κ a)
 place κ d (a ∷ A) (suc j) = place κ d A j
 
+-- what stands for a variable when A fills: one that the d nearest binders bind stays
 unfoldable pub filling : List Arg → Act
 filling A d κ k = below d k (variable κ k) (place κ d A)
 
@@ -101,6 +105,7 @@ filling A d κ k = below d k (variable κ k) (place κ d A)
 unfoldable pub fill : ℕ → List Arg → {κ : Kind} → Ty κ → Ty κ
 fill d A t = walk (filling A) d t
 
+-- an argument with its variables filled
 unfoldable pub fillArg : List Arg → Arg → Arg
 fillArg A (arg κ t) = arg κ (fill 0 A t)
 

@@ -4,7 +4,7 @@ use native.Mathlib.Omega.{arith}
 use native.Mathlib.Nat.{add-zero}
 use mathlib.Core.Path.{_≡_, refl, ap, ap₂, sym, _∙_}
 use mathlib.Core.Bool.{Bool, true, false, cond}
-use mathlib.Core.Option.{Option, none, some}
+use mathlib.Core.Option.{Option, none, some, Option·none-ne-some}
 use mathlib.Core.List.{List, [], _∷_}
 use lib.Dec.{ltb}
 use lib.ListN.{getD}
@@ -13,8 +13,10 @@ use denote.Enum.Declared.{tagOf}
 use borrow.Author.Tests.{lt-ltb, le-ltb}
 use Rattle.syntax.specs.Partial.{when}
 use Rattle.syntax.specs.Syntax.{Kind, value, stack}
-use Rattle.types.specs.Types.{Ty, int, junk, tuple, pointer, code, nil, push, svar, gap, Arg}
+use Rattle.types.specs.Types.{Ty, int, junk, var, tuple, pointer, code, nil, push, svar, gap, Arg}
 use Rattle.types.specs.Rows.{typeAt, typesOf}
+use Rattle.types.specs.Equal.{same}
+use Rattle.types.proofs.Equal.{same-refl}
 use Rattle.tables.specs.Tables.{RowTable, cell, rowsIn, lettersAt}
 use Rattle.valid.specs.Program.{Program}
 use Rattle.valid.specs.PassThree.{Judged, _▹_, orFault, known, integerAt, tupleAt, pointerAt, itemAt, asInt, asTuple, asPointer, CodeType, asCode}
@@ -29,6 +31,23 @@ use Rattle.context.specs.Told.{toldOf, answer}
 use Rattle.context.proofs.Told.{told-stop}
 use Rattle.typing.specs.Typing.{typesIn, Ready, componentAt, codeIn}
 use Rattle.typing.proofs.Judging.{ifNone, told-when, told-next, known-told, some-link, no-link}
+
+-- a row's type is that of the same row
+pub same-self : (rows parts : List ℕ) (n l r : ℕ) → l ≡ r → true ≡ same (typeAt value (typesIn rows parts n) l) (typeAt value (typesIn rows parts n) r)
+same-self rows parts n l r e = sym (same-refl (typeAt value (typesIn rows parts n) l)) ∙ ap (λ (x : ℕ). same (typeAt value (typesIn rows parts n) l) (typeAt value (typesIn rows parts n) x)) e
+
+-- and integer types are equal
+type-int : (t : Ty value) (b : Bool) → asInt t ≡ when b tt → b ≡ true → t ≡ int
+unfolding asInt
+type-int int b e q = refl
+type-int junk b e q = absurd (Option·none-ne-some tt (e ∙ ap (λ x. when x tt) q))
+type-int (var k) b e q = absurd (Option·none-ne-some tt (e ∙ ap (λ x. when x tt) q))
+type-int (tuple a) b e q = absurd (Option·none-ne-some tt (e ∙ ap (λ x. when x tt) q))
+type-int (pointer a) b e q = absurd (Option·none-ne-some tt (e ∙ ap (λ x. when x tt) q))
+type-int (code p a r) b e q = absurd (Option·none-ne-some tt (e ∙ ap (λ x. when x tt) q))
+
+pub same-int : (t u : Ty value) (b c : Bool) → asInt t ≡ when b tt → b ≡ true → asInt u ≡ when c tt → c ≡ true → true ≡ same t u
+same-int t u b c e f g h = sym (same-refl int) ∙ ap₂ same (sym (type-int t b e f)) (sym (type-int u c g h))
 
 -- the form of row t, as it is read
 pub read-is : (rows parts : List ℕ) (n t h : ℕ) {v : Val} → h ≡ lower (n + 3) t → v ≡ valueAt rows (placeV 0 0 0) h → typeAt value (typesIn rows parts n) t ≡ buildV (meanV (tab rows parts)) (meanS (tab rows parts)) parts h v

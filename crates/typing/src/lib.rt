@@ -140,11 +140,34 @@ pub fn code(rows: &[u16], parts: &[u16], n: usize, t: usize) -> Coded
     }
 }
 
+// Rows l and r are both the integer type, as most rows that are compared are.
+fn both_int(rows: &[u16], parts: &[u16], n: usize, l: usize, r: usize) -> bool
+    requires { ⌜ Ready (now rows) (now parts) n ⌝ }
+    ensures { λ out. ⌜ (out ≡ true → true ≡ same (typeAt value (typesIn (now (rows .entry)) (now (parts .entry)) n) l) (typeAt value (typesIn (now (rows .entry)) (now (parts .entry)) n) r)) ⌝ }
+{
+    if 512 < l {
+        return false;
+    }
+    if 512 < r {
+        return false;
+    }
+    if is_int(rows, parts, n, l) {
+        return is_int(rows, parts, n, r);
+    }
+    false
+}
+
 // The value types of rows l and r are equal.
 pub fn same_rows(rows: &[u16], parts: &[u16], n: usize, l: usize, r: usize) -> bool
     requires { ⌜ Ready (now rows) (now parts) n ⌝ }
     ensures { λ out. ⌜ out ≡ same (typeAt value (typesIn (now (rows .entry)) (now (parts .entry)) n) l) (typeAt value (typesIn (now (rows .entry)) (now (parts .entry)) n) r) ⌝ }
 {
+    if l == r {
+        return true;
+    }
+    if both_int(rows, parts, n, l, r) {
+        return true;
+    }
     equal::equal_values(rows, parts, n + 2, l, r)
 }
 

@@ -178,9 +178,6 @@ accepted-earliest text b i e = go (earliest (passes text)) refl
     go none h = refl
     go (some r) h = let d = refuses text r h in let z : _≡_ {A = ℕ} 0 1 = cc in absurd (omega arith)
 
-pub accepted-counts : (text : List ℕ) (b i : ℕ) → check text ≡ accepted b i → (b ≡ length (programOf text .blocks)) × (i ≡ instrCount (programOf text .blocks))
-accepted-counts text b i e = let d = accepts text (accepted-earliest text b i e) in (cc, cc)
-
 pub accepted-typed : (text : List ℕ) (b i : ℕ) → check text ≡ accepted b i → Clear (passOne text) × Clear (passTwoOf text) × Typed (programOf text)
 unfolding passes
 accepted-typed text b i e =

@@ -256,13 +256,7 @@ module _ (P : Program) (Δ : List Kind) where
   judge-given Γ (jmp v) l = none-true (sym l)
   judge-given Γ (halt t) l = none-true (sym l)
 
-  -- without a fault: an operand has its type, a target fits, and a rule types the line
-  pub operand-sound : (f : Fault) (g : Ty stack) (v : Operand) {t : Ty value} → operand P Δ f g v ≡ holds t → OfOperand P Δ g v t
-  operand-sound f g v e = gave (operand-given f g v) e
-
-  pub target-sound : (Γ : Context) (v : Operand) {u : Unit {0}} → targetOf P Δ Γ v ≡ holds u → Target P Δ Γ v
-  target-sound Γ v e = gave (target-given Γ v) e
-
+  -- without a fault a rule types the line
   pub judge-sound : (Γ : Context) (x : Instr) {Γ′ : Context} → judge P Δ Γ x ≡ holds Γ′ → isLast x ≡ false → Rule P Δ Γ x Γ′
   judge-sound Γ x e l = gave (judge-given Γ x l) e
 

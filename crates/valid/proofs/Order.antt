@@ -1,6 +1,6 @@
 -- Where pass one is clear every line says something, and every block's body ends in its only `jmp` or `halt`.
 use Prim.Native.Nat.{ℕ, zero, suc}
-use mathlib.Core.Path.{_≡_, refl, ap}
+use mathlib.Core.Path.{_≡_, refl}
 use mathlib.Core.Bool.{Bool, true, false, not, cond}
 use mathlib.Core.Option.{Option, none, some}
 use mathlib.Core.List.{List, [], _∷_, map, append-eq-nil-iff}
@@ -63,20 +63,9 @@ ordered behindBlock n [] c = (refl, tt)
 ordered p n (none ∷ es) c = cons-nil (c .0)
 ordered p n (some e ∷ es) c = one-line p e (said es) (in-order p n e (c .0)) (ordered (placeAfter e) _ es (c .1))
 
-all-said : (p : Place) (n : Counts) (es : List (Option Entry)) → Clear (linesFaults p n es) → es ≡ map some (said es)
-unfolding linesFaults lineFaults said
-all-said p n [] c = refl
-all-said p n (none ∷ es) c = cons-nil (c .0)
-all-said p n (some e ∷ es) c = ap (_∷_ (some e)) (all-said (placeAfter e) _ es (c .1))
-
--- every line parses
-pub lines-parse : (text : List ℕ) → Clear (passOne text) → map parse (linesOf text) ≡ map some (entriesOf text)
-unfolding passOne entriesOf
-lines-parse text c = all-said atRows none-yet (map parse (linesOf text)) (c .1)
-
 -- ---- blocks
 -- a block's body is its listing's, whatever its row
-body-of : (t : Ty value) (xs : List Instr) → blockOf t xs .body ≡ xs
+pub body-of : (t : Ty value) (xs : List Instr) → blockOf t xs .body ≡ xs
 unfolding blockOf
 body-of int xs = refl
 body-of junk xs = refl

@@ -21,6 +21,7 @@ pub data Judged (A : Type 0) : Type 0 where
   holds : A → Judged A
   fails : Fault → List Fault → Judged A
 
+-- the faults of a premise; none if it holds
 unfoldable pub faultsOf : {A : Type 0} → Judged A → List Fault
 faultsOf (holds x) = []
 faultsOf (fails f fs) = f ∷ fs
@@ -39,19 +40,23 @@ holds x & fails f fs = fails f fs
 fails f fs & holds y = fails f fs
 fails f fs & fails g gs = fails f (fs ++ g ∷ gs)
 
+-- what is there, or fault n
 unfoldable pub orFault : {A : Type 0} → ℕ → Option A → Judged A
 orFault n none = fails (fault n) []
 orFault n (some x) = holds x
 
+-- the test holds, or fault f
 unfoldable pub need : Fault → Bool → Judged (Unit {0})
 need f true = holds tt
 need f false = fails f []
 
+-- holds if there is no fault
 unfoldable pub noneOf : List Fault → Judged (Unit {0})
 noneOf [] = holds tt
 noneOf (f ∷ fs) = fails f fs
 
 -- ---- reading types
+-- item i, if it is a value type and no stack variable stands above it; a register, if it is known
 unfoldable pub itemAt : Ty stack → ℕ → Option (Ty value)
 itemAt nil i = none
 itemAt (push t a) zero = some t
@@ -84,6 +89,7 @@ above b (push t a) = cond (same (push t a) b) (some nil) (bind (above b a) (λ c
 above b (svar k a) = cond (same (svar k a) b) (some nil) (bind (above b a) (λ c. some (svar k c)))
 above b (gap a) = cond (same (gap a) b) (some nil) (bind (above b a) (λ c. some (gap c)))
 
+-- the type is `int`
 unfoldable pub asInt : Ty value → Option (Unit {0})
 asInt int = some tt
 asInt junk = none
@@ -92,6 +98,7 @@ asInt (tuple a) = none
 asInt (pointer a) = none
 asInt (code q a r) = none
 
+-- a tuple type's components
 unfoldable pub asTuple : Ty value → Option (Ty stack)
 asTuple int = none
 asTuple junk = none
@@ -100,6 +107,7 @@ asTuple (tuple a) = some a
 asTuple (pointer a) = none
 asTuple (code q a r) = none
 
+-- a pointer type's stack
 unfoldable pub asPointer : Ty value → Option (Ty stack)
 asPointer int = none
 asPointer junk = none
@@ -108,11 +116,13 @@ asPointer (tuple a) = none
 asPointer (pointer a) = some a
 asPointer (code q a r) = none
 
+-- a code type's letters, stack and registers
 pub record CodeType : Type 0 where
   pub letters : List Kind
   pub sp : Ty stack
   pub regs : Ty stack
 
+-- a type as a code type, if it is one
 unfoldable pub asCode : Ty value → Option CodeType
 asCode int = none
 asCode junk = none
@@ -122,6 +132,7 @@ asCode (pointer a) = none
 asCode (code q a r) = some (record { letters = q; sp = a; regs = r })
 
 -- ---- well-formed types, as a test (Wf of crate types)
+-- the letter is there, and is κ
 unfoldable pub isKind : Kind → Option Kind → Bool
 isKind κ none = false
 isKind value (some value) = true
@@ -129,16 +140,19 @@ isKind value (some stack) = false
 isKind stack (some value) = false
 isKind stack (some stack) = true
 
+-- the list is a stack type: it may have stack variables
 unfoldable pub isStack : Use → Bool
 isStack aStack = true
 isStack aTuple = false
 isStack aFile = false
 
+-- the list is a register file: it may have gaps
 unfoldable pub isFile : Use → Bool
 isFile aStack = false
 isFile aTuple = false
 isFile aFile = true
 
+-- the type is well-formed under Δ: clause by clause as Wf
 unfoldable pub isFormed : List Kind → Use → {κ : Kind} → Ty κ → Bool
 isFormed Δ u int = true
 isFormed Δ u junk = true
@@ -151,9 +165,11 @@ isFormed Δ u (push t a) = isFormed Δ u t && isFormed Δ u a
 isFormed Δ u (svar k a) = isStack u && (isKind stack (getElem? Δ k) && isFormed Δ u a)
 isFormed Δ u (gap a) = isFile u && isFormed Δ u a
 
+-- an argument is well-formed under Δ
 unfoldable pub formedArg : List Kind → Arg → Bool
 formedArg Δ (arg κ t) = isFormed Δ aStack t
 
+-- every argument is
 unfoldable pub formedArgs : List Kind → List Arg → Bool
 formedArgs Δ [] = true
 formedArgs Δ (a ∷ A) = formedArg Δ a && formedArgs Δ A
@@ -168,12 +184,15 @@ module _ (P : Program) (Δ : List Kind) where
   unfoldable pub known : Ty stack → ℕ → Judged (Ty value)
   known g r = orFault 9 (itemAt g r)
 
+  -- register r has an integer
   unfoldable pub integerAt : Ty stack → ℕ → Judged (Unit {0})
   integerAt g r = known g r ▹ λ t. orFault 9 (asInt t)
 
+  -- register r has a tuple of these components
   unfoldable pub tupleAt : Ty stack → ℕ → Judged (Ty stack)
   tupleAt g r = known g r ▹ λ t. orFault 9 (asTuple t)
 
+  -- register r has a pointer to this stack
   unfoldable pub pointerAt : Ty stack → ℕ → Judged (Ty stack)
   pointerAt g r = known g r ▹ λ t. orFault 9 (asPointer t)
 
@@ -182,6 +201,7 @@ module _ (P : Program) (Δ : List Kind) where
   assign Γ d t = orFault 9 (bind (replaced (Γ .regs) d t) (λ g. some (withRegs Γ g)))
 
   -- ---- operands
+  -- the type of a label: its block's code row
   unfoldable pub labelType : Option Block → Option (Ty value)
   labelType none = none
   labelType (some B) = some (code (B .letters) (B .sp) (B .regs))
@@ -196,6 +216,7 @@ module _ (P : Program) (Δ : List Kind) where
   unfoldable pub lettersLeft : List Arg → List Kind → Option (List Kind)
   lettersLeft A l = when (leb (length A) (length l) && sameLetters (map kindOf A) (drop (length l - length A) l)) (take (length l - length A) l)
 
+  -- the resulting row's type t is the filled type
   unfoldable pub isFilled : Ty value → Option (Ty value) → Bool
   isFilled t none = false
   isFilled t (some u) = same t u
@@ -209,10 +230,12 @@ module _ (P : Program) (Δ : List Kind) where
       orFault 14 (lettersLeft A (c .letters)) ▹ λ q.
       need unequal (isFilled (typeOf P t) (filled A q (c .sp) (c .regs)))
 
+  -- the type of an operand; with arguments it is the resulting row's, and 7 is looked for in all its rows
   unfoldable pub operand : Fault → Ty stack → Operand → Judged (Ty value)
   operand unequal g (plain b) = base g b
   operand unequal g (inst b ts t) = (need (fault 7) (formedArgs Δ (argsOf P ts)) & formed t & applied unequal g b (argsOf P ts) t) ▹ λ z. holds (typeOf P t)
 
+  -- the types of the operands of `malloc`, in order
   unfoldable pub operands : Ty stack → List Operand → Judged (Ty stack)
   operands g [] = holds nil
   operands g (v ∷ vs) = (operand (fault 10) g v & operands g vs) ▹ λ z. holds (push (z .0) (z .1))
@@ -238,6 +261,7 @@ module _ (P : Program) (Δ : List Kind) where
   unfoldable pub noneLeft : CodeType → Bool
   noneLeft c = sameLetters (c .letters) []
 
+  -- a target: 9 if it is no code or has a variable left; 10 with each item that does not fit
   unfoldable pub targetOf : Context → Operand → Judged (Unit {0})
   targetOf Γ v =
       operand (unfit 99) (Γ .regs) v ▹ λ u.
@@ -255,6 +279,7 @@ module _ (P : Program) (Δ : List Kind) where
       holds c
 
   -- ---- instructions: the types after the line, or its faults
+  -- premise by premise as the rules of Rules.antt say it
   unfoldable pub judge : Context → Instr → Judged Context
   judge Γ (aop o d s v) = (integerAt (Γ .regs) s & (operand (fault 10) (Γ .regs) v ▹ λ t. orFault 9 (asInt t))) ▹ λ z. assign Γ d int
   judge Γ (bop o r v) = (integerAt (Γ .regs) r & targetOf Γ v) ▹ λ z. holds Γ
@@ -305,10 +330,12 @@ blockFaults first B =
     ++ given (first && not (isEntry B)) 8
     ++ given (ltb 64 (items (B .sp))) 13
 
+-- the faults of every block's line and instructions; `first` says that the first of them is block 0
 unfoldable pub blocksFaults : Program → Bool → List Block → Pass
 blocksFaults P first [] = []
 blocksFaults P first (B ∷ Bs) = blockFaults first B ∷ bodyFaults P (B .letters) (holds (atStart B)) (B .body) ++ blocksFaults P false Bs
 
+-- there is no block
 unfoldable pub hasNone : List Block → Bool
 hasNone [] = true
 hasNone (B ∷ Bs) = false

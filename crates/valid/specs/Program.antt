@@ -7,12 +7,14 @@ use Rattle.text.specs.PassOne.{Listing, entriesOf, rowsOf, listingsOf}
 use Rattle.types.specs.Types.{Ty, int, junk, var, tuple, pointer, code, nil, Arg, arg}
 use Rattle.types.specs.Rows.{typeAt, typesOf}
 
+-- a block: the letters, sp and registers of its code row, and its instructions
 pub record Block : Type 0 where
   pub letters : List Kind  -- in the order of their variables
   pub sp : Ty stack
   pub regs : Ty stack
   pub body : List Instr
 
+-- the types of all rows, and all blocks
 pub record Program : Type 0 where
   pub types : List Arg
   pub blocks : List Block
@@ -33,12 +35,15 @@ blockOf (tuple a) xs = record { letters = []; sp = nil; regs = nil; body = xs }
 blockOf (pointer a) xs = record { letters = []; sp = nil; regs = nil; body = xs }
 blockOf (code q a r) xs = record { letters = q; sp = a; regs = r; body = xs }
 
+-- the blocks of a text, by the types of its rows
 unfoldable pub blocksOf : List Arg → List Listing → List Block
 blocksOf types [] = []
 blocksOf types (b ∷ bs) = blockOf (typeAt value types (b .code)) (b .body) ∷ blocksOf types bs
 
+-- the program that lines say
 unfoldable pub programFrom : List Entry → Program
 programFrom es = record { types = typesOf (rowsOf es); blocks = blocksOf (typesOf (rowsOf es)) (listingsOf es) }
 
+-- the program of a text
 unfoldable pub programOf : List ℕ → Program
 programOf text = programFrom (entriesOf text)

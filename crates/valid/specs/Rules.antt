@@ -38,14 +38,17 @@ pub record Context : Type 0 where
   pub sp : Ty stack
   pub regs : Ty stack
 
+-- Γ with other registers
 abbrev pub withRegs : Context → Ty stack → Context
 withRegs Γ g = record { sp = Γ .sp; regs = g }
 
+-- Γ with another sp
 abbrev pub withSp : Context → Ty stack → Context
 withSp Γ a = record { sp = a; regs = Γ .regs }
 
 module _ (P : Program) (Δ : List Kind) where
   -- ---- operands, Ψ; Δ; Γ ⊢ v : τ
+  -- a register's type, an integer, or a label's code type
   pub data OfBase (g : Ty stack) : Base → Ty value → Type 0 where
     ⊢reg : {r : ℕ} {t : Ty value} → At g r t → OfBase g (reg r) t
     ⊢int : {n : ℕ} → OfBase g (lit n) int
@@ -57,6 +60,7 @@ module _ (P : Program) (Δ : List Kind) where
     ⊢tapp : {b : Base} {ts : List ℕ} {t : ℕ} (l q p : List Kind) (a r : Ty stack) → OfBase g b (code l a r) → l ≡ q ++ p → Args Δ (argsOf P ts) p → Wf Δ aStack (typeOf P t)
         → filled (argsOf P ts) q a r ≡ some (typeOf P t) → OfOperand g (inst b ts t) (typeOf P t)
 
+  -- operands, one by one
   pub data OfOperands (g : Ty stack) : List Operand → Ty stack → Type 0 where
     ⊢none : OfOperands g [] nil
     ⊢more : {v : Operand} {vs : List Operand} {t : Ty value} {a : Ty stack} → OfOperand g v t → OfOperands g vs a → OfOperands g (v ∷ vs) (push t a)
@@ -73,6 +77,7 @@ module _ (P : Program) (Δ : List Kind) where
     target : (r : Ty stack) → OfOperand (Γ .regs) v (code [] (Γ .sp) r) → Named r (Γ .regs) → Target Γ v
 
   -- ---- instructions, Ψ; Δ; Γ ⊢ ι ⇒ Δ; Γ′ (Figure 12)
+  -- the types after an instruction, by the types before it: one rule for each but `jmp` and `halt`
   pub data Rule (Γ : Context) : Instr → Context → Type 0 where
     ⊢aop : {o : Arith} {d s : ℕ} {v : Operand} {g : Ty stack} → At (Γ .regs) s int → OfOperand (Γ .regs) v int → Put (Γ .regs) d int g → Rule Γ (aop o d s v) (withRegs Γ g)
     ⊢bop : {o : Branch} {r : ℕ} {v : Operand} → At (Γ .regs) r int → Target Γ v → Rule Γ (bop o r v) Γ
@@ -92,6 +97,7 @@ module _ (P : Program) (Δ : List Kind) where
     ⊢st : {d i s : ℕ} (c : Ty stack) (t : Ty value) → At (Γ .regs) d (tuple c) → At c i t → At (Γ .regs) s t → Rule Γ (st d i s) Γ
 
   -- ---- sequences, Ψ; Δ; Γ ⊢ I (Figure 11)
+  -- a block's instructions, up to its `jmp` or `halt`
   pub data Seq : Context → List Instr → Type 0 where
     ⊢seq : {Γ Γ′ : Context} {x : Instr} {xs : List Instr} → Rule Γ x Γ′ → Seq Γ′ xs → Seq Γ (x ∷ xs)
     ⊢jmp : {Γ : Context} {v : Operand} → Target Γ v → Seq Γ (jmp v ∷ [])
@@ -111,6 +117,7 @@ pub record Code (P : Program) (B : Block) : Type 0 where
   pub bounded : items (B .sp) ≤ 64
   pub typed : Seq P (B .letters) (atStart B) (B .body)
 
+-- the components of a tuple of n integers
 unfoldable pub ints : ℕ → Ty stack
 ints zero = nil
 ints (suc n) = push int (ints n)
@@ -119,6 +126,7 @@ ints (suc n) = push int (ints n)
 unfoldable pub entryRegs : ℕ → Ty stack
 entryRegs n = push (tuple (ints n)) (gap (gap (gap (gap (gap (gap (gap nil)))))))
 
+-- block B is fit for entry with n samples
 pub record Entry (B : Block) (n : ℕ) : Type 0 where
   pub binds-nothing : B .letters ≡ []
   pub no-items : B .sp ≡ nil

@@ -14,6 +14,7 @@ pub data Verdict : Type 0 where
   accepted : ℕ → ℕ → Verdict
   refused : Refusal → Verdict
 
+-- pass two of a text
 unfoldable pub passTwoOf : List ℕ → Pass
 passTwoOf text = passTwo (rowsOf (entriesOf text)) (length (listingsOf (entriesOf text))) (entriesOf text)
 
@@ -21,13 +22,16 @@ passTwoOf text = passTwo (rowsOf (entriesOf text)) (length (listingsOf (entriesO
 unfoldable pub passes : List ℕ → List Pass
 passes text = passOne text ∷ passTwoOf text ∷ passThree (programOf text) ∷ []
 
+-- the count of instructions of all blocks
 unfoldable pub instrCount : List Block → ℕ
 instrCount [] = 0
 instrCount (B ∷ Bs) = length (B .body) + instrCount Bs
 
+-- accepted with its counts where no pass has a fault; else refused
 abbrev pub answer : Program → Option Refusal → Verdict
 answer P none = accepted (length (P .blocks)) (instrCount (P .blocks))
 answer P (some r) = refused r
 
+-- the answer of check on a text
 unfoldable pub check : List ℕ → Verdict
 check text = answer (programOf text) (earliest (passes text))

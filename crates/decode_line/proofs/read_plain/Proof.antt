@@ -3,121 +3,124 @@ use native.Mathlib.Omega.{arith}
 use mathlib.Core.Path.{_∙_, ap}
 use Rattle.decode_line.specs.Answers.{operandTable}
 use Rattle.decode_line.specs.Forms.{fewest}
+use Rattle.decode_line.proofs.FieldLaws.{form-slots, form-most}
+use Rattle.decode_line.specs.Fields.{fieldsFrom}
 use Rattle.decode_line.proofs.LineLaws.{most-few, plain-no-slots, plain-no-operands, plain-too-few, plain-is}
+use borrow.Author.Needs.{needs}
 use borrow.Author.Needs.{needs}
 use Rattle.decode_line.proofs.read_plain.Statement.{statement}
 use Rattle.decode_line.proofs.read_plain.Tie as tie
 use Rattle.decode_line.proofs.read_plain.Reads as reads
 use Rattle.decode_line.proofs.read_plain.Lts as lts
 use Rattle.decode_line.proofs.fewest.Reads as fewest-reads
-use Rattle.decode_line.proofs.form_cell.Reads as form-cell-reads
+use Rattle.decode_line.proofs.form_at.Reads as form-at-reads
 use Rattle.decode_line.proofs.no_entry.Reads as no-entry-reads
 use Rattle.decode_line.proofs.read_operands.Reads as read-operands-reads
 use Rattle.decode_line.proofs.read_slots.Reads as read-slots-reads
 
--- src/lib.rt:290:9
+-- src/lib.rt:315:9
+form-at-requires : tie.Need-form-at-requires
+form-at-requires c κs = search needs
+
+-- src/lib.rt:316:9
 read-slots-requires : tie.Need-read-slots-requires
 read-slots-requires c κs = search needs
 
--- src/lib.rt:292:9
+-- src/lib.rt:318:9
 no-entry-requires : tie.Need-no-entry-requires
 no-entry-requires c κs = search needs
 
--- src/lib.rt:292:9
+-- src/lib.rt:318:9
 returns : tie.Need-returns
 returns c =
-    let a = (c .before .before .before .before .before .before .before .before .args) in
-    plain-no-slots (a .code) (a .rest .now) (a .at) (a .v) ((c .before .before .before .before .before .before .before .before .pre) .0) ((c .before .before .before .before .before .before .before .before .pre) .1) ((c .before .before .before .before .before .before .before .before .pre) .2) (operandTable (a .operands .now) (a .numbers .now) (a .args .now)) ((c .before .before .before .read-slots) .result) ((c .before .before .before .read-slots) .ensures) ((c .no-entry) .result) ((c .no-entry) .ensures) (not-true ((c .before .before .before .read-slots) .result .ok) ((c .before .if1) .taken))
+    let a = (c .before .before .before .before .before .before .before .before .before .args) in
+    plain-no-slots (a .code) (a .rest .now) (a .at) (a .v) ((c .before .before .before .before .before .before .before .before .before .pre) .0) ((c .before .before .before .before .before .before .before .before .before .pre) .1) ((c .before .before .before .before .before .before .before .before .before .pre) .2) (operandTable (a .operands .now) (a .numbers .now) (a .args .now)) ((c .before .before .before .read-slots) .result) ((c .before .before .before .read-slots) .ensures ∙ form-slots (a .code) ((c .before .before .before .before .form-at) .result) (fieldsFrom (a .rest .now) (a .at)) ((c .before .before .before .before .form-at) .ensures)) ((c .no-entry) .result) ((c .no-entry) .ensures) (not-true ((c .before .before .before .read-slots) .result .ok) ((c .before .if1) .taken))
 
--- src/lib.rt:294:9
-form-cell-requires : tie.Need-form-cell-requires
-form-cell-requires c κs = search needs
-
--- src/lib.rt:295:9
+-- src/lib.rt:321:9
 read-operands-requires : tie.Need-read-operands-requires
 read-operands-requires c κs =
     let m = most-few ((c .before .before .before .before .before .before .before .before .before .before .before .args) .code) in
-    let w = (c .before .before .before .form-cell) .ensures in
+    let w = form-most ((c .before .before .before .before .before .before .before .before .before .before .before .args) .code) ((c .before .before .before .before .before .before .form-at) .result) ((c .before .before .before .before .before .before .form-at) .ensures) in
     let r = (c .before .before .before .before .before .before .before .before .before .before .before .pre) .3 in
     (record { kinds = omega (arith, r .kinds); bases = omega (arith, r .bases); rows = omega (arith, r .rows) }, omega arith)
 
--- src/lib.rt:297:9
+-- src/lib.rt:323:9
 no-entry-requires-2 : tie.Need-no-entry-requires-2
 no-entry-requires-2 c κs = search needs
 
--- src/lib.rt:297:9
+-- src/lib.rt:323:9
 same-length : tie.Need-same-length
 same-length c = search needs
 
--- src/lib.rt:297:9
+-- src/lib.rt:323:9
 same-length-2 : tie.Need-same-length-2
 same-length-2 c = search needs
 
--- src/lib.rt:297:9
+-- src/lib.rt:323:9
 same-length-3 : tie.Need-same-length-3
 same-length-3 c = search needs
 
--- src/lib.rt:297:9
+-- src/lib.rt:323:9
 returns-2 : tie.Need-returns-2
 returns-2 c =
     let a = (c .before .before .before .before .before .before .before .before .before .before .before .before .before .before .before .before .before .before .before .before .before .args) in
     let l = (c .before .before .before .before .before .before .before .before .before .read-operands) .last in
-    plain-no-operands (a .code) (a .rest .now) (a .at) (a .v) ((c .before .before .before .before .before .before .before .before .before .before .before .before .before .before .before .before .before .before .before .before .before .pre) .0) ((c .before .before .before .before .before .before .before .before .before .before .before .before .before .before .before .before .before .before .before .before .before .pre) .1) ((c .before .before .before .before .before .before .before .before .before .before .before .before .before .before .before .before .before .before .before .before .before .pre) .2) (operandTable (a .operands .now) (a .numbers .now) (a .args .now)) ((c .before .before .before .before .before .before .before .before .before .before .before .before .before .before .before .before .read-slots) .result) ((c .before .before .before .before .before .before .before .before .before .before .before .before .before .before .before .before .read-slots) .ensures) (not-false ((c .before .before .before .before .before .before .before .before .before .before .before .before .before .before .before .before .read-slots) .result .ok) ((c .before .before .before .before .before .before .before .before .before .before .before .before .before .before .if1) .left)) ((c .before .before .before .before .before .before .before .before .before .before .before .before .before .form-cell) .result) ((c .before .before .before .before .before .before .before .before .before .before .before .before .before .form-cell) .ensures) (operandTable (l .1 .1 .1 .0) (l .1 .1 .1 .1 .0) (l .1 .1 .1 .1 .1 .0)) ((c .before .before .before .before .before .before .before .before .before .read-operands) .result) ((c .before .before .before .before .before .before .before .before .before .read-operands) .ensures) ((c .no-entry2) .result) ((c .no-entry2) .ensures) (not-true ((c .before .before .before .before .before .before .before .before .before .read-operands) .result .ok) ((c .before .if2) .taken))
+    plain-no-operands (a .code) (a .rest .now) (a .at) (a .v) ((c .before .before .before .before .before .before .before .before .before .before .before .before .before .before .before .before .before .before .before .before .before .pre) .0) ((c .before .before .before .before .before .before .before .before .before .before .before .before .before .before .before .before .before .before .before .before .before .pre) .1) ((c .before .before .before .before .before .before .before .before .before .before .before .before .before .before .before .before .before .before .before .before .before .pre) .2) (operandTable (a .operands .now) (a .numbers .now) (a .args .now)) ((c .before .before .before .before .before .before .before .before .before .before .before .before .before .before .before .read-slots) .result) ((c .before .before .before .before .before .before .before .before .before .before .before .before .before .before .before .read-slots) .ensures ∙ form-slots (a .code) ((c .before .before .before .before .before .before .before .before .before .before .before .before .before .before .before .before .form-at) .result) (fieldsFrom (a .rest .now) (a .at)) ((c .before .before .before .before .before .before .before .before .before .before .before .before .before .before .before .before .form-at) .ensures)) (not-false ((c .before .before .before .before .before .before .before .before .before .before .before .before .before .before .before .read-slots) .result .ok) ((c .before .before .before .before .before .before .before .before .before .before .before .before .before .if1) .left)) ((c .before .before .before .before .before .before .before .before .before .before .before .before .before .before .before .before .form-at) .result .most) (form-most (a .code) ((c .before .before .before .before .before .before .before .before .before .before .before .before .before .before .before .before .form-at) .result) ((c .before .before .before .before .before .before .before .before .before .before .before .before .before .before .before .before .form-at) .ensures)) (operandTable (l .1 .1 .1 .0) (l .1 .1 .1 .1 .0) (l .1 .1 .1 .1 .1 .0)) ((c .before .before .before .before .before .before .before .before .before .read-operands) .result) ((c .before .before .before .before .before .before .before .before .before .read-operands) .ensures) ((c .no-entry2) .result) ((c .no-entry2) .ensures) (not-true ((c .before .before .before .before .before .before .before .before .before .read-operands) .result .ok) ((c .before .if2) .taken))
 
--- src/lib.rt:299:18
+-- src/lib.rt:325:18
 fewest-requires : tie.Need-fewest-requires
 fewest-requires c κs = search needs
 
--- src/lib.rt:300:9
+-- src/lib.rt:326:9
 no-entry-requires-3 : tie.Need-no-entry-requires-3
 no-entry-requires-3 c κs = search needs
 
--- src/lib.rt:300:9
+-- src/lib.rt:326:9
 same-length-4 : tie.Need-same-length-4
 same-length-4 c = search needs
 
--- src/lib.rt:300:9
+-- src/lib.rt:326:9
 same-length-5 : tie.Need-same-length-5
 same-length-5 c = search needs
 
--- src/lib.rt:300:9
+-- src/lib.rt:326:9
 same-length-6 : tie.Need-same-length-6
 same-length-6 c = search needs
 
--- src/lib.rt:300:9
+-- src/lib.rt:326:9
 returns-3 : tie.Need-returns-3
 returns-3 c =
     let a = (c .before .before .before .before .before .before .before .before .before .before .before .before .before .before .before .before .before .before .before .before .before .before .before .before .args) in
     let l = (c .before .before .before .before .before .before .before .before .before .before .before .before .read-operands) .last in
-    plain-too-few (a .code) (a .rest .now) (a .at) (a .v) ((c .before .before .before .before .before .before .before .before .before .before .before .before .before .before .before .before .before .before .before .before .before .before .before .before .pre) .0) ((c .before .before .before .before .before .before .before .before .before .before .before .before .before .before .before .before .before .before .before .before .before .before .before .before .pre) .1) ((c .before .before .before .before .before .before .before .before .before .before .before .before .before .before .before .before .before .before .before .before .before .before .before .before .pre) .2) (operandTable (a .operands .now) (a .numbers .now) (a .args .now)) ((c .before .before .before .before .before .before .before .before .before .before .before .before .before .before .before .before .before .before .before .read-slots) .result) ((c .before .before .before .before .before .before .before .before .before .before .before .before .before .before .before .before .before .before .before .read-slots) .ensures) (not-false ((c .before .before .before .before .before .before .before .before .before .before .before .before .before .before .before .before .before .before .before .read-slots) .result .ok) ((c .before .before .before .before .before .before .before .before .before .before .before .before .before .before .before .before .before .if1) .left)) ((c .before .before .before .before .before .before .before .before .before .before .before .before .before .before .before .before .form-cell) .result) ((c .before .before .before .before .before .before .before .before .before .before .before .before .before .before .before .before .form-cell) .ensures) (operandTable (l .1 .1 .1 .0) (l .1 .1 .1 .1 .0) (l .1 .1 .1 .1 .1 .0)) ((c .before .before .before .before .before .before .before .before .before .before .before .before .read-operands) .result) ((c .before .before .before .before .before .before .before .before .before .before .before .before .read-operands) .ensures) (not-false ((c .before .before .before .before .before .before .before .before .before .before .before .before .read-operands) .result .ok) ((c .before .before .before .before .if2) .left)) ((c .no-entry3) .result) ((c .no-entry3) .ensures) ((c .before .before .before .fewest) .result) ((c .before .before .before .fewest) .ensures) ((c .before .if3) .taken)
+    plain-too-few (a .code) (a .rest .now) (a .at) (a .v) ((c .before .before .before .before .before .before .before .before .before .before .before .before .before .before .before .before .before .before .before .before .before .before .before .before .pre) .0) ((c .before .before .before .before .before .before .before .before .before .before .before .before .before .before .before .before .before .before .before .before .before .before .before .before .pre) .1) ((c .before .before .before .before .before .before .before .before .before .before .before .before .before .before .before .before .before .before .before .before .before .before .before .before .pre) .2) (operandTable (a .operands .now) (a .numbers .now) (a .args .now)) ((c .before .before .before .before .before .before .before .before .before .before .before .before .before .before .before .before .before .before .read-slots) .result) ((c .before .before .before .before .before .before .before .before .before .before .before .before .before .before .before .before .before .before .read-slots) .ensures ∙ form-slots (a .code) ((c .before .before .before .before .before .before .before .before .before .before .before .before .before .before .before .before .before .before .before .form-at) .result) (fieldsFrom (a .rest .now) (a .at)) ((c .before .before .before .before .before .before .before .before .before .before .before .before .before .before .before .before .before .before .before .form-at) .ensures)) (not-false ((c .before .before .before .before .before .before .before .before .before .before .before .before .before .before .before .before .before .before .read-slots) .result .ok) ((c .before .before .before .before .before .before .before .before .before .before .before .before .before .before .before .before .if1) .left)) ((c .before .before .before .before .before .before .before .before .before .before .before .before .before .before .before .before .before .before .before .form-at) .result .most) (form-most (a .code) ((c .before .before .before .before .before .before .before .before .before .before .before .before .before .before .before .before .before .before .before .form-at) .result) ((c .before .before .before .before .before .before .before .before .before .before .before .before .before .before .before .before .before .before .before .form-at) .ensures)) (operandTable (l .1 .1 .1 .0) (l .1 .1 .1 .1 .0) (l .1 .1 .1 .1 .1 .0)) ((c .before .before .before .before .before .before .before .before .before .before .before .before .read-operands) .result) ((c .before .before .before .before .before .before .before .before .before .before .before .before .read-operands) .ensures) (not-false ((c .before .before .before .before .before .before .before .before .before .before .before .before .read-operands) .result .ok) ((c .before .before .before .before .if2) .left)) ((c .no-entry3) .result) ((c .no-entry3) .ensures) ((c .before .before .before .fewest) .result) ((c .before .before .before .fewest) .ensures) ((c .before .if3) .taken)
 
--- src/lib.rt:278:1
+-- src/lib.rt:303:1
 same-length-7 : tie.Need-same-length-7
 same-length-7 c = search needs
 
--- src/lib.rt:278:1
+-- src/lib.rt:303:1
 same-length-8 : tie.Need-same-length-8
 same-length-8 c = search needs
 
--- src/lib.rt:278:1
+-- src/lib.rt:303:1
 same-length-9 : tie.Need-same-length-9
 same-length-9 c = search needs
 
--- src/lib.rt:278:1
+-- src/lib.rt:303:1
 returns-4 : tie.Need-returns-4
 returns-4 c =
     let a = (c .before .before .before .before .before .before .before .before .before .before .before .before .before .before .before .before .before .before .before .before .before .before .before .args) in
     let l = (c .before .before .before .before .before .before .before .before .before .before .before .read-operands) .last in
-    plain-is (a .code) (a .rest .now) (a .at) (a .v) ((c .before .before .before .before .before .before .before .before .before .before .before .before .before .before .before .before .before .before .before .before .before .before .before .pre) .0) ((c .before .before .before .before .before .before .before .before .before .before .before .before .before .before .before .before .before .before .before .before .before .before .before .pre) .1) ((c .before .before .before .before .before .before .before .before .before .before .before .before .before .before .before .before .before .before .before .before .before .before .before .pre) .2) (operandTable (a .operands .now) (a .numbers .now) (a .args .now)) ((c .before .before .before .before .before .before .before .before .before .before .before .before .before .before .before .before .before .before .read-slots) .result) ((c .before .before .before .before .before .before .before .before .before .before .before .before .before .before .before .before .before .before .read-slots) .ensures) (not-false ((c .before .before .before .before .before .before .before .before .before .before .before .before .before .before .before .before .before .before .read-slots) .result .ok) ((c .before .before .before .before .before .before .before .before .before .before .before .before .before .before .before .before .if1) .left)) ((c .before .before .before .before .before .before .before .before .before .before .before .before .before .before .before .form-cell) .result) ((c .before .before .before .before .before .before .before .before .before .before .before .before .before .before .before .form-cell) .ensures) (operandTable (l .1 .1 .1 .0) (l .1 .1 .1 .1 .0) (l .1 .1 .1 .1 .1 .0)) ((c .before .before .before .before .before .before .before .before .before .before .before .read-operands) .result) ((c .before .before .before .before .before .before .before .before .before .before .before .read-operands) .ensures) (not-false ((c .before .before .before .before .before .before .before .before .before .before .before .read-operands) .result .ok) ((c .before .before .before .if2) .left)) ((c .before .before .fewest) .result) ((c .before .before .fewest) .ensures) ((c .if3) .left)
+    plain-is (a .code) (a .rest .now) (a .at) (a .v) ((c .before .before .before .before .before .before .before .before .before .before .before .before .before .before .before .before .before .before .before .before .before .before .before .pre) .0) ((c .before .before .before .before .before .before .before .before .before .before .before .before .before .before .before .before .before .before .before .before .before .before .before .pre) .1) ((c .before .before .before .before .before .before .before .before .before .before .before .before .before .before .before .before .before .before .before .before .before .before .before .pre) .2) (operandTable (a .operands .now) (a .numbers .now) (a .args .now)) ((c .before .before .before .before .before .before .before .before .before .before .before .before .before .before .before .before .before .read-slots) .result) ((c .before .before .before .before .before .before .before .before .before .before .before .before .before .before .before .before .before .read-slots) .ensures ∙ form-slots (a .code) ((c .before .before .before .before .before .before .before .before .before .before .before .before .before .before .before .before .before .before .form-at) .result) (fieldsFrom (a .rest .now) (a .at)) ((c .before .before .before .before .before .before .before .before .before .before .before .before .before .before .before .before .before .before .form-at) .ensures)) (not-false ((c .before .before .before .before .before .before .before .before .before .before .before .before .before .before .before .before .before .read-slots) .result .ok) ((c .before .before .before .before .before .before .before .before .before .before .before .before .before .before .before .if1) .left)) ((c .before .before .before .before .before .before .before .before .before .before .before .before .before .before .before .before .before .before .form-at) .result .most) (form-most (a .code) ((c .before .before .before .before .before .before .before .before .before .before .before .before .before .before .before .before .before .before .form-at) .result) ((c .before .before .before .before .before .before .before .before .before .before .before .before .before .before .before .before .before .before .form-at) .ensures)) (operandTable (l .1 .1 .1 .0) (l .1 .1 .1 .1 .0) (l .1 .1 .1 .1 .1 .0)) ((c .before .before .before .before .before .before .before .before .before .before .before .read-operands) .result) ((c .before .before .before .before .before .before .before .before .before .before .before .read-operands) .ensures) (not-false ((c .before .before .before .before .before .before .before .before .before .before .before .read-operands) .result .ok) ((c .before .before .before .if2) .left)) ((c .before .before .fewest) .result) ((c .before .before .fewest) .ensures) ((c .if3) .left)
 
 pub read-plain-spec : {M : Type 1} → statement M
 read-plain-spec =
     tie.close
     (tie.spec
+    form-at-requires
     read-slots-requires
     no-entry-requires
     returns
-    form-cell-requires
     read-operands-requires
     no-entry-requires-2
     same-length

@@ -1,87 +1,23 @@
-use native.Mathlib.Omega.{arith}
-use lib.ListN.{take, drop}
-use Prim.Native.Nat.{_-_}
-use Rattle.lines.proofs.Parts.{end-within}
-use Rattle.decode_line.proofs.FieldLaws.{slot-zero, slot-past, slot-bad, slot-is, value-small}
+use Rattle.decode_line.proofs.FieldLaws.{slot-zero}
+use borrow.Author.Needs.{needs}
 use borrow.Author.Needs.{needs}
 use Rattle.decode_line.proofs.read_slot.Statement.{statement}
 use Rattle.decode_line.proofs.read_slot.Tie as tie
 use Rattle.decode_line.proofs.read_slot.Reads as reads
 use Rattle.decode_line.proofs.read_slot.Lts as lts
-use Rattle.decode_line.proofs.plain_field.Reads as plain-field-reads
-use Rattle.fields.proofs.field_end.Reads as field-end-reads
+use Rattle.decode_line.proofs.read_field.Reads as read-field-reads
 
--- src/lib.rt:106:9
+-- src/lib.rt:176:9
 returns : tie.Need-returns
 returns c = slot-zero ((c .before .before .args) .rest .now) ((c .before .before .args) .at) ((c .before .before .args) .kind) ((c .if1) .taken)
 
--- src/lib.rt:113:9
+-- src/lib.rt:182:5
+read-field-requires : tie.Need-read-field-requires
+read-field-requires c κs = search needs
+
+-- src/lib.rt:172:1
 returns-2 : tie.Need-returns-2
-returns-2 c = slot-past ((c .before .before .before .args) .rest .now) ((c .before .before .before .args) .at) ((c .before .before .before .args) .kind) ((c .before .if1) .left) ((c .if2) .taken)
-
--- src/lib.rt:119:9
-field-end-requires : tie.Need-field-end-requires
-field-end-requires c κs = search needs
-
--- src/lib.rt:120:23
-sub-plain-field : tie.Need-sub-plain-field
-sub-plain-field c = search needs
-
--- src/lib.rt:120:23
-part-plain-field-start : tie.Need-part-plain-field-start
-part-plain-field-start c = search needs
-
--- src/lib.rt:120:23
-part-plain-field-end : tie.Need-part-plain-field-end
-part-plain-field-end c = end-within 44 ((c .before .before .before .before .args) .rest .now) ((c .before .before .before .before .args) .at) ((c .field-end) .result) ((c .field-end) .ensures) ((c .before .if2) .left)
-
--- src/lib.rt:120:11
-plain-field-requires : tie.Need-plain-field-requires
-plain-field-requires c κs = search needs
-
--- src/lib.rt:121:23
-enum-known-n : tie.Need-enum-known-n
-enum-known-n c = search needs
-
--- src/lib.rt:123:20
-cast-t13 : tie.Need-cast-t13
-cast-t13 c =
-    let a = (c .before .before .before .before .before .before .before .before .before .args) in
-    let e = (c .before .before .before .before .before .field-end) .result in
-    omega (arith, value-small (a .kind) (take (e - a .at) (drop (a .at) (a .rest .now))) ((c .before .before .before .plain-field) .result) ((c .before .n) .given .0 .0) ((c .before .n) .given .1) ((c .before .before .before .plain-field) .ensures))
-
--- src/lib.rt:124:19
-add-t14 : tie.Need-add-t14
-add-t14 c =
-    let w = end-within 44 ((c .before .before .before .before .before .before .before .before .before .args) .rest .now) ((c .before .before .before .before .before .before .before .before .before .args) .at) ((c .before .before .before .before .before .field-end) .result) ((c .before .before .before .before .before .field-end) .ensures) ((c .before .before .before .before .before .before .if2) .left) in
-    omega arith
-
--- src/lib.rt:126:24
-enum-told : tie.Need-enum-told
-enum-told c = search needs
-
--- src/lib.rt:102:1
-returns-3 : tie.Need-returns-3
-returns-3 c = slot-is ((c .before .before .before .before .before .before .before .before .before .args) .rest .now) ((c .before .before .before .before .before .before .before .before .before .args) .at) ((c .before .before .before .before .before .before .before .before .before .args) .kind) ((c .before .before .before .before .before .field-end) .result) ((c .before .before .before .before .before .field-end) .ensures) ((c .before .before .before .before .before .before .before .if1) .left) ((c .before .before .before .before .before .before .if2) .left) ((c .before .before .before .plain-field) .result) ((c .before .n) .given .0 .0) ((c .before .n) .given .1) ((c .before .before .before .plain-field) .ensures)
-
--- src/lib.rt:102:1
-returns-4 : tie.Need-returns-4
-returns-4 c = slot-bad ((c .before .before .before .before .before .before .before .before .args) .rest .now) ((c .before .before .before .before .before .before .before .before .args) .at) ((c .before .before .before .before .before .before .before .before .args) .kind) ((c .before .before .before .before .field-end) .result) ((c .before .before .before .before .field-end) .ensures) ((c .before .before .before .before .before .before .if1) .left) ((c .before .before .before .before .before .if2) .left) ((c .before .before .plain-field) .result) ((c .enum-told) .given .1) ((c .before .before .plain-field) .ensures)
+returns-2 c = (c .read-field) .ensures
 
 pub read-slot-spec : {M : Type 1} → statement M
-read-slot-spec =
-    tie.close
-    (tie.spec
-    returns
-    returns-2
-    field-end-requires
-    sub-plain-field
-    part-plain-field-start
-    part-plain-field-end
-    plain-field-requires
-    enum-known-n
-    cast-t13
-    add-t14
-    enum-told
-    returns-3
-    returns-4)
+read-slot-spec = tie.close (tie.spec returns read-field-requires returns-2)

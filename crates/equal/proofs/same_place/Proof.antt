@@ -6,25 +6,21 @@ use Rattle.equal.proofs.same_place.Tie as tie
 use Rattle.equal.proofs.same_place.Reads as reads
 use Rattle.equal.proofs.same_place.Lts as lts
 
--- src/lib.rt:230:9
+-- src/lib.rt:324:9
 returns : tie.Need-returns
 returns c = none-true
 
--- src/lib.rt:233:9
+-- src/lib.rt:327:9
 returns-2 : tie.Need-returns-2
 returns-2 c = none-true
 
--- src/lib.rt:236:9
+-- src/lib.rt:330:9
 returns-3 : tie.Need-returns-3
 returns-3 c = none-true
 
--- src/lib.rt:239:9
+-- src/lib.rt:320:1
 returns-4 : tie.Need-returns-4
-returns-4 c = none-true
-
--- src/lib.rt:226:1
-returns-5 : tie.Need-returns-5
-returns-5 c = at-same ((c .before .before .before .before .args) .m) ((c .before .before .before .before .args) .by) ((c .before .before .before .before .args) .d) ((c .before .before .before .before .args) .l) ((c .before .before .before .before .args) .by2) ((c .before .before .before .before .args) .d2) ((c .before .before .before .before .args) .r) ((c .before .before .before .before .args) .j) ((c .before .before .before .if1) .left) ((c .before .before .if2) .left) ((c .before .if3) .left) ((c .if4) .left)
+returns-4 c = at-same ((c .before .before .before .args) .m) ((c .before .before .before .args) .by) ((c .before .before .before .args) .d) ((c .before .before .before .args) .l) ((c .before .before .before .args) .by2) ((c .before .before .before .args) .d2) ((c .before .before .before .args) .r) ((c .before .before .if1) .left) ((c .before .if2) .left) ((c .if3) .left)
 
 pub same-place-spec : {M : Type 1} → statement M
-same-place-spec = tie.close (tie.spec returns returns-2 returns-3 returns-4 returns-5)
+same-place-spec = tie.close (tie.spec returns returns-2 returns-3 returns-4)

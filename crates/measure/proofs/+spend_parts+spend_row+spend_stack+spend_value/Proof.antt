@@ -4,7 +4,8 @@ use Prim.Native.Nat.{_+_, _*_, _-_, _≤_}
 use native.Mathlib.Omega.{arith}
 use Rattle.rows.specs.Read.{tab}
 use Rattle.rows.proofs.Laws.{ok-form}
-use Rattle.measure.proofs.Laws.{ok-v, spent-none, spent-stack, spent-value, under-value, under-stack, Spending, spending-first, spending-next, spending-last, row-low}
+use Rattle.measure.proofs.Laws.{ok-v, spent-known, spent-none, spent-stack, spent-value, under-value, under-stack, Spending, spending-first, spending-next, spending-last, row-low}
+use Prim.Native.Nat.{ℕ, _<_}
 use Prim.Native.Nat.{ℕ, _<_}
 use borrow.Fn.Kinds.{In}
 use borrow.Fn.PlainCycle.{Measures, is, falls, and}
@@ -20,7 +21,9 @@ use Rattle.measure.proofs.+spend_parts+spend_row+spend_stack+spend_valu
 use Rattle.measure.proofs.spend_value.Reads as spend-value
 use Rattle.measure.proofs.spend_value.Kinds as spend-value-kinds
 use Rattle.measure.proofs.+spend_parts+spend_row+spend_stack+spend_value.Lts-spend_value as spend-value-lts
+use Rattle.measure.proofs.less.Reads as less-reads
 use Rattle.measure.proofs.row_of.Reads as row-of-reads
+use Rattle.rows.proofs.at.Reads as at-reads
 use Rattle.rows.proofs.is_stack.Reads as is-stack-reads
 use Rattle.rows.proofs.part.Reads as part-reads
 use Rattle.rows.proofs.read_stack.Reads as read-stack-reads
@@ -28,56 +31,56 @@ use Rattle.rows.proofs.read_value.Reads as read-value-reads
 use Rattle.measure.proofs.+spend_parts+spend_row+spend_stack+spend_value.{statement}
 use Rattle.measure.proofs.+spend_parts+spend_row+spend_stack+spend_value.Tie.{close}
 
-abbrev μ-spend-parts : Measures 2 spend-parts-kinds.ps ℕ
-μ-spend-parts κs a = 131072 * a .1 .1 .0
+abbrev μ-spend-parts : Measures 3 spend-parts-kinds.ps ℕ
+μ-spend-parts κs a = 131072 * a .1 .1 .1 .0
 
-abbrev μ-spend-row : Measures 2 spend-row-kinds.ps ℕ
-μ-spend-row κs a = 131072 * a .1 .1 .0 + 131071
+abbrev μ-spend-row : Measures 3 spend-row-kinds.ps ℕ
+μ-spend-row κs a = 131072 * a .1 .1 .1 .0 + 131071
 
-abbrev μ-spend-stack : Measures 2 spend-stack-kinds.ps ℕ
-μ-spend-stack κs a = 131072 * a .1 .1 .0 + 70000
+abbrev μ-spend-stack : Measures 3 spend-stack-kinds.ps ℕ
+μ-spend-stack κs a = 131072 * a .1 .1 .1 .0 + 70000
 
-abbrev μ-spend-value : Measures 2 spend-value-kinds.ps ℕ
-μ-spend-value κs a = 131072 * a .1 .1 .0 + 70000
+abbrev μ-spend-value : Measures 3 spend-value-kinds.ps ℕ
+μ-spend-value κs a = 131072 * a .1 .1 .1 .0 + 70000
 
-abbrev spend-parts-at : ℕ → In 2 spend-parts-kinds.ps
+abbrev spend-parts-at : ℕ → In 3 spend-parts-kinds.ps
 spend-parts-at t =
-    and 2 spend-parts-kinds.ps (is 2 spend-parts-kinds.ps μ-spend-parts t) spend-parts.Pre
+    and 3 spend-parts-kinds.ps (is 3 spend-parts-kinds.ps μ-spend-parts t) spend-parts.Pre
 
-abbrev spend-parts-below : ℕ → In 2 spend-parts-kinds.ps
+abbrev spend-parts-below : ℕ → In 3 spend-parts-kinds.ps
 spend-parts-below t =
-    and 2 spend-parts-kinds.ps (falls 2 spend-parts-kinds.ps _<_ μ-spend-parts t) spend-parts.Pre
+    and 3 spend-parts-kinds.ps (falls 3 spend-parts-kinds.ps _<_ μ-spend-parts t) spend-parts.Pre
 
-abbrev spend-row-at : ℕ → In 2 spend-row-kinds.ps
-spend-row-at t = and 2 spend-row-kinds.ps (is 2 spend-row-kinds.ps μ-spend-row t) spend-row.Pre
+abbrev spend-row-at : ℕ → In 3 spend-row-kinds.ps
+spend-row-at t = and 3 spend-row-kinds.ps (is 3 spend-row-kinds.ps μ-spend-row t) spend-row.Pre
 
-abbrev spend-row-below : ℕ → In 2 spend-row-kinds.ps
+abbrev spend-row-below : ℕ → In 3 spend-row-kinds.ps
 spend-row-below t =
-    and 2 spend-row-kinds.ps (falls 2 spend-row-kinds.ps _<_ μ-spend-row t) spend-row.Pre
+    and 3 spend-row-kinds.ps (falls 3 spend-row-kinds.ps _<_ μ-spend-row t) spend-row.Pre
 
-abbrev spend-stack-at : ℕ → In 2 spend-stack-kinds.ps
+abbrev spend-stack-at : ℕ → In 3 spend-stack-kinds.ps
 spend-stack-at t =
-    and 2 spend-stack-kinds.ps (is 2 spend-stack-kinds.ps μ-spend-stack t) spend-stack.Pre
+    and 3 spend-stack-kinds.ps (is 3 spend-stack-kinds.ps μ-spend-stack t) spend-stack.Pre
 
-abbrev spend-stack-below : ℕ → In 2 spend-stack-kinds.ps
+abbrev spend-stack-below : ℕ → In 3 spend-stack-kinds.ps
 spend-stack-below t =
-    and 2 spend-stack-kinds.ps (falls 2 spend-stack-kinds.ps _<_ μ-spend-stack t) spend-stack.Pre
+    and 3 spend-stack-kinds.ps (falls 3 spend-stack-kinds.ps _<_ μ-spend-stack t) spend-stack.Pre
 
-abbrev spend-value-at : ℕ → In 2 spend-value-kinds.ps
+abbrev spend-value-at : ℕ → In 3 spend-value-kinds.ps
 spend-value-at t =
-    and 2 spend-value-kinds.ps (is 2 spend-value-kinds.ps μ-spend-value t) spend-value.Pre
+    and 3 spend-value-kinds.ps (is 3 spend-value-kinds.ps μ-spend-value t) spend-value.Pre
 
-abbrev spend-value-below : ℕ → In 2 spend-value-kinds.ps
+abbrev spend-value-below : ℕ → In 3 spend-value-kinds.ps
 spend-value-below t =
-    and 2 spend-value-kinds.ps (falls 2 spend-value-kinds.ps _<_ μ-spend-value t) spend-value.Pre
+    and 3 spend-value-kinds.ps (falls 3 spend-value-kinds.ps _<_ μ-spend-value t) spend-value.Pre
 
 abbrev spend-parts-Inv-loop : spend-parts-lts.InvT-loop
-spend-parts-Inv-loop rows parts h file p n left rest₀ i₀ rest i = Spending (tab rows parts) file h p n left rest i
+spend-parts-Inv-loop rows parts sizes h file p n left rest₀ i₀ rest i = Spending (tab rows parts) file h p n left rest i
 
 abbrev spend-parts-μ-loop : spend-parts-lts.MeasureT-loop
-spend-parts-μ-loop rows parts h file p n left rest₀ i₀ rest i = n - i
+spend-parts-μ-loop rows parts sizes h file p n left rest₀ i₀ rest i = n - i
 
--- src/lib.rt:103:5
+-- src/lib.rt:118:5
 spend-parts-loop-holds : (t : ℕ) → spend-parts-lts.Need-loop-holds (
   part-reads.Asked,
   part-reads.Learnt,
@@ -86,9 +89,9 @@ spend-parts-loop-holds : (t : ℕ) → spend-parts-lts.Need-loop-holds (
   spend-row-below t,
   spend-row.Post,
 ) (spend-parts-at t) spend-parts.Post spend-parts-Inv-loop spend-parts-μ-loop
-spend-parts-loop-holds t c = spending-first (tab ((c .before .before .args) .rows .now) ((c .before .before .args) .parts .now)) ((c .before .before .args) .file) ((c .before .before .args) .h) ((c .before .before .args) .p) ((c .before .before .args) .n) ((c .before .before .args) .left)
+spend-parts-loop-holds t c = spending-first (tab ((c .before .before .before .args) .rows .now) ((c .before .before .before .args) .parts .now)) ((c .before .before .before .args) .file) ((c .before .before .before .args) .h) ((c .before .before .before .args) .p) ((c .before .before .before .args) .n) ((c .before .before .before .args) .left)
 
--- src/lib.rt:104:51
+-- src/lib.rt:119:51
 spend-parts-add-part : (t : ℕ) → spend-parts-lts.Need-add-part (
   part-reads.Asked,
   part-reads.Learnt,
@@ -98,11 +101,11 @@ spend-parts-add-part : (t : ℕ) → spend-parts-lts.Need-add-part (
   spend-row.Post,
 ) (spend-parts-at t) spend-parts.Post spend-parts-Inv-loop spend-parts-μ-loop
 spend-parts-add-part t c =
-    let r3 = (c .before .before .before .before .pre) .1 .3 in
+    let r3 = (c .before .before .before .before .before .pre) .1 .3 in
     let i0 = (c .before .loop) .inv .0 in
     omega arith
 
--- src/lib.rt:104:24
+-- src/lib.rt:119:24
 spend-parts-part-requires : (t : ℕ) → spend-parts-lts.Need-part-requires (
   part-reads.Asked,
   part-reads.Learnt,
@@ -111,9 +114,9 @@ spend-parts-part-requires : (t : ℕ) → spend-parts-lts.Need-part-requires (
   spend-row-below t,
   spend-row.Post,
 ) (spend-parts-at t) spend-parts.Post spend-parts-Inv-loop spend-parts-μ-loop
-spend-parts-part-requires t c κs = (c .before .before .before .before .pre) .1 .0
+spend-parts-part-requires t c κs = (c .before .before .before .before .before .pre) .1 .0
 
--- src/lib.rt:104:13
+-- src/lib.rt:119:13
 spend-parts-row-of-requires : (t : ℕ) → spend-parts-lts.Need-row-of-requires (
   part-reads.Asked,
   part-reads.Learnt,
@@ -124,7 +127,7 @@ spend-parts-row-of-requires : (t : ℕ) → spend-parts-lts.Need-row-of-requires
 ) (spend-parts-at t) spend-parts.Post spend-parts-Inv-loop spend-parts-μ-loop
 spend-parts-row-of-requires t c κs = search needs
 
--- src/lib.rt:105:9
+-- src/lib.rt:120:9
 spend-parts-spend-row-requires : (t : ℕ) → spend-parts-lts.Need-spend-row-requires (
   part-reads.Asked,
   part-reads.Learnt,
@@ -134,12 +137,12 @@ spend-parts-spend-row-requires : (t : ℕ) → spend-parts-lts.Need-spend-row-re
   spend-row.Post,
 ) (spend-parts-at t) spend-parts.Post spend-parts-Inv-loop spend-parts-μ-loop
 spend-parts-spend-row-requires t c κs =
-    let t0 = (c .before .before .before .before .before .before .pre) .0 in
-    let r1 = (c .before .before .before .before .before .before .pre) .1 .1 in
-    let l = row-low ((c .before .before .before .before .before .before .args) .h) ((c .before .part) .result) ((c .before .before .before .before .before .before .pre) .1 .0) ((c .before .part) .ensures .1) ((c .row-of) .ensures) in
-    (omega arith, omega arith)
+    let t0 = (c .before .before .before .before .before .before .before .pre) .0 in
+    let r1 = (c .before .before .before .before .before .before .before .pre) .1 .1 in
+    let l = row-low ((c .before .before .before .before .before .before .before .args) .h) ((c .before .part) .result) ((c .before .before .before .before .before .before .before .pre) .1 .0) ((c .before .part) .ensures .1) ((c .row-of) .ensures) in
+    (omega arith, (omega arith, (c .before .before .before .before .before .before .before .pre) .1 .4))
 
--- src/lib.rt:106:9
+-- src/lib.rt:121:9
 spend-parts-add-i : (t : ℕ) → spend-parts-lts.Need-add-i (
   part-reads.Asked,
   part-reads.Learnt,
@@ -149,11 +152,11 @@ spend-parts-add-i : (t : ℕ) → spend-parts-lts.Need-add-i (
   spend-row.Post,
 ) (spend-parts-at t) spend-parts.Post spend-parts-Inv-loop spend-parts-μ-loop
 spend-parts-add-i t c =
-    let r2 = (c .before .before .before .before .before .before .before .pre) .1 .2 in
+    let r2 = (c .before .before .before .before .before .before .before .before .pre) .1 .2 in
     let u = (c .before .before .before .loop-test) .taken in
     omega arith
 
--- src/lib.rt:103:5
+-- src/lib.rt:118:5
 spend-parts-loop-less : (t : ℕ) → spend-parts-lts.Need-loop-less (
   part-reads.Asked,
   part-reads.Learnt,
@@ -166,7 +169,7 @@ spend-parts-loop-less t c =
     let u = (c .before .before .before .loop-test) .taken in
     omega arith
 
--- src/lib.rt:103:5
+-- src/lib.rt:118:5
 spend-parts-loop-again : (t : ℕ) → spend-parts-lts.Need-loop-again (
   part-reads.Asked,
   part-reads.Learnt,
@@ -175,9 +178,9 @@ spend-parts-loop-again : (t : ℕ) → spend-parts-lts.Need-loop-again (
   spend-row-below t,
   spend-row.Post,
 ) (spend-parts-at t) spend-parts.Post spend-parts-Inv-loop spend-parts-μ-loop
-spend-parts-loop-again t c = spending-next (tab ((c .before .before .before .before .before .before .before .args) .rows .now) ((c .before .before .before .before .before .before .before .args) .parts .now)) ((c .before .before .before .before .before .before .before .args) .file) ((c .before .before .before .before .before .before .before .args) .h) ((c .before .before .before .before .before .before .before .args) .p) ((c .before .before .before .before .before .before .before .args) .n) ((c .before .before .before .before .before .before .before .args) .left) ((c .before .before .before .before .loop) .rest) ((c .before .before .before .before .loop) .i) ((c .before .before .before .before .loop) .inv) ((c .before .before .before .loop-test) .taken) ((c .before .before .part) .ensures .0) ((c .before .row-of) .ensures) ((c .spend-row) .ensures)
+spend-parts-loop-again t c = spending-next (tab ((c .before .before .before .before .before .before .before .before .args) .rows .now) ((c .before .before .before .before .before .before .before .before .args) .parts .now)) ((c .before .before .before .before .before .before .before .before .args) .file) ((c .before .before .before .before .before .before .before .before .args) .h) ((c .before .before .before .before .before .before .before .before .args) .p) ((c .before .before .before .before .before .before .before .before .args) .n) ((c .before .before .before .before .before .before .before .before .args) .left) ((c .before .before .before .before .loop) .rest) ((c .before .before .before .before .loop) .i) ((c .before .before .before .before .loop) .inv) ((c .before .before .before .loop-test) .taken) ((c .before .before .part) .ensures .0) ((c .before .row-of) .ensures) ((c .spend-row) .ensures)
 
--- src/lib.rt:89:1
+-- src/lib.rt:103:1
 spend-parts-returns : (t : ℕ) → spend-parts-lts.Need-returns (
   part-reads.Asked,
   part-reads.Learnt,
@@ -186,10 +189,14 @@ spend-parts-returns : (t : ℕ) → spend-parts-lts.Need-returns (
   spend-row-below t,
   spend-row.Post,
 ) (spend-parts-at t) spend-parts.Post spend-parts-Inv-loop spend-parts-μ-loop
-spend-parts-returns t c = spending-last (tab ((c .before .before .before .before .args) .rows .now) ((c .before .before .before .before .args) .parts .now)) ((c .before .before .before .before .args) .file) ((c .before .before .before .before .args) .h) ((c .before .before .before .before .args) .p) ((c .before .before .before .before .args) .n) ((c .before .before .before .before .args) .left) ((c .before .loop) .rest) ((c .before .loop) .i) ((c .before .loop) .inv) ((c .loop-test) .left)
+spend-parts-returns t c = spending-last (tab ((c .before .before .before .before .before .args) .rows .now) ((c .before .before .before .before .before .args) .parts .now)) ((c .before .before .before .before .before .args) .file) ((c .before .before .before .before .before .args) .h) ((c .before .before .before .before .before .args) .p) ((c .before .before .before .before .before .args) .n) ((c .before .before .before .before .before .args) .left) ((c .before .loop) .rest) ((c .before .loop) .i) ((c .before .loop) .inv) ((c .loop-test) .left)
 
--- src/lib.rt:26:9
+-- src/lib.rt:36:9
 spend-row-returns : (t : ℕ) → spend-row-lts.Need-returns (
+  at-reads.Asked,
+  at-reads.Learnt,
+  less-reads.Asked,
+  less-reads.Learnt,
   is-stack-reads.Asked,
   is-stack-reads.Learnt,
   spend-stack-below t,
@@ -197,10 +204,14 @@ spend-row-returns : (t : ℕ) → spend-row-lts.Need-returns (
   spend-value-below t,
   spend-value.Post,
 ) (spend-row-at t) spend-row.Post
-spend-row-returns t c = spent-none (tab ((c .before .before .before .args) .rows .now) ((c .before .before .before .args) .parts .now)) ((c .before .before .before .args) .h) ((c .before .before .before .args) .left) ((c .if1) .taken)
+spend-row-returns t c = spent-none (tab ((c .before .before .before .before .args) .rows .now) ((c .before .before .before .before .args) .parts .now)) ((c .before .before .before .before .args) .h) ((c .before .before .before .before .args) .left) ((c .if1) .taken)
 
--- src/lib.rt:29:9
-spend-row-returns-2 : (t : ℕ) → spend-row-lts.Need-returns-2 (
+-- src/lib.rt:38:9
+spend-row-at-requires : (t : ℕ) → spend-row-lts.Need-at-requires (
+  at-reads.Asked,
+  at-reads.Learnt,
+  less-reads.Asked,
+  less-reads.Learnt,
   is-stack-reads.Asked,
   is-stack-reads.Learnt,
   spend-stack-below t,
@@ -208,12 +219,61 @@ spend-row-returns-2 : (t : ℕ) → spend-row-lts.Need-returns-2 (
   spend-value-below t,
   spend-value.Post,
 ) (spend-row-at t) spend-row.Post
-spend-row-returns-2 t c =
-    let z = (c .if2) .taken in
+spend-row-at-requires t c κs = search needs
+
+-- src/lib.rt:40:9
+spend-row-less-requires : (t : ℕ) → spend-row-lts.Need-less-requires (
+  at-reads.Asked,
+  at-reads.Learnt,
+  less-reads.Asked,
+  less-reads.Learnt,
+  is-stack-reads.Asked,
+  is-stack-reads.Learnt,
+  spend-stack-below t,
+  spend-stack.Post,
+  spend-value-below t,
+  spend-value.Post,
+) (spend-row-at t) spend-row.Post
+spend-row-less-requires t c κs = search needs
+
+-- src/lib.rt:40:9
+spend-row-returns-2 : (t : ℕ) → spend-row-lts.Need-returns-2 (
+  at-reads.Asked,
+  at-reads.Learnt,
+  less-reads.Asked,
+  less-reads.Learnt,
+  is-stack-reads.Asked,
+  is-stack-reads.Learnt,
+  spend-stack-below t,
+  spend-stack.Post,
+  spend-value-below t,
+  spend-value.Post,
+) (spend-row-at t) spend-row.Post
+spend-row-returns-2 t c = spent-known (tab ((c .before .before .before .before .before .before .before .args) .rows .now) ((c .before .before .before .before .before .before .before .args) .parts .now)) ((c .before .before .before .before .before .before .before .args) .sizes .now) ((c .before .before .before .before .before .before .before .args) .h) ((c .before .before .before .before .before .before .before .args) .left) ((c .before .before .before .before .before .before .before .pre) .1 .1) ((c .before .before .at) .ensures .0) ((c .before .if2) .taken) ((c .less) .ensures)
+
+-- src/lib.rt:43:9
+spend-row-returns-3 : (t : ℕ) → spend-row-lts.Need-returns-3 (
+  at-reads.Asked,
+  at-reads.Learnt,
+  less-reads.Asked,
+  less-reads.Learnt,
+  is-stack-reads.Asked,
+  is-stack-reads.Learnt,
+  spend-stack-below t,
+  spend-stack.Post,
+  spend-value-below t,
+  spend-value.Post,
+) (spend-row-at t) spend-row.Post
+spend-row-returns-3 t c =
+    let z = (c .if3) .taken in
     omega arith
 
--- src/lib.rt:31:29
+-- src/lib.rt:45:29
 spend-row-sub-is-stack : (t : ℕ) → spend-row-lts.Need-sub-is-stack (
+  at-reads.Asked,
+  at-reads.Learnt,
+  less-reads.Asked,
+  less-reads.Learnt,
   is-stack-reads.Asked,
   is-stack-reads.Learnt,
   spend-stack-below t,
@@ -223,8 +283,12 @@ spend-row-sub-is-stack : (t : ℕ) → spend-row-lts.Need-sub-is-stack (
 ) (spend-row-at t) spend-row.Post
 spend-row-sub-is-stack t c = search needs
 
--- src/lib.rt:31:8
+-- src/lib.rt:45:8
 spend-row-is-stack-requires : (t : ℕ) → spend-row-lts.Need-is-stack-requires (
+  at-reads.Asked,
+  at-reads.Learnt,
+  less-reads.Asked,
+  less-reads.Learnt,
   is-stack-reads.Asked,
   is-stack-reads.Learnt,
   spend-stack-below t,
@@ -233,11 +297,15 @@ spend-row-is-stack-requires : (t : ℕ) → spend-row-lts.Need-is-stack-requires
   spend-value.Post,
 ) (spend-row-at t) spend-row.Post
 spend-row-is-stack-requires t c κs =
-    let t1 = (c .before .before .before .before .pre) .1 in
+    let t1 = (c .before .before .before .before .before .before .before .pre) .1 .0 in
     omega arith
 
--- src/lib.rt:32:44
+-- src/lib.rt:46:51
 spend-row-sub-spend-stack : (t : ℕ) → spend-row-lts.Need-sub-spend-stack (
+  at-reads.Asked,
+  at-reads.Learnt,
+  less-reads.Asked,
+  less-reads.Learnt,
   is-stack-reads.Asked,
   is-stack-reads.Learnt,
   spend-stack-below t,
@@ -247,8 +315,12 @@ spend-row-sub-spend-stack : (t : ℕ) → spend-row-lts.Need-sub-spend-stack (
 ) (spend-row-at t) spend-row.Post
 spend-row-sub-spend-stack t c = search needs
 
--- src/lib.rt:32:9
+-- src/lib.rt:46:9
 spend-row-spend-stack-requires : (t : ℕ) → spend-row-lts.Need-spend-stack-requires (
+  at-reads.Asked,
+  at-reads.Learnt,
+  less-reads.Asked,
+  less-reads.Learnt,
   is-stack-reads.Asked,
   is-stack-reads.Learnt,
   spend-stack-below t,
@@ -257,12 +329,16 @@ spend-row-spend-stack-requires : (t : ℕ) → spend-row-lts.Need-spend-stack-re
   spend-value.Post,
 ) (spend-row-at t) spend-row.Post
 spend-row-spend-stack-requires t c κs =
-    let t0 = (c .before .before .before .before .before .before .pre) .0 in
-    let t1 = (c .before .before .before .before .before .before .pre) .1 in
-    (omega arith, t1)
+    let t0 = (c .before .before .before .before .before .before .before .before .before .pre) .0 in
+    let t1 = (c .before .before .before .before .before .before .before .before .before .pre) .1 .0 in
+    (omega arith, (t1, (c .before .before .before .before .before .before .before .before .before .pre) .1 .1))
 
--- src/lib.rt:32:9
-spend-row-returns-3 : (t : ℕ) → spend-row-lts.Need-returns-3 (
+-- src/lib.rt:46:9
+spend-row-returns-4 : (t : ℕ) → spend-row-lts.Need-returns-4 (
+  at-reads.Asked,
+  at-reads.Learnt,
+  less-reads.Asked,
+  less-reads.Learnt,
   is-stack-reads.Asked,
   is-stack-reads.Learnt,
   spend-stack-below t,
@@ -270,10 +346,14 @@ spend-row-returns-3 : (t : ℕ) → spend-row-lts.Need-returns-3 (
   spend-value-below t,
   spend-value.Post,
 ) (spend-row-at t) spend-row.Post
-spend-row-returns-3 t c = spent-stack (tab ((c .before .before .before .before .before .before .before .args) .rows .now) ((c .before .before .before .before .before .before .before .args) .parts .now)) ((c .before .before .before .before .before .before .before .args) .h) ((c .before .before .before .before .before .before .before .args) .left) ((c .before .before .before .before .if1) .left) ((c .before .before .before .if2) .left) ((c .before .before .is-stack) .ensures) ((c .before .if3) .taken) ((c .spend-stack) .ensures)
+spend-row-returns-4 t c = spent-stack (tab ((c .before .before .before .before .before .before .before .before .before .before .args) .rows .now) ((c .before .before .before .before .before .before .before .before .before .before .args) .parts .now)) ((c .before .before .before .before .before .before .before .before .before .before .args) .h) ((c .before .before .before .before .before .before .before .before .before .before .args) .left) ((c .before .before .before .before .before .before .if1) .left) ((c .before .before .before .if3) .left) ((c .before .before .is-stack) .ensures) ((c .before .if4) .taken) ((c .spend-stack) .ensures)
 
--- src/lib.rt:34:33
+-- src/lib.rt:48:40
 spend-row-sub-spend-value : (t : ℕ) → spend-row-lts.Need-sub-spend-value (
+  at-reads.Asked,
+  at-reads.Learnt,
+  less-reads.Asked,
+  less-reads.Learnt,
   is-stack-reads.Asked,
   is-stack-reads.Learnt,
   spend-stack-below t,
@@ -283,8 +363,12 @@ spend-row-sub-spend-value : (t : ℕ) → spend-row-lts.Need-sub-spend-value (
 ) (spend-row-at t) spend-row.Post
 spend-row-sub-spend-value t c = search needs
 
--- src/lib.rt:34:5
+-- src/lib.rt:48:5
 spend-row-spend-value-requires : (t : ℕ) → spend-row-lts.Need-spend-value-requires (
+  at-reads.Asked,
+  at-reads.Learnt,
+  less-reads.Asked,
+  less-reads.Learnt,
   is-stack-reads.Asked,
   is-stack-reads.Learnt,
   spend-stack-below t,
@@ -293,12 +377,16 @@ spend-row-spend-value-requires : (t : ℕ) → spend-row-lts.Need-spend-value-re
   spend-value.Post,
 ) (spend-row-at t) spend-row.Post
 spend-row-spend-value-requires t c κs =
-    let t0 = (c .before .before .before .before .before .before .pre) .0 in
-    let t1 = (c .before .before .before .before .before .before .pre) .1 in
-    (omega arith, t1)
+    let t0 = (c .before .before .before .before .before .before .before .before .before .pre) .0 in
+    let t1 = (c .before .before .before .before .before .before .before .before .before .pre) .1 .0 in
+    (omega arith, (t1, (c .before .before .before .before .before .before .before .before .before .pre) .1 .1))
 
--- src/lib.rt:21:1
-spend-row-returns-4 : (t : ℕ) → spend-row-lts.Need-returns-4 (
+-- src/lib.rt:31:1
+spend-row-returns-5 : (t : ℕ) → spend-row-lts.Need-returns-5 (
+  at-reads.Asked,
+  at-reads.Learnt,
+  less-reads.Asked,
+  less-reads.Learnt,
   is-stack-reads.Asked,
   is-stack-reads.Learnt,
   spend-stack-below t,
@@ -306,9 +394,9 @@ spend-row-returns-4 : (t : ℕ) → spend-row-lts.Need-returns-4 (
   spend-value-below t,
   spend-value.Post,
 ) (spend-row-at t) spend-row.Post
-spend-row-returns-4 t c = spent-value (tab ((c .before .before .before .before .before .before .before .args) .rows .now) ((c .before .before .before .before .before .before .before .args) .parts .now)) ((c .before .before .before .before .before .before .before .args) .h) ((c .before .before .before .before .before .before .before .args) .left) ((c .before .before .before .before .if1) .left) ((c .before .before .before .if2) .left) ((c .before .before .is-stack) .ensures) ((c .before .if3) .left) ((c .spend-value) .ensures)
+spend-row-returns-5 t c = spent-value (tab ((c .before .before .before .before .before .before .before .before .before .before .args) .rows .now) ((c .before .before .before .before .before .before .before .before .before .before .args) .parts .now)) ((c .before .before .before .before .before .before .before .before .before .before .args) .h) ((c .before .before .before .before .before .before .before .before .before .before .args) .left) ((c .before .before .before .before .before .before .if1) .left) ((c .before .before .before .if3) .left) ((c .before .before .is-stack) .ensures) ((c .before .if4) .left) ((c .spend-value) .ensures)
 
--- src/lib.rt:62:9
+-- src/lib.rt:76:9
 spend-stack-read-stack-requires : (t : ℕ) → spend-stack-lts.Need-read-stack-requires (
   read-stack-reads.Asked,
   read-stack-reads.Learnt,
@@ -316,10 +404,10 @@ spend-stack-read-stack-requires : (t : ℕ) → spend-stack-lts.Need-read-stack-
   spend-row.Post,
 ) (spend-stack-at t) spend-stack.Post
 spend-stack-read-stack-requires t c κs =
-    let t1 = (c .before .before .pre) .1 in
+    let t1 = (c .before .before .before .pre) .1 .0 in
     (t1, omega arith)
 
--- src/lib.rt:64:21
+-- src/lib.rt:78:21
 spend-stack-enum-told : (t : ℕ) → spend-stack-lts.Need-enum-told (
   read-stack-reads.Asked,
   read-stack-reads.Learnt,
@@ -328,7 +416,7 @@ spend-stack-enum-told : (t : ℕ) → spend-stack-lts.Need-enum-told (
 ) (spend-stack-at t) spend-stack.Post
 spend-stack-enum-told t c = search needs
 
--- src/lib.rt:65:27
+-- src/lib.rt:79:27
 spend-stack-enum-told-2 : (t : ℕ) → spend-stack-lts.Need-enum-told-2 (
   read-stack-reads.Asked,
   read-stack-reads.Learnt,
@@ -337,7 +425,7 @@ spend-stack-enum-told-2 : (t : ℕ) → spend-stack-lts.Need-enum-told-2 (
 ) (spend-stack-at t) spend-stack.Post
 spend-stack-enum-told-2 t c = search needs
 
--- src/lib.rt:66:28
+-- src/lib.rt:80:28
 spend-stack-enum-told-3 : (t : ℕ) → spend-stack-lts.Need-enum-told-3 (
   read-stack-reads.Asked,
   read-stack-reads.Learnt,
@@ -346,7 +434,7 @@ spend-stack-enum-told-3 : (t : ℕ) → spend-stack-lts.Need-enum-told-3 (
 ) (spend-stack-at t) spend-stack.Post
 spend-stack-enum-told-3 t c = search needs
 
--- src/lib.rt:67:19
+-- src/lib.rt:81:19
 spend-stack-enum-known-n : (t : ℕ) → spend-stack-lts.Need-enum-known-n (
   read-stack-reads.Asked,
   read-stack-reads.Learnt,
@@ -355,7 +443,7 @@ spend-stack-enum-known-n : (t : ℕ) → spend-stack-lts.Need-enum-known-n (
 ) (spend-stack-at t) spend-stack.Post
 spend-stack-enum-known-n t c = search needs
 
--- src/lib.rt:68:17
+-- src/lib.rt:82:17
 spend-stack-spend-row-requires : (t : ℕ) → spend-stack-lts.Need-spend-row-requires (
   read-stack-reads.Asked,
   read-stack-reads.Learnt,
@@ -363,13 +451,13 @@ spend-stack-spend-row-requires : (t : ℕ) → spend-stack-lts.Need-spend-row-re
   spend-row.Post,
 ) (spend-stack-at t) spend-stack.Post
 spend-stack-spend-row-requires t c κs =
-    let ok = ok-form 0 ((c .before .before .before .before .before .before .args) .h) ((c .before .before .before .read-stack) .ensures .1) ((c .before .n) .given .1) in
-    let t0 = (c .before .before .before .before .before .before .pre) .0 in
-    let t1 = (c .before .before .before .before .before .before .pre) .1 in
+    let ok = ok-form 0 ((c .before .before .before .before .before .before .before .args) .h) ((c .before .before .before .read-stack) .ensures .1) ((c .before .n) .given .1) in
+    let t0 = (c .before .before .before .before .before .before .before .pre) .0 in
+    let t1 = (c .before .before .before .before .before .before .before .pre) .1 .0 in
     let o = ok .0 in
-    (omega arith, omega arith)
+    (omega arith, (omega arith, (c .before .before .before .before .before .before .before .pre) .1 .1))
 
--- src/lib.rt:69:13
+-- src/lib.rt:83:13
 spend-stack-spend-row-requires-2 : (t : ℕ) → spend-stack-lts.Need-spend-row-requires-2 (
   read-stack-reads.Asked,
   read-stack-reads.Learnt,
@@ -377,13 +465,13 @@ spend-stack-spend-row-requires-2 : (t : ℕ) → spend-stack-lts.Need-spend-row-
   spend-row.Post,
 ) (spend-stack-at t) spend-stack.Post
 spend-stack-spend-row-requires-2 t c κs =
-    let ok = ok-form 0 ((c .before .before .before .before .before .before .before .args) .h) ((c .before .before .before .before .read-stack) .ensures .1) ((c .before .before .n) .given .1) in
-    let t0 = (c .before .before .before .before .before .before .before .pre) .0 in
-    let t1 = (c .before .before .before .before .before .before .before .pre) .1 in
+    let ok = ok-form 0 ((c .before .before .before .before .before .before .before .before .args) .h) ((c .before .before .before .before .read-stack) .ensures .1) ((c .before .before .n) .given .1) in
+    let t0 = (c .before .before .before .before .before .before .before .before .pre) .0 in
+    let t1 = (c .before .before .before .before .before .before .before .before .pre) .1 .0 in
     let o = ok .1 in
-    (omega arith, omega arith)
+    (omega arith, (omega arith, (c .before .before .before .before .before .before .before .before .pre) .1 .1))
 
--- src/lib.rt:71:19
+-- src/lib.rt:85:19
 spend-stack-enum-known-n-2 : (t : ℕ) → spend-stack-lts.Need-enum-known-n-2 (
   read-stack-reads.Asked,
   read-stack-reads.Learnt,
@@ -392,7 +480,7 @@ spend-stack-enum-known-n-2 : (t : ℕ) → spend-stack-lts.Need-enum-known-n-2 (
 ) (spend-stack-at t) spend-stack.Post
 spend-stack-enum-known-n-2 t c = search needs
 
--- src/lib.rt:72:17
+-- src/lib.rt:86:17
 spend-stack-spend-row-requires-3 : (t : ℕ) → spend-stack-lts.Need-spend-row-requires-3 (
   read-stack-reads.Asked,
   read-stack-reads.Learnt,
@@ -400,13 +488,13 @@ spend-stack-spend-row-requires-3 : (t : ℕ) → spend-stack-lts.Need-spend-row-
   spend-row.Post,
 ) (spend-stack-at t) spend-stack.Post
 spend-stack-spend-row-requires-3 t c κs =
-    let ok = ok-form 0 ((c .before .before .before .before .before .before .args) .h) ((c .before .before .before .read-stack) .ensures .1) ((c .before .n2) .given .1) in
-    let t0 = (c .before .before .before .before .before .before .pre) .0 in
-    let t1 = (c .before .before .before .before .before .before .pre) .1 in
+    let ok = ok-form 0 ((c .before .before .before .before .before .before .before .args) .h) ((c .before .before .before .read-stack) .ensures .1) ((c .before .n2) .given .1) in
+    let t0 = (c .before .before .before .before .before .before .before .pre) .0 in
+    let t1 = (c .before .before .before .before .before .before .before .pre) .1 .0 in
     let o = ok .0 in
-    (omega arith, omega arith)
+    (omega arith, (omega arith, (c .before .before .before .before .before .before .before .pre) .1 .1))
 
--- src/lib.rt:73:13
+-- src/lib.rt:87:13
 spend-stack-spend-row-requires-4 : (t : ℕ) → spend-stack-lts.Need-spend-row-requires-4 (
   read-stack-reads.Asked,
   read-stack-reads.Learnt,
@@ -414,13 +502,13 @@ spend-stack-spend-row-requires-4 : (t : ℕ) → spend-stack-lts.Need-spend-row-
   spend-row.Post,
 ) (spend-stack-at t) spend-stack.Post
 spend-stack-spend-row-requires-4 t c κs =
-    let ok = ok-form 0 ((c .before .before .before .before .before .before .before .args) .h) ((c .before .before .before .before .read-stack) .ensures .1) ((c .before .before .n2) .given .1) in
-    let t0 = (c .before .before .before .before .before .before .before .pre) .0 in
-    let t1 = (c .before .before .before .before .before .before .before .pre) .1 in
+    let ok = ok-form 0 ((c .before .before .before .before .before .before .before .before .args) .h) ((c .before .before .before .before .read-stack) .ensures .1) ((c .before .before .n2) .given .1) in
+    let t0 = (c .before .before .before .before .before .before .before .before .pre) .0 in
+    let t1 = (c .before .before .before .before .before .before .before .before .pre) .1 .0 in
     let o = ok .1 in
-    (omega arith, omega arith)
+    (omega arith, (omega arith, (c .before .before .before .before .before .before .before .before .pre) .1 .1))
 
--- src/lib.rt:58:1
+-- src/lib.rt:72:1
 spend-stack-returns : (t : ℕ) → spend-stack-lts.Need-returns (
   read-stack-reads.Asked,
   read-stack-reads.Learnt,
@@ -428,10 +516,10 @@ spend-stack-returns : (t : ℕ) → spend-stack-lts.Need-returns (
   spend-row.Post,
 ) (spend-stack-at t) spend-stack.Post
 spend-stack-returns t c =
-    let q = under-stack (tab ((c .before .before .before .before .before .args) .rows .now) ((c .before .before .before .before .before .args) .parts .now)) ((c .before .before .before .before .before .args) .h) ((c .before .before .read-stack) .ensures .0) ((c .enum-told) .given .1) in
+    let q = under-stack (tab ((c .before .before .before .before .before .before .args) .rows .now) ((c .before .before .before .before .before .before .args) .parts .now)) ((c .before .before .before .before .before .before .args) .h) ((c .before .before .read-stack) .ensures .0) ((c .enum-told) .given .1) in
     omega arith
 
--- src/lib.rt:58:1
+-- src/lib.rt:72:1
 spend-stack-returns-2 : (t : ℕ) → spend-stack-lts.Need-returns-2 (
   read-stack-reads.Asked,
   read-stack-reads.Learnt,
@@ -439,10 +527,10 @@ spend-stack-returns-2 : (t : ℕ) → spend-stack-lts.Need-returns-2 (
   spend-row.Post,
 ) (spend-stack-at t) spend-stack.Post
 spend-stack-returns-2 t c =
-    let q = under-stack (tab ((c .before .before .before .before .before .args) .rows .now) ((c .before .before .before .before .before .args) .parts .now)) ((c .before .before .before .before .before .args) .h) ((c .before .before .read-stack) .ensures .0) ((c .enum-told2) .given .1) in
+    let q = under-stack (tab ((c .before .before .before .before .before .before .args) .rows .now) ((c .before .before .before .before .before .before .args) .parts .now)) ((c .before .before .before .before .before .before .args) .h) ((c .before .before .read-stack) .ensures .0) ((c .enum-told2) .given .1) in
     omega arith
 
--- src/lib.rt:58:1
+-- src/lib.rt:72:1
 spend-stack-returns-3 : (t : ℕ) → spend-stack-lts.Need-returns-3 (
   read-stack-reads.Asked,
   read-stack-reads.Learnt,
@@ -450,10 +538,10 @@ spend-stack-returns-3 : (t : ℕ) → spend-stack-lts.Need-returns-3 (
   spend-row.Post,
 ) (spend-stack-at t) spend-stack.Post
 spend-stack-returns-3 t c =
-    let q = under-stack (tab ((c .before .before .before .before .before .args) .rows .now) ((c .before .before .before .before .before .args) .parts .now)) ((c .before .before .before .before .before .args) .h) ((c .before .before .read-stack) .ensures .0) ((c .enum-told3) .given .1) in
+    let q = under-stack (tab ((c .before .before .before .before .before .before .args) .rows .now) ((c .before .before .before .before .before .before .args) .parts .now)) ((c .before .before .before .before .before .before .args) .h) ((c .before .before .read-stack) .ensures .0) ((c .enum-told3) .given .1) in
     omega arith
 
--- src/lib.rt:58:1
+-- src/lib.rt:72:1
 spend-stack-returns-4 : (t : ℕ) → spend-stack-lts.Need-returns-4 (
   read-stack-reads.Asked,
   read-stack-reads.Learnt,
@@ -461,12 +549,12 @@ spend-stack-returns-4 : (t : ℕ) → spend-stack-lts.Need-returns-4 (
   spend-row.Post,
 ) (spend-stack-at t) spend-stack.Post
 spend-stack-returns-4 t c =
-    let q = under-stack (tab ((c .before .before .before .before .before .before .before .before .args) .rows .now) ((c .before .before .before .before .before .before .before .before .args) .parts .now)) ((c .before .before .before .before .before .before .before .before .args) .h) ((c .before .before .before .before .before .read-stack) .ensures .0) ((c .before .before .before .n) .given .1) in
+    let q = under-stack (tab ((c .before .before .before .before .before .before .before .before .before .args) .rows .now) ((c .before .before .before .before .before .before .before .before .before .args) .parts .now)) ((c .before .before .before .before .before .before .before .before .before .args) .h) ((c .before .before .before .before .before .read-stack) .ensures .0) ((c .before .before .before .n) .given .1) in
     let e = (c .before .spend-row) .ensures in
     let g = (c .spend-row2) .ensures in
     omega arith
 
--- src/lib.rt:58:1
+-- src/lib.rt:72:1
 spend-stack-returns-5 : (t : ℕ) → spend-stack-lts.Need-returns-5 (
   read-stack-reads.Asked,
   read-stack-reads.Learnt,
@@ -474,12 +562,12 @@ spend-stack-returns-5 : (t : ℕ) → spend-stack-lts.Need-returns-5 (
   spend-row.Post,
 ) (spend-stack-at t) spend-stack.Post
 spend-stack-returns-5 t c =
-    let q = under-stack (tab ((c .before .before .before .before .before .before .before .before .args) .rows .now) ((c .before .before .before .before .before .before .before .before .args) .parts .now)) ((c .before .before .before .before .before .before .before .before .args) .h) ((c .before .before .before .before .before .read-stack) .ensures .0) ((c .before .before .before .n2) .given .1) in
+    let q = under-stack (tab ((c .before .before .before .before .before .before .before .before .before .args) .rows .now) ((c .before .before .before .before .before .before .before .before .before .args) .parts .now)) ((c .before .before .before .before .before .before .before .before .before .args) .h) ((c .before .before .before .before .before .read-stack) .ensures .0) ((c .before .before .before .n2) .given .1) in
     let e = (c .before .spend-row3) .ensures in
     let g = (c .spend-row4) .ensures in
     omega arith
 
--- src/lib.rt:42:9
+-- src/lib.rt:56:9
 spend-value-read-value-requires : (t : ℕ) → spend-value-lts.Need-read-value-requires (
   read-value-reads.Asked,
   read-value-reads.Learnt,
@@ -489,10 +577,10 @@ spend-value-read-value-requires : (t : ℕ) → spend-value-lts.Need-read-value-
   spend-row.Post,
 ) (spend-value-at t) spend-value.Post
 spend-value-read-value-requires t c κs =
-    let t1 = (c .before .before .pre) .1 in
+    let t1 = (c .before .before .before .pre) .1 .0 in
     (t1, omega arith)
 
--- src/lib.rt:44:21
+-- src/lib.rt:58:21
 spend-value-enum-told : (t : ℕ) → spend-value-lts.Need-enum-told (
   read-value-reads.Asked,
   read-value-reads.Learnt,
@@ -503,7 +591,7 @@ spend-value-enum-told : (t : ℕ) → spend-value-lts.Need-enum-told (
 ) (spend-value-at t) spend-value.Post
 spend-value-enum-told t c = search needs
 
--- src/lib.rt:45:22
+-- src/lib.rt:59:22
 spend-value-enum-told-2 : (t : ℕ) → spend-value-lts.Need-enum-told-2 (
   read-value-reads.Asked,
   read-value-reads.Learnt,
@@ -514,7 +602,7 @@ spend-value-enum-told-2 : (t : ℕ) → spend-value-lts.Need-enum-told-2 (
 ) (spend-value-at t) spend-value.Post
 spend-value-enum-told-2 t c = search needs
 
--- src/lib.rt:46:27
+-- src/lib.rt:60:27
 spend-value-enum-told-3 : (t : ℕ) → spend-value-lts.Need-enum-told-3 (
   read-value-reads.Asked,
   read-value-reads.Learnt,
@@ -525,7 +613,7 @@ spend-value-enum-told-3 : (t : ℕ) → spend-value-lts.Need-enum-told-3 (
 ) (spend-value-at t) spend-value.Post
 spend-value-enum-told-3 t c = search needs
 
--- src/lib.rt:47:28
+-- src/lib.rt:61:28
 spend-value-enum-told-4 : (t : ℕ) → spend-value-lts.Need-enum-told-4 (
   read-value-reads.Asked,
   read-value-reads.Learnt,
@@ -536,7 +624,7 @@ spend-value-enum-told-4 : (t : ℕ) → spend-value-lts.Need-enum-told-4 (
 ) (spend-value-at t) spend-value.Post
 spend-value-enum-told-4 t c = search needs
 
--- src/lib.rt:48:20
+-- src/lib.rt:62:20
 spend-value-enum-known-n : (t : ℕ) → spend-value-lts.Need-enum-known-n (
   read-value-reads.Asked,
   read-value-reads.Learnt,
@@ -547,7 +635,7 @@ spend-value-enum-known-n : (t : ℕ) → spend-value-lts.Need-enum-known-n (
 ) (spend-value-at t) spend-value.Post
 spend-value-enum-known-n t c = search needs
 
--- src/lib.rt:48:29
+-- src/lib.rt:62:29
 spend-value-spend-parts-requires : (t : ℕ) → spend-value-lts.Need-spend-parts-requires (
   read-value-reads.Asked,
   read-value-reads.Learnt,
@@ -557,14 +645,14 @@ spend-value-spend-parts-requires : (t : ℕ) → spend-value-lts.Need-spend-part
   spend-row.Post,
 ) (spend-value-at t) spend-value.Post
 spend-value-spend-parts-requires t c κs =
-    let ok = ok-v 0 ((c .before .before .before .before .before .before .args) .h) ((c .before .before .before .read-value) .ensures .1) ((c .before .n) .given .1) in
-    let t0 = (c .before .before .before .before .before .before .pre) .0 in
-    let t1 = (c .before .before .before .before .before .before .pre) .1 in
+    let ok = ok-v 0 ((c .before .before .before .before .before .before .before .args) .h) ((c .before .before .before .read-value) .ensures .1) ((c .before .n) .given .1) in
+    let t0 = (c .before .before .before .before .before .before .before .pre) .0 in
+    let t1 = (c .before .before .before .before .before .before .before .pre) .1 .0 in
     let o0 = ok .0 in
     let o1 = ok .1 in
-    (omega arith, (ok .2, t1, o1, omega arith))
+    (omega arith, (ok .2, t1, o1, omega arith, (c .before .before .before .before .before .before .before .pre) .1 .1))
 
--- src/lib.rt:49:22
+-- src/lib.rt:63:22
 spend-value-enum-known-n-2 : (t : ℕ) → spend-value-lts.Need-enum-known-n-2 (
   read-value-reads.Asked,
   read-value-reads.Learnt,
@@ -575,7 +663,7 @@ spend-value-enum-known-n-2 : (t : ℕ) → spend-value-lts.Need-enum-known-n-2 (
 ) (spend-value-at t) spend-value.Post
 spend-value-enum-known-n-2 t c = search needs
 
--- src/lib.rt:49:28
+-- src/lib.rt:63:28
 spend-value-spend-row-requires : (t : ℕ) → spend-value-lts.Need-spend-row-requires (
   read-value-reads.Asked,
   read-value-reads.Learnt,
@@ -585,12 +673,12 @@ spend-value-spend-row-requires : (t : ℕ) → spend-value-lts.Need-spend-row-re
   spend-row.Post,
 ) (spend-value-at t) spend-value.Post
 spend-value-spend-row-requires t c κs =
-    let ok = ok-v 0 ((c .before .before .before .before .before .before .args) .h) ((c .before .before .before .read-value) .ensures .1) ((c .before .n2) .given .1) in
-    let t0 = (c .before .before .before .before .before .before .pre) .0 in
-    let t1 = (c .before .before .before .before .before .before .pre) .1 in
-    (omega arith, omega arith)
+    let ok = ok-v 0 ((c .before .before .before .before .before .before .before .args) .h) ((c .before .before .before .read-value) .ensures .1) ((c .before .n2) .given .1) in
+    let t0 = (c .before .before .before .before .before .before .before .pre) .0 in
+    let t1 = (c .before .before .before .before .before .before .before .pre) .1 .0 in
+    (omega arith, (omega arith, (c .before .before .before .before .before .before .before .pre) .1 .1))
 
--- src/lib.rt:50:19
+-- src/lib.rt:64:19
 spend-value-enum-known-n-3 : (t : ℕ) → spend-value-lts.Need-enum-known-n-3 (
   read-value-reads.Asked,
   read-value-reads.Learnt,
@@ -601,7 +689,7 @@ spend-value-enum-known-n-3 : (t : ℕ) → spend-value-lts.Need-enum-known-n-3 (
 ) (spend-value-at t) spend-value.Post
 spend-value-enum-known-n-3 t c = search needs
 
--- src/lib.rt:51:17
+-- src/lib.rt:65:17
 spend-value-spend-row-requires-2 : (t : ℕ) → spend-value-lts.Need-spend-row-requires-2 (
   read-value-reads.Asked,
   read-value-reads.Learnt,
@@ -611,13 +699,13 @@ spend-value-spend-row-requires-2 : (t : ℕ) → spend-value-lts.Need-spend-row-
   spend-row.Post,
 ) (spend-value-at t) spend-value.Post
 spend-value-spend-row-requires-2 t c κs =
-    let ok = ok-v 0 ((c .before .before .before .before .before .before .args) .h) ((c .before .before .before .read-value) .ensures .1) ((c .before .n3) .given .1) in
-    let t0 = (c .before .before .before .before .before .before .pre) .0 in
-    let t1 = (c .before .before .before .before .before .before .pre) .1 in
+    let ok = ok-v 0 ((c .before .before .before .before .before .before .before .args) .h) ((c .before .before .before .read-value) .ensures .1) ((c .before .n3) .given .1) in
+    let t0 = (c .before .before .before .before .before .before .before .pre) .0 in
+    let t1 = (c .before .before .before .before .before .before .before .pre) .1 .0 in
     let o0 = ok .0 in
-    (omega arith, omega arith)
+    (omega arith, (omega arith, (c .before .before .before .before .before .before .before .pre) .1 .1))
 
--- src/lib.rt:52:13
+-- src/lib.rt:66:13
 spend-value-spend-parts-requires-2 : (t : ℕ) → spend-value-lts.Need-spend-parts-requires-2 (
   read-value-reads.Asked,
   read-value-reads.Learnt,
@@ -627,14 +715,14 @@ spend-value-spend-parts-requires-2 : (t : ℕ) → spend-value-lts.Need-spend-pa
   spend-row.Post,
 ) (spend-value-at t) spend-value.Post
 spend-value-spend-parts-requires-2 t c κs =
-    let ok = ok-v 0 ((c .before .before .before .before .before .before .before .args) .h) ((c .before .before .before .before .read-value) .ensures .1) ((c .before .before .n3) .given .1) in
-    let t0 = (c .before .before .before .before .before .before .before .pre) .0 in
-    let t1 = (c .before .before .before .before .before .before .before .pre) .1 in
+    let ok = ok-v 0 ((c .before .before .before .before .before .before .before .before .args) .h) ((c .before .before .before .before .read-value) .ensures .1) ((c .before .before .n3) .given .1) in
+    let t0 = (c .before .before .before .before .before .before .before .before .pre) .0 in
+    let t1 = (c .before .before .before .before .before .before .before .before .pre) .1 .0 in
     let o0 = ok .0 in
     let o1 = ok .1 in
-    (omega arith, (omega arith, t1, omega arith, omega arith))
+    (omega arith, (omega arith, t1, omega arith, omega arith, (c .before .before .before .before .before .before .before .before .pre) .1 .1))
 
--- src/lib.rt:38:1
+-- src/lib.rt:52:1
 spend-value-returns : (t : ℕ) → spend-value-lts.Need-returns (
   read-value-reads.Asked,
   read-value-reads.Learnt,
@@ -644,10 +732,10 @@ spend-value-returns : (t : ℕ) → spend-value-lts.Need-returns (
   spend-row.Post,
 ) (spend-value-at t) spend-value.Post
 spend-value-returns t c =
-    let q = under-value (tab ((c .before .before .before .before .before .args) .rows .now) ((c .before .before .before .before .before .args) .parts .now)) ((c .before .before .before .before .before .args) .h) ((c .before .before .read-value) .ensures .0) ((c .enum-told) .given .1) in
+    let q = under-value (tab ((c .before .before .before .before .before .before .args) .rows .now) ((c .before .before .before .before .before .before .args) .parts .now)) ((c .before .before .before .before .before .before .args) .h) ((c .before .before .read-value) .ensures .0) ((c .enum-told) .given .1) in
     omega arith
 
--- src/lib.rt:38:1
+-- src/lib.rt:52:1
 spend-value-returns-2 : (t : ℕ) → spend-value-lts.Need-returns-2 (
   read-value-reads.Asked,
   read-value-reads.Learnt,
@@ -657,10 +745,10 @@ spend-value-returns-2 : (t : ℕ) → spend-value-lts.Need-returns-2 (
   spend-row.Post,
 ) (spend-value-at t) spend-value.Post
 spend-value-returns-2 t c =
-    let q = under-value (tab ((c .before .before .before .before .before .args) .rows .now) ((c .before .before .before .before .before .args) .parts .now)) ((c .before .before .before .before .before .args) .h) ((c .before .before .read-value) .ensures .0) ((c .enum-told2) .given .1) in
+    let q = under-value (tab ((c .before .before .before .before .before .before .args) .rows .now) ((c .before .before .before .before .before .before .args) .parts .now)) ((c .before .before .before .before .before .before .args) .h) ((c .before .before .read-value) .ensures .0) ((c .enum-told2) .given .1) in
     omega arith
 
--- src/lib.rt:38:1
+-- src/lib.rt:52:1
 spend-value-returns-3 : (t : ℕ) → spend-value-lts.Need-returns-3 (
   read-value-reads.Asked,
   read-value-reads.Learnt,
@@ -670,10 +758,10 @@ spend-value-returns-3 : (t : ℕ) → spend-value-lts.Need-returns-3 (
   spend-row.Post,
 ) (spend-value-at t) spend-value.Post
 spend-value-returns-3 t c =
-    let q = under-value (tab ((c .before .before .before .before .before .args) .rows .now) ((c .before .before .before .before .before .args) .parts .now)) ((c .before .before .before .before .before .args) .h) ((c .before .before .read-value) .ensures .0) ((c .enum-told3) .given .1) in
+    let q = under-value (tab ((c .before .before .before .before .before .before .args) .rows .now) ((c .before .before .before .before .before .before .args) .parts .now)) ((c .before .before .before .before .before .before .args) .h) ((c .before .before .read-value) .ensures .0) ((c .enum-told3) .given .1) in
     omega arith
 
--- src/lib.rt:38:1
+-- src/lib.rt:52:1
 spend-value-returns-4 : (t : ℕ) → spend-value-lts.Need-returns-4 (
   read-value-reads.Asked,
   read-value-reads.Learnt,
@@ -683,10 +771,10 @@ spend-value-returns-4 : (t : ℕ) → spend-value-lts.Need-returns-4 (
   spend-row.Post,
 ) (spend-value-at t) spend-value.Post
 spend-value-returns-4 t c =
-    let q = under-value (tab ((c .before .before .before .before .before .args) .rows .now) ((c .before .before .before .before .before .args) .parts .now)) ((c .before .before .before .before .before .args) .h) ((c .before .before .read-value) .ensures .0) ((c .enum-told4) .given .1) in
+    let q = under-value (tab ((c .before .before .before .before .before .before .args) .rows .now) ((c .before .before .before .before .before .before .args) .parts .now)) ((c .before .before .before .before .before .before .args) .h) ((c .before .before .read-value) .ensures .0) ((c .enum-told4) .given .1) in
     omega arith
 
--- src/lib.rt:38:1
+-- src/lib.rt:52:1
 spend-value-returns-5 : (t : ℕ) → spend-value-lts.Need-returns-5 (
   read-value-reads.Asked,
   read-value-reads.Learnt,
@@ -696,11 +784,11 @@ spend-value-returns-5 : (t : ℕ) → spend-value-lts.Need-returns-5 (
   spend-row.Post,
 ) (spend-value-at t) spend-value.Post
 spend-value-returns-5 t c =
-    let q = under-value (tab ((c .before .before .before .before .before .before .before .args) .rows .now) ((c .before .before .before .before .before .before .before .args) .parts .now)) ((c .before .before .before .before .before .before .before .args) .h) ((c .before .before .before .before .read-value) .ensures .0) ((c .before .before .n) .given .1) in
+    let q = under-value (tab ((c .before .before .before .before .before .before .before .before .args) .rows .now) ((c .before .before .before .before .before .before .before .before .args) .parts .now)) ((c .before .before .before .before .before .before .before .before .args) .h) ((c .before .before .before .before .read-value) .ensures .0) ((c .before .before .n) .given .1) in
     let e = (c .spend-parts) .ensures in
     omega arith
 
--- src/lib.rt:38:1
+-- src/lib.rt:52:1
 spend-value-returns-6 : (t : ℕ) → spend-value-lts.Need-returns-6 (
   read-value-reads.Asked,
   read-value-reads.Learnt,
@@ -710,11 +798,11 @@ spend-value-returns-6 : (t : ℕ) → spend-value-lts.Need-returns-6 (
   spend-row.Post,
 ) (spend-value-at t) spend-value.Post
 spend-value-returns-6 t c =
-    let q = under-value (tab ((c .before .before .before .before .before .before .before .args) .rows .now) ((c .before .before .before .before .before .before .before .args) .parts .now)) ((c .before .before .before .before .before .before .before .args) .h) ((c .before .before .before .before .read-value) .ensures .0) ((c .before .before .n2) .given .1) in
+    let q = under-value (tab ((c .before .before .before .before .before .before .before .before .args) .rows .now) ((c .before .before .before .before .before .before .before .before .args) .parts .now)) ((c .before .before .before .before .before .before .before .before .args) .h) ((c .before .before .before .before .read-value) .ensures .0) ((c .before .before .n2) .given .1) in
     let e = (c .spend-row) .ensures in
     omega arith
 
--- src/lib.rt:38:1
+-- src/lib.rt:52:1
 spend-value-returns-7 : (t : ℕ) → spend-value-lts.Need-returns-7 (
   read-value-reads.Asked,
   read-value-reads.Learnt,
@@ -724,7 +812,7 @@ spend-value-returns-7 : (t : ℕ) → spend-value-lts.Need-returns-7 (
   spend-row.Post,
 ) (spend-value-at t) spend-value.Post
 spend-value-returns-7 t c =
-    let q = under-value (tab ((c .before .before .before .before .before .before .before .before .args) .rows .now) ((c .before .before .before .before .before .before .before .before .args) .parts .now)) ((c .before .before .before .before .before .before .before .before .args) .h) ((c .before .before .before .before .before .read-value) .ensures .0) ((c .before .before .before .n3) .given .1) in
+    let q = under-value (tab ((c .before .before .before .before .before .before .before .before .before .args) .rows .now) ((c .before .before .before .before .before .before .before .before .before .args) .parts .now)) ((c .before .before .before .before .before .before .before .before .before .args) .h) ((c .before .before .before .before .before .read-value) .ensures .0) ((c .before .before .before .n3) .given .1) in
     let e = (c .before .spend-row2) .ensures in
     let g = (c .spend-parts2) .ensures in
     omega arith
@@ -753,6 +841,10 @@ pub +spend-parts+spend-row+spend-stack+spend-value-spec : {M : Type 1} → state
     (spend-parts-loop-again t)
     (spend-parts-returns t))
     (λ t. spend-row-lts.spec (
+      at-reads.Asked,
+      at-reads.Learnt,
+      less-reads.Asked,
+      less-reads.Learnt,
       is-stack-reads.Asked,
       is-stack-reads.Learnt,
       spend-stack-below t,
@@ -763,15 +855,18 @@ pub +spend-parts+spend-row+spend-stack+spend-value-spec : {M : Type 1} → state
     (spend-row-at t)
     spend-row.Post
     (spend-row-returns t)
+    (spend-row-at-requires t)
+    (spend-row-less-requires t)
     (spend-row-returns-2 t)
+    (spend-row-returns-3 t)
     (spend-row-sub-is-stack t)
     (spend-row-is-stack-requires t)
     (spend-row-sub-spend-stack t)
     (spend-row-spend-stack-requires t)
-    (spend-row-returns-3 t)
+    (spend-row-returns-4 t)
     (spend-row-sub-spend-value t)
     (spend-row-spend-value-requires t)
-    (spend-row-returns-4 t))
+    (spend-row-returns-5 t))
     (λ t. spend-stack-lts.spec (
       read-stack-reads.Asked,
       read-stack-reads.Learnt,

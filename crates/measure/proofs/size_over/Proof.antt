@@ -1,26 +1,64 @@
-use mathlib.Core.Path.{refl}
-use Prim.Native.Nat.{_+_}
-use native.Mathlib.Omega.{arith}
+-- `measure::size_over` meets its contract.
+use mathlib.Core.Path.{_≡_, ap, sym, _∙_, subst}
+use Prim.Native.Nat.{ℕ, _+_, _-_}
+use mathlib.Core.List.{List}
 use Rattle.rows.specs.Read.{tab}
-use Rattle.measure.proofs.Sizes.{over-limit}
+use Rattle.measure.specs.Size.{Measured}
+use Rattle.measure.proofs.Sizes.{is-over, not-over, measured-kept}
 use borrow.Author.Needs.{needs}
 use Rattle.measure.proofs.size_over.Statement.{statement}
 use Rattle.measure.proofs.size_over.Tie as tie
 use Rattle.measure.proofs.size_over.Reads as reads
 use Rattle.measure.proofs.size_over.Lts as lts
+use Rattle.measure.proofs.keep_size.Reads as keep-size-reads
 use Rattle.measure.proofs.spend_row.Reads as spend-row-reads
 
--- src/lib.rt:101:28
+-- src/lib.rt:141:46
 add-spend-row : tie.Need-add-spend-row
 add-spend-row c = search needs
 
--- src/lib.rt:101:5
+-- src/lib.rt:141:9
 spend-row-requires : tie.Need-spend-row-requires
 spend-row-requires c κs = search needs
 
--- src/lib.rt:97:1
+-- src/lib.rt:143:9
+same-length : tie.Need-same-length
+same-length c = search needs
+
+-- src/lib.rt:143:9
 returns : tie.Need-returns
-returns c = over-limit (tab ((c .before .before .before .args) .rows .now) ((c .before .before .before .args) .parts .now)) ((c .before .before .before .args) .r) ((c .before .before .before .args) .r + 1) ((c .spend-row) .result) refl ((c .spend-row) .ensures)
+returns c = (is-over (tab ((c .before .before .before .before .before .before .args) .rows .now) ((c .before .before .before .before .before .before .args) .parts .now)) ((c .before .before .before .before .before .before .args) .r) ((c .before .spend-row) .result) ((c .before .spend-row) .ensures) ((c .if1) .taken), (c .before .before .before .before .before .before .pre) .1)
+
+-- src/lib.rt:145:22
+add-keep-size : tie.Need-add-keep-size
+add-keep-size c = search needs
+
+-- src/lib.rt:145:29
+sub-keep-size : tie.Need-sub-keep-size
+sub-keep-size c = search needs
+
+-- src/lib.rt:145:5
+keep-size-requires : tie.Need-keep-size-requires
+keep-size-requires c κs = search needs
+
+-- src/lib.rt:137:1
+same-length-2 : tie.Need-same-length-2
+same-length-2 c = search needs
+
+-- src/lib.rt:137:1
+returns-2 : tie.Need-returns-2
+returns-2 c = (not-over (tab ((c .before .before .before .before .before .before .before .before .before .before .args) .rows .now) ((c .before .before .before .before .before .before .before .before .before .before .args) .parts .now)) ((c .before .before .before .before .before .before .before .before .before .before .args) .r) ((c .before .before .before .before .before .spend-row) .result) ((c .before .before .before .before .before .spend-row) .ensures) ((c .before .before .before .before .if1) .left), subst (λ (l : List ℕ). Measured (tab ((c .before .before .before .before .before .before .before .before .before .before .args) .rows .now) ((c .before .before .before .before .before .before .before .before .before .before .args) .parts .now)) l) (sym ((c .before .before .keep-size) .ensures)) (measured-kept (tab ((c .before .before .before .before .before .before .before .before .before .before .args) .rows .now) ((c .before .before .before .before .before .before .before .before .before .before .args) .parts .now)) ((c .before .before .before .before .before .before .before .before .before .before .args) .sizes .now) ((c .before .before .before .before .before .before .before .before .before .before .args) .r) ((c .before .before .before .before .before .spend-row) .result) ((c .before .before .before .before .before .before .before .before .before .before .pre) .1) ((c .before .before .before .before .before .spend-row) .ensures) ((c .before .before .before .before .if1) .left)))
 
 pub size-over-spec : {M : Type 1} → statement M
-size-over-spec = tie.close (tie.spec add-spend-row spend-row-requires returns)
+size-over-spec =
+    tie.close
+    (tie.spec
+    add-spend-row
+    spend-row-requires
+    same-length
+    returns
+    add-keep-size
+    sub-keep-size
+    keep-size-requires
+    same-length-2
+    returns-2)

@@ -1,21 +1,21 @@
--- `numbers::digit` meets its contract.
--- Assumes nothing.
-use Rattle.numbers.proofs.Laws.{digit-low, digit-high, digit-is}
 use borrow.Author.Needs.{needs}
+use native.Mathlib.Omega.{arith}
+use Rattle.numbers.proofs.Laws.{digit-from, a-digit}
 use Rattle.numbers.proofs.digit.Statement.{statement}
 use Rattle.numbers.proofs.digit.Tie as tie
+use Rattle.numbers.proofs.digit.Reads as reads
+use Rattle.numbers.proofs.digit.Lts as lts
 
-returns : tie.Need-returns
-returns c = digit-low (c .before .args .b) (c .if1 .taken)
-
-returns-2 : tie.Need-returns-2
-returns-2 c = digit-high (c .before .before .args .b) (c .before .if1 .left) (c .if2 .taken)
-
+-- src/lib.rt:38:5
 sub-result : tie.Need-sub-result
-sub-result c = search needs
+sub-result c = digit-from ((c .args) .b) (c .pre)
 
-returns-3 : tie.Need-returns-3
-returns-3 c = digit-is (c .before .before .args .b) (c .before .if1 .left) (c .if2 .left)
+-- src/lib.rt:34:1
+returns : tie.Need-returns
+returns c =
+    let e = a-digit ((c .args) .b) (c .pre) .1 in
+    let h = (c .pre) in
+    (e, omega arith)
 
 pub digit-spec : {M : Type 1} → statement M
-digit-spec = tie.close (tie.spec returns returns-2 sub-result returns-3)
+digit-spec = tie.close (tie.spec sub-result returns)

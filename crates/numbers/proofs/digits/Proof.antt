@@ -1,6 +1,5 @@
--- `numbers::digits` meets its contract: the digits from `i` on, after those that spell n, spell what all of them do.
--- Assumes nothing.
 use borrow.Author.Needs.{needs}
+use borrow.Author.Tests.{ltb-true, ltb-false}
 use mathlib.Core.Path.{_≡_, refl, ap, sym, _∙_}
 use Prim.Native.Nat.{ℕ, _≤_, _<_, _+_, _-_, _*_}
 use native.Mathlib.Omega.{arith}
@@ -9,6 +8,10 @@ use Rattle.numbers.specs.Numbers.{upTo, digitOf}
 use Rattle.numbers.proofs.Laws.{up-end, up-bad, up-more, too-high}
 use Rattle.numbers.proofs.digits.Statement.{statement}
 use Rattle.numbers.proofs.digits.Tie as tie
+use Rattle.numbers.proofs.digits.Reads as reads
+use Rattle.numbers.proofs.digits.Lts as lts
+use Rattle.numbers.proofs.digit.Reads as digit-reads
+use Rattle.numbers.proofs.no_digit.Reads as no-digit-reads
 
 abbrev Inv-loop : tie.InvT-loop
 Inv-loop s high top n₀ i₀ n i = (i ≤ length s) × (n ≤ high) × (upTo high n (drop i s) ≡ upTo high 0 s)
@@ -16,62 +19,78 @@ Inv-loop s high top n₀ i₀ n i = (i ≤ length s) × (n ≤ high) × (upTo hi
 abbrev μ-loop : tie.MeasureT-loop
 μ-loop s high top n₀ i₀ n i = length s - i
 
+-- src/lib.rt:48:5
 loop-holds : tie.Need-loop-holds Inv-loop μ-loop
 loop-holds c = (search needs, search needs, refl)
 
-shared-slice-read-digit : tie.Need-shared-slice-read-digit Inv-loop μ-loop
-shared-slice-read-digit c = search needs
+-- src/lib.rt:49:17
+shared-slice-read-b : tie.Need-shared-slice-read-b Inv-loop μ-loop
+shared-slice-read-b c = search needs
 
-digit-requires : tie.Need-digit-requires Inv-loop μ-loop
-digit-requires c κs = tt
+-- src/lib.rt:50:12
+no-digit-requires : tie.Need-no-digit-requires Inv-loop μ-loop
+no-digit-requires c κs = search needs
 
+-- src/lib.rt:51:13
 returns : tie.Need-returns Inv-loop μ-loop
 returns c =
-    let a = c .before .before .before .before .before .before .args in
-    let l = c .before .before .before .before .loop in
-    let q : 9 < digitOf (getD (a .s .now) (l .i) 0) = omega (arith, c .before .digit .ensures) in
-    sym (up-bad (a .high) (l .n) (a .s .now) (l .i) (c .before .before .before .loop-test .taken) q) ∙ l .inv .2
+    let a = (c .before .before .before .before .before .before .args) in
+    let l = (c .before .before .before .before .loop) in
+    let q : 9 < digitOf (getD (a .s .now) (l .i) 0) = ltb-true 9 (digitOf (getD (a .s .now) (l .i) 0)) (sym ((c .before .no-digit) .ensures) ∙ (c .if1) .taken) in
+    sym (up-bad (a .high) (l .n) (a .s .now) (l .i) ((c .before .before .before .loop-test) .taken) q) ∙ l .inv .2
 
+-- src/lib.rt:53:13
 mul-n : tie.Need-mul-n Inv-loop μ-loop
 mul-n c = search needs
 
+-- src/lib.rt:53:22
+digit-requires : tie.Need-digit-requires Inv-loop μ-loop
+digit-requires c κs = ltb-false 9 (digitOf (getD ((c .before .before .before .before .before .before .args) .s .now) ((c .before .before .before .before .loop) .i) 0)) (sym ((c .before .no-digit) .ensures) ∙ (c .if1) .left)
+
+-- src/lib.rt:53:13
 add-n : tie.Need-add-n Inv-loop μ-loop
 add-n c = search needs
 
+-- src/lib.rt:55:13
 returns-2 : tie.Need-returns-2 Inv-loop μ-loop
 returns-2 c =
-    let a = c .before .before .before .before .before .before .before .args in
-    let l = c .before .before .before .before .before .loop in
-    let d = c .before .before .digit in
-    let k : digitOf (getD (a .s .now) (l .i) 0) ≤ 9 = omega (arith, d .ensures) in
-    let e = ap (λ (x : ℕ). upTo (a .high) (l .n * 10 + x) (drop (l .i + 1) (a .s .now))) (d .ensures) ∙ sym (up-more (a .high) (l .n) (a .s .now) (l .i) (c .before .before .before .before .loop-test .taken) k) ∙ l .inv .2 in
-    sym (too-high (a .high) (l .n * 10 + d .result) (drop (l .i + 1) (a .s .now)) (c .if2 .taken)) ∙ e
+    let a = (c .before .before .before .before .before .before .before .before .args) in
+    let l = (c .before .before .before .before .before .before .loop) in
+    let d = (c .before .digit) in
+    let k : digitOf (getD (a .s .now) (l .i) 0) ≤ 9 = ltb-false 9 (digitOf (getD (a .s .now) (l .i) 0)) (sym ((c .before .before .before .no-digit) .ensures) ∙ (c .before .before .if1) .left) in
+    let e = ap (λ (x : ℕ). upTo (a .high) (l .n * 10 + x) (drop (l .i + 1) (a .s .now))) (d .ensures .0) ∙ sym (up-more (a .high) (l .n) (a .s .now) (l .i) ((c .before .before .before .before .before .loop-test) .taken) k) ∙ l .inv .2 in
+    sym (too-high (a .high) (l .n * 10 + d .result) (drop (l .i + 1) (a .s .now)) ((c .if2) .taken)) ∙ e
 
+-- src/lib.rt:57:9
 add-i : tie.Need-add-i Inv-loop μ-loop
 add-i c = search needs
 
+-- src/lib.rt:48:5
 loop-less : tie.Need-loop-less Inv-loop μ-loop
 loop-less c = search needs
 
+-- src/lib.rt:48:5
 loop-again : tie.Need-loop-again Inv-loop μ-loop
 loop-again c =
-    let a = c .before .before .before .before .before .before .before .args in
-    let l = c .before .before .before .before .before .loop in
-    let d = c .before .before .digit in
-    let k : digitOf (getD (a .s .now) (l .i) 0) ≤ 9 = omega (arith, d .ensures) in (
+    let a = (c .before .before .before .before .before .before .before .before .args) in
+    let l = (c .before .before .before .before .before .before .loop) in
+    let d = (c .before .digit) in
+    let k : digitOf (getD (a .s .now) (l .i) 0) ≤ 9 = ltb-false 9 (digitOf (getD (a .s .now) (l .i) 0)) (sym ((c .before .before .before .no-digit) .ensures) ∙ (c .before .before .if1) .left) in (
       search needs,
-      c .if2 .left,
-      ap (λ (x : ℕ). upTo (a .high) (l .n * 10 + x) (drop (l .i + 1) (a .s .now))) (d .ensures) ∙ sym (up-more (a .high) (l .n) (a .s .now) (l .i) (c .before .before .before .before .loop-test .taken) k) ∙ l .inv .2,
+      (c .if2) .left,
+      ap (λ (x : ℕ). upTo (a .high) (l .n * 10 + x) (drop (l .i + 1) (a .s .now))) (d .ensures .0) ∙ sym (up-more (a .high) (l .n) (a .s .now) (l .i) ((c .before .before .before .before .before .loop-test) .taken) k) ∙ l .inv .2,
     )
 
-cast-t12 : tie.Need-cast-t12 Inv-loop μ-loop
-cast-t12 c = search needs
+-- src/lib.rt:59:19
+cast-t14 : tie.Need-cast-t14 Inv-loop μ-loop
+cast-t14 c = search needs
 
+-- src/lib.rt:42:1
 returns-3 : tie.Need-returns-3 Inv-loop μ-loop
 returns-3 c =
-    let a = c .before .before .before .args in
-    let l = c .before .loop in
-    sym (up-end (a .high) (l .n) (a .s .now) (l .i) (c .loop-test .left) (l .inv .1)) ∙ l .inv .2
+    let a = (c .before .before .before .args) in
+    let l = (c .before .loop) in
+    sym (up-end (a .high) (l .n) (a .s .now) (l .i) ((c .loop-test) .left) (l .inv .1)) ∙ l .inv .2
 
 pub digits-spec : {M : Type 1} → statement M
 digits-spec =
@@ -80,14 +99,15 @@ digits-spec =
     Inv-loop
     μ-loop
     loop-holds
-    shared-slice-read-digit
-    digit-requires
+    shared-slice-read-b
+    no-digit-requires
     returns
     mul-n
+    digit-requires
     add-n
     returns-2
     add-i
     loop-less
     loop-again
-    cast-t12
+    cast-t14
     returns-3)

@@ -68,7 +68,7 @@ given-row-requires c κs = (c .before .before .before .before .before .before .b
 
 -- src/lib.rt:126:8
 filled-requires : tie.Need-filled-requires
-filled-requires c κs = ((c .before .before .before .before .before .before .before .before .before .before .before .before .before .before .pre) .0 .counted, (c .before .before .before .before .before .before .before .before .before .before .before .before .before .before .pre) .2)
+filled-requires c κs = (let f = (c .before .before .before .before .before .before .before .before .before .before .before .before .before .before .pre) .0 .few in omega arith, (c .before .before .before .before .before .before .before .before .before .before .before .before .before .before .pre) .2)
 
 -- src/lib.rt:127:9
 returns-4 : tie.Need-returns-4

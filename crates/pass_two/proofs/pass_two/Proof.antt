@@ -3,26 +3,42 @@ use mathlib.Core.List.{[]}
 use Rattle.tables.specs.Tables.{blocksFrom}
 use Rattle.rows.specs.Read.{tab}
 use Rattle.refs.specs.Refs.{operandTable}
-use Rattle.pass_two.proofs.Laws.{at-row, behind-rows}
+use Rattle.pass_two.proofs.Laws.{at-row, behind-rows, measured-none}
+use Prim.Native.Nat.{_≤_}
+use borrow.Author.Needs.{needs}
 use borrow.Author.Needs.{needs}
 use Rattle.pass_two.proofs.pass_two.Statement.{statement}
 use Rattle.pass_two.proofs.pass_two.Tie as tie
+use Rattle.pass_two.proofs.pass_two.Reads as reads
+use Rattle.pass_two.proofs.pass_two.Lts as lts
+use Rattle.pass_two.proofs.rows_fault.Reads as rows-fault-reads
+use Rattle.refs.proofs.code_fault.Reads as code-fault-reads
 
+-- src/lib.rt:67:37
+slice-aggregate-rows-fault : tie.Need-slice-aggregate-rows-fault
+slice-aggregate-rows-fault c = search needs
+
+-- src/lib.rt:67:9
 rows-fault-requires : tie.Need-rows-fault-requires
-rows-fault-requires c κs = search needs
+rows-fault-requires c κs = ((c .before .before .before .before .before .before .before .before .pre) .0, measured-none (tab ((c .before .before .before .before .before .before .before .before .args) .rows .now) ((c .before .before .before .before .before .before .before .before .args) .parts .now)) 513)
 
+-- src/lib.rt:70:9
 returns : tie.Need-returns
 returns c =
-    let a = c .before .before .before .before .before .before .before .before .before .args in
-    at-row (tab (a .rows .now) (a .parts .now)) (a .n) (a .nb) (blocksFrom (a .blocks .now) (a .instrs .now) (operandTable (a .operands .now) (a .numbers .now) (a .args .now)) (a .ni) 0 (a .nb)) (c .before .rows-fault .result) (c .before .rows-fault .ensures) (c .if1 .taken)
+    let a = (c .before .before .before .before .before .before .before .before .before .before .before .args) in
+    at-row (tab (a .rows .now) (a .parts .now)) (a .n) (a .nb) (blocksFrom (a .blocks .now) (a .instrs .now) (operandTable (a .operands .now) (a .numbers .now) (a .args .now)) (a .ni) 0 (a .nb)) ((c .before .before .rows-fault) .result) ((c .before .before .rows-fault) .ensures) ((c .if1) .taken)
 
+-- src/lib.rt:72:5
 code-fault-requires : tie.Need-code-fault-requires
 code-fault-requires c κs = search needs
 
+-- src/lib.rt:51:1
 returns-2 : tie.Need-returns-2
 returns-2 c =
-    let a = c .before .before .before .before .before .before .before .before .before .before .args in
-    behind-rows (tab (a .rows .now) (a .parts .now)) (a .n) (a .nb) (blocksFrom (a .blocks .now) (a .instrs .now) (operandTable (a .operands .now) (a .numbers .now) (a .args .now)) (a .ni) 0 (a .nb)) (c .before .before .rows-fault .result) (c .code-fault .result) (c .before .before .rows-fault .ensures) (c .before .if1 .left) (c .code-fault .ensures (a .parts .now))
+    let a = (c .before .before .before .before .before .before .before .before .before .before .before .before .args) in
+    behind-rows (tab (a .rows .now) (a .parts .now)) (a .n) (a .nb) (blocksFrom (a .blocks .now) (a .instrs .now) (operandTable (a .operands .now) (a .numbers .now) (a .args .now)) (a .ni) 0 (a .nb)) ((c .before .before .before .rows-fault) .result) ((c .code-fault) .result) ((c .before .before .before .rows-fault) .ensures) ((c .before .if1) .left) ((c .code-fault) .ensures (a .parts .now))
 
 pub pass-two-spec : {M : Type 1} → statement M
-pass-two-spec = tie.close (tie.spec rows-fault-requires returns code-fault-requires returns-2)
+pass-two-spec =
+    tie.close
+    (tie.spec slice-aggregate-rows-fault rows-fault-requires returns code-fault-requires returns-2)

@@ -5,29 +5,56 @@ use Prim.Native.Nat.{ℕ}
 use Rattle.rows.specs.Read.{tab}
 use Rattle.pass_two.proofs.Laws.{row-refs, row-size}
 use borrow.Author.Needs.{needs}
+use borrow.Author.Needs.{needs}
 use Rattle.pass_two.proofs.row_fault.Statement.{statement}
 use Rattle.pass_two.proofs.row_fault.Tie as tie
+use Rattle.pass_two.proofs.row_fault.Reads as reads
+use Rattle.pass_two.proofs.row_fault.Lts as lts
+use Rattle.measure.proofs.size_over.Reads as size-over-reads
+use Rattle.refs.proofs.row_fault.Reads as row-fault-reads
 
+-- src/lib.rt:23:9
 row-fault-requires : tie.Need-row-fault-requires
 row-fault-requires c κs = search needs
 
+-- src/lib.rt:25:9
 returns : tie.Need-returns
 returns c =
-    let a = c .before .before .before .before .args in
-    row-refs (tab (a .rows .now) (a .parts .now)) (a .r) (c .before .row-fault .result) (c .before .row-fault .ensures) (c .if1 .taken)
+    let a = (c .before .before .before .before .before .args) in
+    (row-refs (tab (a .rows .now) (a .parts .now)) (a .r) ((c .before .row-fault) .result) ((c .before .row-fault) .ensures) ((c .if1) .taken), (c .before .before .before .before .before .pre) .1)
 
+-- src/lib.rt:27:8
 size-over-requires : tie.Need-size-over-requires
 size-over-requires c κs = search needs
 
+-- src/lib.rt:28:9
+same-length : tie.Need-same-length
+same-length c = search needs
+
+-- src/lib.rt:28:9
 returns-2 : tie.Need-returns-2
 returns-2 c =
-    let a = c .before .before .before .before .before .before .args in
-    ap (λ b. cond b 6 0) (sym (c .if2 .taken)) ∙ row-size (tab (a .rows .now) (a .parts .now)) (a .r) (c .before .before .before .row-fault .result) (c .before .before .before .row-fault .ensures) (c .before .size-over .result) (c .before .size-over .ensures) (c .before .before .if1 .left)
+    let a = (c .before .before .before .before .before .before .before .before .before .before .args) in
+    (ap (λ b. cond b 6 0) (sym ((c .if2) .taken)) ∙ row-size (tab (a .rows .now) (a .parts .now)) (a .r) ((c .before .before .before .before .before .before .row-fault) .result) ((c .before .before .before .before .before .before .row-fault) .ensures) ((c .before .before .before .size-over) .result) ((c .before .before .before .size-over) .ensures .0) ((c .before .before .before .before .before .if1) .left), (c .before .before .before .size-over) .ensures .1)
 
+-- src/lib.rt:19:1
+same-length-2 : tie.Need-same-length-2
+same-length-2 c = search needs
+
+-- src/lib.rt:19:1
 returns-3 : tie.Need-returns-3
 returns-3 c =
-    let a = c .before .before .before .before .before .before .args in
-    ap (λ b. cond b 6 0) (sym (c .if2 .left)) ∙ row-size (tab (a .rows .now) (a .parts .now)) (a .r) (c .before .before .before .row-fault .result) (c .before .before .before .row-fault .ensures) (c .before .size-over .result) (c .before .size-over .ensures) (c .before .before .if1 .left)
+    let a = (c .before .before .before .before .before .before .before .before .before .before .args) in
+    (ap (λ b. cond b 6 0) (sym ((c .if2) .left)) ∙ row-size (tab (a .rows .now) (a .parts .now)) (a .r) ((c .before .before .before .before .before .before .row-fault) .result) ((c .before .before .before .before .before .before .row-fault) .ensures) ((c .before .before .before .size-over) .result) ((c .before .before .before .size-over) .ensures .0) ((c .before .before .before .before .before .if1) .left), (c .before .before .before .size-over) .ensures .1)
 
 pub row-fault-spec : {M : Type 1} → statement M
-row-fault-spec = tie.close (tie.spec row-fault-requires returns size-over-requires returns-2 returns-3)
+row-fault-spec =
+    tie.close
+    (tie.spec
+    row-fault-requires
+    returns
+    size-over-requires
+    same-length
+    returns-2
+    same-length-2
+    returns-3)

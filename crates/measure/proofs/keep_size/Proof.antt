@@ -1,0 +1,39 @@
+-- `measure::keep_size` meets its contract.
+use mathlib.Core.Path.{_≡_, ap, sym, _∙_}
+use Prim.Native.Nat.{ℕ}
+use lib.ListN.{set}
+use lib.Seq.{set-out}
+use borrow.Author.Needs.{needs}
+use Rattle.measure.proofs.keep_size.Statement.{statement}
+use Rattle.measure.proofs.keep_size.Tie as tie
+use Rattle.measure.proofs.keep_size.Reads as reads
+use Rattle.measure.proofs.keep_size.Lts as lts
+use Rattle.measure.proofs.narrow.Reads as narrow-reads
+
+-- src/lib.rt:132:20
+narrow-requires : tie.Need-narrow-requires
+narrow-requires c κs = search needs
+
+-- src/lib.rt:132:9
+mul-sizes : tie.Need-mul-sizes
+mul-sizes c = search needs
+
+-- src/lib.rt:132:9
+slice-write-sizes : tie.Need-slice-write-sizes
+slice-write-sizes c = search needs
+
+-- src/lib.rt:127:1
+same-length : tie.Need-same-length
+same-length c = search needs
+
+-- src/lib.rt:127:1
+returns : tie.Need-returns
+returns c = ap (λ (x : ℕ). set ((c .before .before .before .args) .sizes .now) ((c .before .before .before .args) .h) x) ((c .narrow) .ensures)
+
+-- src/lib.rt:127:1
+returns-2 : tie.Need-returns-2
+returns-2 c = sym (set-out ((c .before .before .args) .sizes .now) ((c .before .before .args) .h) ((c .before .before .args) .s) ((c .if1) .left))
+
+pub keep-size-spec : {M : Type 1} → statement M
+keep-size-spec =
+    tie.close (tie.spec narrow-requires mul-sizes slice-write-sizes same-length returns returns-2)

@@ -1,0 +1,59 @@
+-- From the answers of checker and execute to numbers.
+use Prim.Native.Nat.{ℕ}
+use mathlib.Core.Path.{_≡_, refl, sym, ap, subst, _∙_}
+use mathlib.Core.List.{List, [], _∷_}
+use Rattle.valid.specs.Verdict.{check}
+use Rattle.premises.specs.Answers.{In}
+use Rattle.checker.specs.Answers.{Said, accept, refuse, saidOf, saidBy, itemsIn, Names, Answers}
+use Rattle.checker.specs.declared.Answer.{Answer}
+use Rattle.checker.specs.declared.Answer.the-variants.{Accepted, Refused, Unfit}
+use Rattle.exec.specs.Run as exec
+use Rattle.machine.specs.Step.{stateOf}
+use Rattle.launch.specs.declared.Answer as run
+use Rattle.launch.specs.declared.Outcome.{Outcome}
+use Rattle.launch.specs.Answers.{answerIs, outcomeIs}
+use Rattle.stal.specs.declared.Verdict.{Verdict}
+use Rattle.stal.specs.declared.Reply.{Reply}
+use Rattle.stal.specs.Numbers.{verdict, verdictBy, verdictOf, Last, Tells, replyOf, call, callOf}
+
+-- ---- start and continue
+pub by-reply : {a o : run.Answer} {r : Reply} → a ≡ o → r ≡ replyOf (answerIs o) → r ≡ replyOf (answerIs a)
+by-reply e h = h ∙ ap (λ (x : run.Answer). replyOf (answerIs x)) (sym e)
+
+pub called : (o : Outcome) (r : Reply) (rk rn sk sn hk hn : List ℕ) (e : exec.Outcome) → outcomeIs o rk rn sk sn hk hn ≡ e → r ≡ replyOf (answerIs (o .answer)) → call r (stateOf rk rn sk sn hk hn (o .place)) ≡ callOf e
+unfolding callOf
+called o r rk rn sk sn hk hn e h q = ap (λ (x : Reply). call x (stateOf rk rn sk sn hk hn (o .place))) q ∙ ap callOf h
+
+-- ---- check
+pub by-verdict : {a o : Answer} {v : Verdict} → a ≡ o → v ≡ verdictBy o → v ≡ verdictBy a
+by-verdict e h = h ∙ ap verdictBy (sym e)
+
+by-said : (a : Answer) → verdictBy a ≡ verdictOf (saidBy a) (verdictBy a .second)
+unfolding verdictOf
+by-said (Accepted b i) = refl
+by-said (Refused n l) = refl
+by-said (Unfit l i) = refl
+
+none-left : (n l : ℕ) (xs : List ℕ) → xs ≡ [] → Last (refuse n l) xs 100
+unfolding Last
+none-left n l xs e = subst (λ (ys : List ℕ). Last (refuse n l) ys 100) (sym e) refl
+
+some-left : (n l i : ℕ) (xs : List ℕ) → In i xs → Last (refuse n l) xs i
+unfolding Last
+some-left n l i (y ∷ ys) h = h
+
+last-by : (a : Answer) (xs : List ℕ) → Names a xs → Last (saidBy a) xs (verdictBy a .second)
+unfolding Last
+last-by (Accepted b i) xs h = refl
+last-by (Refused n l) xs h = none-left n l xs h
+last-by (Unfit l i) xs h = some-left 10 l i xs h
+
+tells-by : (text : List ℕ) (a : Answer) → Answers text a → Tells text (verdictBy a)
+tells-by text a h =
+    record {
+      said = by-said a ∙ ap (λ (s : Said). verdictOf s (verdictBy a .second)) (h .said);
+      last = subst (λ (s : Said). Last s (itemsIn (check text)) (verdictBy a .second)) (h .said) (last-by a (itemsIn (check text)) (h .item));
+    }
+
+pub tells : (text : List ℕ) (a : Answer) (v : Verdict) → Answers text a → v ≡ verdictBy a → Tells text v
+tells text a v h e = subst (λ (w : Verdict). Tells text w) (sym e) (tells-by text a h)

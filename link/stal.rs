@@ -1,0 +1,146 @@
+//! The proved checker and machine for STAL programs, safe to call from Rust (libstal.a, made by `rt staticlib stal`; x86-64). No
+//! allocation, no static state, `core` only: firmware may include this file as it is. Slices and `&mut` meet everything that the boundary
+//! asks (not null, aligned, as long as they say, no overlap), and the state has the lengths that are wanted, so nothing is left to test.
+
+pub const STACK: usize = 256;
+pub const HEAP: usize = 2048;
+pub const BUDGET: usize = 1_000_000;
+
+extern "C" {
+    fn stal_check(text: *const u8, text_len: usize, first: *mut usize, second: *mut usize) -> usize;
+    fn stal_start(
+        text: *const u8, text_len: usize, samples: *const u8, samples_len: usize, budget: usize,
+        rk: *mut u8, rk_len: usize, rn: *mut u32, rn_len: usize, sk: *mut u8, sk_len: usize, sn: *mut u32, sn_len: usize,
+        hk: *mut u8, hk_len: usize, hn: *mut u32, hn_len: usize, depth: *mut u32, used: *mut usize, position: *mut usize,
+        first: *mut usize, kind: *mut u8, number: *mut u32,
+    ) -> usize;
+    fn stal_continue(
+        text: *const u8, text_len: usize, budget: usize,
+        rk: *mut u8, rk_len: usize, rn: *mut u32, rn_len: usize, sk: *mut u8, sk_len: usize, sn: *mut u32, sn_len: usize,
+        hk: *mut u8, hk_len: usize, hn: *mut u32, hn_len: usize, depth: *mut u32, used: *mut usize, position: *mut usize,
+        first: *mut usize, kind: *mut u8, number: *mut u32,
+    ) -> usize;
+}
+
+/// A word: an integer, a label (its block's number), a tuple handle (its length word's index), a stack height, or junk.
+#[derive(Clone, Copy, Debug, PartialEq, Eq)]
+pub enum Word {
+    Int(i32),
+    Code(u32),
+    Tuple(u32),
+    Height(u32),
+    Junk,
+}
+
+/// A refusal: the fault's number (1 to 16) and its line.
+#[derive(Clone, Copy, Debug, PartialEq, Eq)]
+pub struct Refusal {
+    pub number: usize,
+    pub line: usize,
+    /// for 10 at a jump or branch an item that does not fit: 0 for sp, 1 to 8 for a register, 99 for the resulting row
+    pub item: Option<usize>,
+}
+
+/// An accepted program's counts.
+#[derive(Clone, Copy, Debug, PartialEq, Eq)]
+pub struct Counts {
+    pub blocks: usize,
+    pub instructions: usize,
+}
+
+/// How a run stopped, with the steps made.
+#[derive(Clone, Copy, Debug, PartialEq, Eq)]
+pub enum Stop {
+    Halted(usize, Word),
+    Paused(usize),
+    StackFull(usize),
+    HeapFull(usize),
+    Stuck(usize),
+}
+
+/// The machine's state, laid out as stal_state of stal.h: kinds and numbers of registers, stack (from the bottom) and heap; how many stack
+/// and heap words are in use; the next instruction, counted over all blocks.
+#[repr(C)]
+#[derive(Clone)]
+pub struct State {
+    pub rk: [u8; 8],
+    pub rn: [u32; 8],
+    pub sk: [u8; STACK],
+    pub sn: [u32; STACK],
+    pub hk: [u8; HEAP],
+    pub hn: [u32; HEAP],
+    pub depth: u32,
+    pub used: usize,
+    pub position: usize,
+}
+
+impl State {
+    pub const fn new() -> State {
+        State { rk: [0; 8], rn: [0; 8], sk: [0; STACK], sn: [0; STACK], hk: [0; HEAP], hn: [0; HEAP], depth: 0, used: 0, position: 0 }
+    }
+}
+
+impl Default for State {
+    fn default() -> State {
+        State::new()
+    }
+}
+
+fn word(kind: u8, number: u32) -> Word {
+    match kind {
+        0 => Word::Int(number as i32),
+        1 => Word::Code(number),
+        2 => Word::Tuple(number),
+        3 => Word::Height(number),
+        _ => Word::Junk,
+    }
+}
+
+fn answer(code: usize, first: usize, kind: u8, number: u32) -> Result<Stop, Refusal> {
+    match code {
+        0 => Ok(Stop::Halted(first, word(kind, number))),
+        17 => Ok(Stop::Paused(first)),
+        18 => Ok(Stop::StackFull(first)),
+        19 => Ok(Stop::HeapFull(first)),
+        20 => Ok(Stop::Stuck(first)),
+        _ => Err(Refusal { number: code, line: first, item: None }),
+    }
+}
+
+/// Check a program's text.
+pub fn check(text: &[u8]) -> Result<Counts, Refusal> {
+    let (mut first, mut second) = (0, 0);
+    let code = unsafe { stal_check(text.as_ptr(), text.len(), &mut first, &mut second) };
+    match code {
+        0 => Ok(Counts { blocks: first, instructions: second }),
+        _ => Err(Refusal { number: code, line: first, item: if second == 100 { None } else { Some(second) } }),
+    }
+}
+
+/// Start a program on its samples' text, with at most `budget` steps.
+pub fn start(text: &[u8], samples: &[u8], budget: usize, s: &mut State) -> Result<Stop, Refusal> {
+    let (mut first, mut kind, mut number) = (0, 0, 0);
+    let code = unsafe {
+        stal_start(
+            text.as_ptr(), text.len(), samples.as_ptr(), samples.len(), budget,
+            s.rk.as_mut_ptr(), 8, s.rn.as_mut_ptr(), 8, s.sk.as_mut_ptr(), STACK, s.sn.as_mut_ptr(), STACK,
+            s.hk.as_mut_ptr(), HEAP, s.hn.as_mut_ptr(), HEAP, &mut s.depth, &mut s.used, &mut s.position,
+            &mut first, &mut kind, &mut number,
+        )
+    };
+    answer(code, first, kind, number)
+}
+
+/// Continue a program from the state, with at most `budget` steps.
+pub fn resume(text: &[u8], budget: usize, s: &mut State) -> Result<Stop, Refusal> {
+    let (mut first, mut kind, mut number) = (0, 0, 0);
+    let code = unsafe {
+        stal_continue(
+            text.as_ptr(), text.len(), budget,
+            s.rk.as_mut_ptr(), 8, s.rn.as_mut_ptr(), 8, s.sk.as_mut_ptr(), STACK, s.sn.as_mut_ptr(), STACK,
+            s.hk.as_mut_ptr(), HEAP, s.hn.as_mut_ptr(), HEAP, &mut s.depth, &mut s.used, &mut s.position,
+            &mut first, &mut kind, &mut number,
+        )
+    };
+    answer(code, first, kind, number)
+}
