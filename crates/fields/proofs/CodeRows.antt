@@ -264,30 +264,3 @@ letters-few f n e = go (sameBytes f (bytes "-")) refl
     go : (t : Bool) → sameBytes f (bytes "-") ≡ t → n ≤ 8
     go true d = let w = Option·some-injective 0 n (dash-count f d ∙ e) in omega arith
     go false d = word-few (eachLetter f) n (count-is f d ∙ e)
-
-codes-length : (q : List Kind) → length (codesOf (some q)) ≡ length q
-unfolding codesOf
-codes-length q = simp (length-map, length-reverse)
-
-pub letters-stored : (f : List ℕ) (q : List Kind) (l : List ℕ) (at : ℕ) → letters f ≡ some q → at + length q ≤ length l → reverse (map letterOf (span (sets l at (codesOf (letters f))) at (length q))) ≡ q
-letters-stored f q l at e h =
-    let c : List ℕ = codesOf (some q) in
-    let k : length q ≡ length c = sym (codes-length q) in
-    let r : at + length c ≤ length l = omega arith in
-    ap (λ (o : Option (List Kind)). reverse (map letterOf (span (sets l at (codesOf o)) at (length q)))) e
-    ∙ ap (λ (n : ℕ). reverse (map letterOf (span (sets l at c) at n))) k
-    ∙ ap (λ (s : List ℕ). reverse (map letterOf s)) (span-sets l at c r)
-    ∙ letters-back q
-
-pub known-small : (f : List ℕ) (v : ℕ) → knownFrom (some v) ≡ known f → v ≤ 512
-unfolding knownFrom knownOf known
-known-small f zero e = zero-le
-known-small f (suc t) e = go (sameBytes f (bytes "-")) (rowNumber f) refl e
-  where
-    go : (d : Bool) (o : Option ℕ) → rowNumber f ≡ o → some (some t) ≡ cond d (some none) (bind (rowNumber f) (λ r. some (some r))) → suc t ≤ 512
-    go true o p h = absurd (Option·none-ne-some t (sym (Option·some-injective (some t) none h)))
-    go false none p h = absurd (Option·none-ne-some (some t) (sym (h ∙ ap (λ (x : Option ℕ). bind x (λ r. some (some r))) p)))
-    go false (some r) p h =
-        let w = Option·some-injective t r (Option·some-injective (some t) (some r) (h ∙ ap (λ (x : Option ℕ). bind x (λ y. some (some y))) p)) in
-        let k = row-small f r p in
-        omega arith

@@ -31,19 +31,6 @@ pub entry-by-code : (f : List ℕ) (fs : List (List ℕ)) → entryOf (f ∷ fs)
 unfolding entryOf nameCode
 entry-by-code f fs = form-there forms f fs
 
-place-few : (ns : List Named) (f : List ℕ) → placeOf ns f ≤ length ns
-unfolding placeOf
-place-few [] f = zero-le
-place-few (n ∷ ns) f = go (sameBytes (bytes (n .name)) f) (place-few ns f)
-  where
-    go : (t : Bool) → placeOf ns f ≤ length ns → cond t 0 (suc (placeOf ns f)) ≤ suc (length ns)
-    go true h = zero-le
-    go false h = suc-le-suc h
-
-pub code-few : (f : List ℕ) → nameCode f ≤ 34
-unfolding nameCode forms
-code-few f = place-few forms f
-
 -- ---- bytes and their number
 abbrev pub Small : List ℕ → Type 0
 Small s = (i : ℕ) → getD s i 0 < 256

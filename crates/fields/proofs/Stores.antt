@@ -30,14 +30,6 @@ sets-kept l i (v ∷ vs) j h =
     let q : j < suc i = omega arith in
     sets-kept (set l i v) (suc i) vs j q ∙ getD-set-other l i j v 0 (λ e. lt-irrefl i (omega arith))
 
-pub span-kept : (l : List ℕ) (i : ℕ) (vs : List ℕ) (j n : ℕ) → j + n ≤ i → span (sets l i vs) j n ≡ span l j n
-unfolding span
-span-kept l i vs j zero h = refl
-span-kept l i vs j (suc n) h =
-    let p : j < i = omega arith in
-    let q : suc j + n ≤ i = omega arith in
-    ap₂ (λ (x : ℕ) (xs : List ℕ). x ∷ xs) (sets-kept l i vs j p) (span-kept l i vs (suc j) n q)
-
 -- where there is room the stores are read back
 pub span-sets : (l : List ℕ) (i : ℕ) (vs : List ℕ) → i + length vs ≤ length l → span (sets l i vs) i (length vs) ≡ vs
 unfolding span

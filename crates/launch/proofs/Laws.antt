@@ -12,6 +12,7 @@ use borrow.Author.Tests.{eqb-true, eq-eqb}
 use Rattle.syntax.specs.Partial.{bind, when}
 use Rattle.syntax.specs.Syntax.{Instr}
 use Rattle.tables.specs.Tables.{OperandTable, instrAt, instrsFrom}
+use Rattle.tables.proofs.Steps.{length-instrs}
 use Rattle.valid.specs.Program.{Program}
 use Rattle.exec.specs.Machine.{State, Bodies, flat, Word, at}
 use Rattle.exec.specs.Run.{stopped, Answer, haltedAfter, pausedAfter, answerOf, Outcome, outcome, refuse, run, budget, bodies, wanted, initial, longEnough, goodForm, startOn, continueUnless}
@@ -122,13 +123,8 @@ module _ (want : ℕ) (o : Option (List ℕ)) (xs : List ℕ) (b : Bool) (e : wh
         ∙ sym (on-samples ∙ ap (λ (x : Bool). cond x (outcome (run (bodies P) (budget m) (initial l σ))) (refuse σ 16 0)) (sym et ∙ not-no t ht))
 
 -- ---- continuing
-from-length : (ι : List ℕ) (ω : OperandTable) (j n : ℕ) → length (instrsFrom ι ω j n) ≡ n
-unfolding instrsFrom
-from-length ι ω j zero = refl
-from-length ι ω j (suc n) = ap suc (from-length ι ω (suc j) n)
-
 flat-length : (T : Tables) (args : List ℕ) (P : Bodies) → Represents T args P → length (flat P) ≡ T .count
-flat-length T args P rep = ap length (rep .instructions) ∙ from-length (T .instrs) (record { operands = T .operands; numbers = T .bases; args = args }) 0 (T .count)
+flat-length T args P rep = ap length (rep .instructions) ∙ length-instrs (T .instrs) (record { operands = T .operands; numbers = T .bases; args = args }) 0 (T .count)
 
 module _ (T : Tables) (args : List ℕ) (P : Program) (rep : Represents T args (bodies P)) (m : ℕ) (σ : State) (t : Bool) (et : (Q : Bodies) → length (flat Q) ≡ T .count → t ≡ longEnough σ && goodForm Q σ) where
   good-is : t ≡ longEnough σ && goodForm (bodies P) σ

@@ -15,7 +15,7 @@ use Rattle.tables.specs.Tables.{RowTable, cell, span, knownOf, codeRowAt, rowFr
 use Rattle.rows.specs.declared.Val.the-variants.{ValVar}
 use Rattle.rows.specs.declared.Stk.the-variants.{StkVar}
 use Rattle.rows.specs.Read.{lower, valueWith, stackWith, isStackAt, slotAt}
-use Rattle.rows.proofs.Bridge.{rows-snoc}
+use Rattle.rows.proofs.Bridge.{row-nine, stack-nine, rows-snoc}
 use Rattle.measure.specs.Size.{slotSize, partsSize, underV, underS, sizeAt, Measured}
 use Rattle.measure.proofs.Laws.{size-none, size-is}
 
@@ -67,22 +67,8 @@ module _ (τ : RowTable) (S : List ℕ) (n : ℕ) (ts : (x : ℕ) → getD S x 0
   one-size a = let p = ts a in omega arith
 
   row-high : (k a b : ℕ) → 9 ≤ k → total S (rowRefs (rowFrom (τ .parts) k a b)) ≡ formed k a b
-  unfolding total rowRefs rowFrom stackWith
-  row-high k a b h =
-      rw (
-        le-leb 6 k (omega arith),
-        le-ltb k 7 (omega arith),
-        ne-eqb k 0 (λ z. omega arith),
-        ne-eqb k 1 (λ z. omega arith),
-        ne-eqb k 2 (λ z. omega arith),
-        ne-eqb k 3 (λ z. omega arith),
-        ne-eqb k 4 (λ z. omega arith),
-        ne-eqb k 5 (λ z. omega arith),
-        ne-eqb k 6 (λ z. omega arith),
-        ne-eqb k 7 (λ z. omega arith),
-        ne-eqb k 8 (λ z. omega arith),
-      )
-      (two-size a b)
+  unfolding total rowRefs
+  row-high k a b h = rw (le-leb 6 k (omega arith), row-nine (τ .parts) k a b h, stack-nine (suc n) k a b h) (two-size a b)
 
   row-sized : (k a b : ℕ) → total S (rowRefs (rowFrom (τ .parts) k a b)) ≡ formed k a b
   unfolding total rowRefs rowFrom codeRowAt valueWith stackWith

@@ -224,10 +224,6 @@ pub index-small : (s : List ℕ) (n : ℕ) → index s ≡ some n → n ≤ 63
 unfolding index
 index-small s n e = number-bounds 0 63 s n e .1
 
-pub amount-small : (s : List ℕ) (n : ℕ) → amount s ≡ some n → n ≤ 64
-unfolding amount
-amount-small s n e = number-bounds 0 64 s n e .1
-
 pub register-small : (s : List ℕ) (n : ℕ) → register s ≡ some n → n ≤ 7
 unfolding register
 register-small [] n e = absurd (Option·none-ne-some n e)

@@ -87,11 +87,6 @@ pub unchecked-x : (x y : ℕ) (b : Bool) (f : ℕ) → 8 ≤ x → 22 ≡ cond (
 unchecked-x x y b f hx = sym (simp (le-ltb x 8 hx))
 
 -- ---- rows in the table
-pub row-length : (s : List ℕ) (p : ℕ) (vs : List ℕ) → length (putRow s p vs) ≡ length s
-unfolding putRow
-row-length s p [] = refl
-row-length s p (v ∷ vs) = row-length (set s p v) (suc p) vs ∙ length-set s p v
-
 pub eight : (s : List ℕ) (p a b c d e f g h : ℕ) {s1 s2 s3 s4 s5 s6 s7 s8 : List ℕ} → s1 ≡ set s p a → s2 ≡ set s1 (p + 1) b → s3 ≡ set s2 (p + 2) c → s4 ≡ set s3 (p + 3) d → s5 ≡ set s4 (p + 4) e → s6 ≡ set s5 (p + 5) f → s7 ≡ set s6 (p + 6) g → s8 ≡ set s7 (p + 7) h → s8 ≡ putRow s p (a ∷ b ∷ c ∷ d ∷ e ∷ f ∷ g ∷ h ∷ [])
 unfolding putRow
 eight s p a b c d e f g h e1 e2 e3 e4 e5 e6 e7 e8 =

@@ -7,10 +7,12 @@ use mathlib.Core.List.{List, [], _∷_, _++_, map}
 use lib.ListN.{length, length-append, take}
 use Rattle.syntax.specs.Syntax.{value, Instr}
 use Rattle.text.specs.PassOne.{Listing}
-use Rattle.types.specs.Types.{Ty, int, junk, var, tuple, pointer, code, Arg}
+use Rattle.types.specs.Types.{Arg}
 use Rattle.types.specs.Rows.{typeAt}
 use Rattle.tables.specs.Tables.{cell, OperandTable, instrAt, instrsFrom, blocksFrom}
+use Rattle.tables.proofs.Steps.{length-instrs}
 use Rattle.valid.specs.Program.{Block, Program, blockOf, blocksOf}
+use Rattle.valid.proofs.Order.{body-of}
 use Rattle.exec.specs.Machine.{Bodies, flat, startOf}
 use Rattle.exec.specs.Run.{bodies}
 use Rattle.machine.specs.Step.{tables}
@@ -20,26 +22,12 @@ use Rattle.machine.specs.Represents.{Represents}
 bodiesIn : List Listing → Bodies
 bodiesIn bs = map (λ b. b .body) bs
 
-body-of : (t : Ty value) (xs : List Instr) → blockOf t xs .body ≡ xs
-unfolding blockOf
-body-of int xs = refl
-body-of junk xs = refl
-body-of (var k) xs = refl
-body-of (tuple a) xs = refl
-body-of (pointer a) xs = refl
-body-of (code q a r) xs = refl
-
 bodies-of : (T : List Arg) (bs : List Listing) → map (λ (B : Block). B .body) (blocksOf T bs) ≡ bodiesIn bs
 unfolding blocksOf bodiesIn
 bodies-of T [] = refl
 bodies-of T (b ∷ bs) = ap₂ (λ (x : List Instr) (xs : Bodies). x ∷ xs) (body-of (typeAt value T (b .code)) (b .body)) (bodies-of T bs)
 
 -- ---- instructions end to end
-from-length : (ι : List ℕ) (ω : OperandTable) (j n : ℕ) → length (instrsFrom ι ω j n) ≡ n
-unfolding instrsFrom
-from-length ι ω j zero = refl
-from-length ι ω j (suc n) = ap suc (from-length ι ω (suc j) n)
-
 module _ (ι : List ℕ) (ω : OperandTable) where
   instrs-join : (j m n : ℕ) → instrsFrom ι ω j m ++ instrsFrom ι ω (j + m) n ≡ instrsFrom ι ω j (m + n)
   unfolding instrsFrom
@@ -81,7 +69,7 @@ module _ (ι : List ℕ) (ω : OperandTable) where
         let ys = flat (take k (bodiesIn (blocksFrom β ι ω ni (suc l) (suc n)))) in
         let q = start-from (suc l) n k (omega arith) (omega arith) in
         let p = length-append xs ys in
-        let f = from-length ι ω (cell 2 β l 1) (cell 2 β (suc l) 1 - cell 2 β l 1) in
+        let f = length-instrs ι ω (cell 2 β l 1) (cell 2 β (suc l) 1 - cell 2 β l 1) in
         let i : suc l + k ≡ l + suc k = omega arith in
         let g : a + length (xs ++ ys) ≡ b + length ys = omega arith in
         g ∙ q ∙ ap (λ (x : ℕ). cell 2 β x 1) i

@@ -14,7 +14,7 @@ use Rattle.syntax.proofs.Least.{leastOf, Numbered, numbered-given, numbered-app
 use Rattle.text.specs.PassOne.{Listing}
 use Rattle.text.proofs.Entries.{blocksEntries, entriesIn}
 use Rattle.tables.specs.Tables.{cell, RowTable, rowsIn, OperandTable, instrAt, instrsFrom, blocksFrom}
-use Rattle.tables.proofs.Steps.{length-rows, instrs-step, endOf, end-inner, blocks-step}
+use Rattle.tables.proofs.Steps.{length-instrs, length-rows, instrs-step, endOf, end-inner, blocks-step}
 use Rattle.types.specs.Rows.{Ref, ref, valueRow, operandsRefs, labels, names, allBelow, refsFaults, sizeOf, rowsFaults, entryFaults, entriesFaults, passTwo}
 use Rattle.refs.specs.Refs.{foundOf, refusalOf, Rising}
 use Rattle.refs.specs.declared.Found.{Found}
@@ -74,11 +74,6 @@ instrs-length : (rows : List Row) (nb : ℕ) (xs : List Instr) → length (entri
 unfolding entriesFaults
 instrs-length rows nb [] = refl
 instrs-length rows nb (x ∷ xs) = ap suc (instrs-length rows nb xs)
-
-from-length : (ι : List ℕ) (ω : OperandTable) (j n : ℕ) → length (instrsFrom ι ω j n) ≡ n
-unfolding instrsFrom
-from-length ι ω j zero = refl
-from-length ι ω j (suc n) = ap suc (from-length ι ω (suc j) n)
 
 -- ---- the loop over instructions
 module _ (rows : List Row) (nb : ℕ) (ι : List ℕ) (ω : OperandTable) (e base : ℕ) where
@@ -174,7 +169,7 @@ module _ (rows : List Row) (nb : ℕ) (β ι : List ℕ) (ω : OperandTable) (ni
 
     pub block-next : Rising β nb → (f : ℕ) (g : Found) → f ≡ leastOf (entryFaults rows nb (block c)) → f ≡ 0 → g ≡ foundOf (lowestLine (n + b + 2 + s) (bodyPass s e)) → g .number ≡ 0 → blocksLeft b ≡ blocksLeft (b + 1)
     block-next up f g ef z eg w =
-        let len : length (bodyPass s e) ≡ e - s = instrs-length rows nb (instrsFrom ι ω s (e - s)) ∙ from-length ι ω s (e - s) in
+        let len : length (bodyPass s e) ≡ e - s = instrs-length rows nb (instrsFrom ι ω s (e - s)) ∙ length-instrs ι ω s (e - s) in
         ap foundOf (body (sym ef ∙ z) ∙ (ap (λ (o : Option Refusal). orElse o (lowestLine (n + b + 2 + s + length (bodyPass s e)) (passFrom (b + 1)))) (body-none g eg w)
         ∙ line-free (b + 1) (n + b + 2 + s + length (bodyPass s e)) (n + (b + 1) + cell 2 β (b + 1) 1 + 1) (λ l. lines l len)))
       where

@@ -32,6 +32,27 @@ unfolding meanings
 meanings-append T [] ys = refl
 meanings-append T (x ∷ xs) ys = meanings-append (T ++ meaning T x ∷ []) xs ys
 
+-- ---- a kind above 8 is read as a join
+pub row-nine : (ps : List ℕ) (k a b : ℕ) → 9 ≤ k → rowFrom ps k a b ≡ rowA a b
+unfolding rowFrom
+row-nine ps k a b h =
+    rw (
+      ne-eqb k 0 (λ z. omega arith),
+      ne-eqb k 1 (λ z. omega arith),
+      ne-eqb k 2 (λ z. omega arith),
+      ne-eqb k 3 (λ z. omega arith),
+      ne-eqb k 4 (λ z. omega arith),
+      ne-eqb k 5 (λ z. omega arith),
+      ne-eqb k 6 (λ z. omega arith),
+      ne-eqb k 7 (λ z. omega arith),
+      ne-eqb k 8 (λ z. omega arith),
+    )
+    refl
+
+pub stack-nine : (n k a b : ℕ) → 9 ≤ k → stackWith StkVar n k a b ≡ Join (lower n a) (lower n b)
+unfolding stackWith
+stack-nine n k a b h = rw (le-ltb k 7 (omega arith), ne-eqb k 7 (λ z. omega arith), ne-eqb k 8 (λ z. omega arith)) refl
+
 module _ (τ : RowTable) where
   abbrev pub typesIn : ℕ → List Arg
   typesIn n = typesOf (rowsIn τ n)
@@ -69,22 +90,8 @@ module _ (τ : RowTable) (T : List Arg) (n : ℕ) (tv : (x : ℕ) → typeAt val
   formed k a b = cond (leb 6 k) (arg stack (buildS (meanV τ) (meanS τ) (stackWith StkVar (suc n) k a b))) (arg value (buildV (meanV τ) (meanS τ) (τ .parts) (suc n) (valueWith ValVar (suc n) k a b)))
 
   row-high : (k a b : ℕ) → 9 ≤ k → meaning T (rowFrom (τ .parts) k a b) ≡ formed k a b
-  unfolding meaning rowFrom stackWith
-  row-high k a b h =
-      rw (
-        le-leb 6 k (omega arith),
-        le-ltb k 7 (omega arith),
-        ne-eqb k 0 (λ z. omega arith),
-        ne-eqb k 1 (λ z. omega arith),
-        ne-eqb k 2 (λ z. omega arith),
-        ne-eqb k 3 (λ z. omega arith),
-        ne-eqb k 4 (λ z. omega arith),
-        ne-eqb k 5 (λ z. omega arith),
-        ne-eqb k 6 (λ z. omega arith),
-        ne-eqb k 7 (λ z. omega arith),
-        ne-eqb k 8 (λ z. omega arith),
-      )
-      (ap₂ (λ x y. arg stack (join x y)) (ts a) (ts b))
+  unfolding meaning
+  row-high k a b h = rw (le-leb 6 k (omega arith), row-nine (τ .parts) k a b h, stack-nine (suc n) k a b h) (ap₂ (λ x y. arg stack (join x y)) (ts a) (ts b))
 
   row-means : (k a b : ℕ) → meaning T (rowFrom (τ .parts) k a b) ≡ formed k a b
   unfolding meaning rowFrom codeRowAt valueWith stackWith

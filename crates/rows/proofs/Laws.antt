@@ -516,13 +516,6 @@ module _ (by : ℕ) where
       go true = refl
       go false = refl
 
-  pub items-lift : (d : ℕ) (a : Ty stack) → items (walk (acting [] by) d a) ≡ items a
-  unfolding walk items
-  items-lift d nil = refl
-  items-lift d (push t a) = ap suc (items-lift d a)
-  items-lift d (svar k a) = rw (lifted d k (walk (acting [] by) d a)) (ap suc (items-lift d a))
-  items-lift d (gap a) = ap suc (items-lift d a)
-
   pub drop-lift : (d n : ℕ) (a : Ty stack) → dropS n (walk (acting [] by) d a) ≡ walk (acting [] by) d (dropS n a)
   unfolding walk dropS
   drop-lift d zero a = refl
@@ -540,10 +533,6 @@ module _ (by : ℕ) where
   take-lift d (suc n) (gap a) = ap gap (take-lift d n a)
 
 module _ (τ : RowTable) (by d : ℕ) where
-  pub items-under : (h : ℕ) → items (stackUnder τ [] by d h) ≡ items (meanS τ h)
-  unfolding stackUnder
-  items-under h = items-lift by d (meanS τ h)
-
   pub same-under : {r j n x i : ℕ} → Narrowed τ r j n x i → takeS n (dropS j (stackUnder τ [] by d r)) ≡ takeS n (dropS i (stackUnder τ [] by d x))
   unfolding stackUnder
   same-under {r} {j} {n} {x} {i} w = rw (drop-lift by d j (meanS τ r), drop-lift by d i (meanS τ x), take-lift by d n (dropS j (meanS τ r)), take-lift by d n (dropS i (meanS τ x))) (ap (walk (acting [] by) d) (w .same))

@@ -166,22 +166,6 @@ formed-respected Δ u (push t a) e = let h = and-inv _ _ e in rw (formed-respect
 formed-respected Δ u (svar j a) e = formed-respected Δ u a (and-inv (isKind stack (getElem? Δ j)) _ (and-inv (isStack u) _ e .1) .1)
 formed-respected Δ u (gap a) e = formed-respected Δ u a (and-inv (isFile u) _ e .1)
 
-pub formed-proper : (Δ : List Kind) (u : Use) {κ : Kind} (t : Ty κ) → isFormed Δ u t ≡ true → proper u t ≡ true
-unfolding isFormed proper
-formed-proper Δ u int e = refl
-formed-proper Δ u junk e = refl
-formed-proper Δ u (var j) e = refl
-formed-proper Δ u (tuple a) e = formed-proper Δ aTuple a e
-formed-proper Δ u (pointer a) e = formed-proper Δ aStack a e
-formed-proper Δ u (code q a r) e =
-    let h = and-inv _ _ e in
-    let j = and-inv _ _ (h .1) in
-    rw (formed-proper (q ++ Δ) aStack a (h .0), formed-proper (q ++ Δ) aFile r (j .0)) (j .1)
-formed-proper Δ u nil e = refl
-formed-proper Δ u (push t a) e = let h = and-inv _ _ e in rw (formed-proper Δ u t (h .0), formed-proper Δ u a (h .1))
-formed-proper Δ u (svar j a) e = let h = and-inv (isStack u) _ e in rw (h .0) (formed-proper Δ u a (and-inv (isKind stack (getElem? Δ j)) _ (h .1) .1))
-formed-proper Δ u (gap a) e = let h = and-inv (isFile u) _ e in rw (h .0) (formed-proper Δ u a (h .1))
-
 pub formed-made : (Δ : List Kind) (u : Use) {κ : Kind} (t : Ty κ) → proper u t ≡ true → respected t ≡ true → ((k : ℕ) → fits (freeAs k t) (getElem? Δ k) ≡ true) → isFormed Δ u t ≡ true
 unfolding isFormed proper respected freeAs
 formed-made Δ u int p e f = refl
@@ -205,7 +189,3 @@ formed-made Δ u (svar j a) p e f =
     let h = and-inv (isStack u) (proper u a) p in
     rw (h .0, sym (stack-fits (getElem? Δ j)) ∙ own Δ 2 j (parts Δ j (cond (eqb j j) 2 0) (freeAs j a) (f j) .0), formed-made Δ u a (h .1) e (λ k. parts Δ k (cond (eqb j k) 2 0) (freeAs k a) (f k) .1))
 formed-made Δ u (gap a) p e f = let h = and-inv (isFile u) (proper u a) p in rw (h .0) (formed-made Δ u a (h .1) e f)
-
--- exactly
-pub formed-exactly : (Δ : List Kind) (u : Use) {κ : Kind} (t : Ty κ) → (isFormed Δ u t ≡ true) ↔ ((proper u t ≡ true) × (respected t ≡ true) × ((k : ℕ) → fits (freeAs k t) (getElem? Δ k) ≡ true))
-formed-exactly Δ u t = ((λ e. (formed-proper Δ u t e, formed-respected Δ u t e, formed-free Δ u t e)), λ h. formed-made Δ u t (h .0) (h .1) (h .2))

@@ -247,13 +247,6 @@ below-at n [] j e h = absurd (omega arith)
 below-at n (x ∷ l) zero e h = ltb-true x n (and-inv (ltb x n) (allBelow n l) e .0)
 below-at n (x ∷ l) (suc j) e h = below-at n l j (and-inv (ltb x n) (allBelow n l) e .1) (omega arith)
 
-pub arg-below : (n : ℕ) (l : List ℕ) (j : ℕ) → allBelow n l ≡ true → 0 < n → getD l j 0 < n
-arg-below n l j e h = go (leb (suc j) (length l)) refl
-  where
-    go : (b : Bool) → leb (suc j) (length l) ≡ b → getD l j 0 < n
-    go true q = below-at n l j e (leb-true (suc j) (length l) q)
-    go false q = let k = leb-false (suc j) (length l) q in let z : length l ≤ j = omega arith in rw (List·getD-eq-default l 0 z) h
-
 kind-at : (rows parts : List ℕ) (n r : ℕ) (b : Bool) → r < n + 2 → b ≡ isStackAt rows r → kindOf (getD (typesIn rows parts n) r (arg value junk)) ≡ cond b stack value
 kind-at rows parts n r b l e = ap kindOf (arg-at (tab rows parts) (n + 2) r l) ∙ unfold argOf in rw (← e) (go b)
   where

@@ -30,10 +30,6 @@ module _ (P : Program) (Δ : List Kind) (g : Ty stack) where
   unfolding base toldOf answer
   base-lit n = refl
 
-  pub base-lab : (T : List Arg) (l u : ℕ) → labelType P Δ (getElem? (P .blocks) l) ≡ linked T u → toldOf (base P Δ g (lab l)) ≡ answer (ifNone 9 u) (typeAt value T (u - 1))
-  unfolding base
-  base-lab T l u e = told-link T 8 _ u e
-
   -- ---- operands
   module _ (unequal : Fault) (b : Base) (A : List Arg) (t : ℕ) where
     filling : CodeType → List Kind → Judged (Unit {0})

@@ -157,12 +157,3 @@ module _ (P : Program) (Δ : List Kind) where
 
           pub target-reg-item : (firstItem (unfits P Δ 1 (c .regs) (Γ .regs)) ≡ 0 → ⊥) → List·Memᴰ (firstItem (unfits P Δ 1 (c .regs) (Γ .regs))) (itemsIn (targetOf P Δ Γ v))
           target-reg-item n = to-item (item-beside _ _ (rw none-faults (first-in (unfits P Δ 1 (c .regs) (Γ .regs)) n)))
-
-    -- ---- the line
-    pub jmp-item : {i : ℕ} → List·Memᴰ i (itemsIn (targetOf P Δ Γ v)) → List·Memᴰ i (itemsIn (judge P Δ Γ (jmp v)))
-    unfolding judge
-    jmp-item h = item-then _ (λ z. holds Γ) h
-
-    pub bop-item : {i : ℕ} (o : Branch) (r : ℕ) → List·Memᴰ i (itemsIn (targetOf P Δ Γ v)) → List·Memᴰ i (itemsIn (judge P Δ Γ (bop o r v)))
-    unfolding judge
-    bop-item o r h = item-then _ (λ z. holds Γ) (item-beside (integerAt P Δ (Γ .regs) r) (targetOf P Δ Γ v) h)

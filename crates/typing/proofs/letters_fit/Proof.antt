@@ -7,7 +7,7 @@ use lib.ListN.{length, length-map}
 use borrow.Author.Tests.{not-true, not-false}
 use Rattle.typing.specs.Typing.{fitsLetter, lettersLess}
 use Rattle.rows.specs.Read.{isStackAt}
-use Rattle.typing.proofs.Args.{RestFit, fit-first, fit-next, fit-fails, fit-all, left-few, left-is, arg-below}
+use Rattle.typing.proofs.Args.{RestFit, fit-first, fit-next, fit-fails, fit-all, left-few, left-is}
 use Rattle.typing.proofs.letters_fit.Statement.{statement}
 use Rattle.typing.proofs.letters_fit.Tie as tie
 use Rattle.typing.proofs.letters_fit.Reads as reads
