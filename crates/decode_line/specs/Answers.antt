@@ -19,9 +19,11 @@ use Rattle.decode_line.specs.declared.Slots.{Slots}
 use Rattle.decode_line.specs.declared.Count.{Count}
 use Rattle.decode_line.specs.declared.Said.{Said}
 
+-- a field read, and the fields behind it
 abbrev pub slotOf : List ℕ → Slot → Option (ℕ × List (List ℕ))
 slotOf line r = when (r .ok) (r .value, fieldsFrom line (r .next))
 
+-- several fields read, and the fields behind them
 abbrev pub slotsOf : List ℕ → Slots → Option (List ℕ × List (List ℕ))
 slotsOf line r = when (r .ok) (r .a ∷ r .b ∷ r .c ∷ r .d ∷ [], fieldsFrom line (r .next))
 

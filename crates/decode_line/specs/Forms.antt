@@ -48,12 +48,15 @@ formTable =
     ∷ (2 ∷ 0 ∷ 0 ∷ 0 ∷ 0 ∷ [])
     ∷ []
 
+-- a number packed in the entry of a form
 unfoldable pub formCell : ℕ → ℕ → ℕ
 formCell code i = getD (getD formTable code []) i 0
 
+-- the kinds of a form's plain fields
 abbrev pub kindsOf : ℕ → List ℕ
 kindsOf code = formCell code 0 ∷ formCell code 1 ∷ formCell code 2 ∷ formCell code 3 ∷ []
 
+-- the entry of a form, taken apart
 abbrev pub formOf : ℕ → Form
 formOf code = record { a = formCell code 0; b = formCell code 1; c = formCell code 2; d = formCell code 3; most = formCell code 4 }
 

@@ -10,6 +10,7 @@ pub data Turn : Type 0 where
   went paused : State → Turn
   ended : Stop → State → Turn
 
+-- the step done if there is budget for it; a stop comes first
 unfoldable pub turn : Bool → State → Result State → Turn
 turn more σ (go σ′) = cond more (went σ′) (paused σ)
 turn more σ (stop s) = ended s σ

@@ -18,6 +18,7 @@ use Rattle.equal.specs.declared.Heads.the-variants.{Apart, Both}
 use Rattle.equal.specs.declared.Duo.{Duo}
 use Rattle.equal.specs.declared.Duo.the-variants.{Over, Unlike, Onward, OwnTwo, GivenTwo}
 
+-- an integer beside each form
 abbrev pub pairInt : Val → Pair
 pairInt Int = Same
 pairInt Junk = Differ
@@ -27,6 +28,7 @@ pairInt (Tuple q o) = Differ
 pairInt (Pointer y) = Differ
 pairInt (Code y q) = Differ
 
+-- junk beside each form
 abbrev pub pairJunk : Val → Pair
 pairJunk Int = Differ
 pairJunk Junk = Same
@@ -36,6 +38,7 @@ pairJunk (Tuple q o) = Differ
 pairJunk (Pointer y) = Differ
 pairJunk (Code y q) = Differ
 
+-- variable k beside each form
 abbrev pub pairValVar : ℕ → Val → Pair
 pairValVar k Int = Differ
 pairValVar k Junk = Differ
@@ -45,6 +48,7 @@ pairValVar k (Tuple q o) = Differ
 pairValVar k (Pointer y) = Differ
 pairValVar k (Code y q) = Differ
 
+-- a tuple of n components at p beside each form
 abbrev pub pairTuple : ℕ → ℕ → Val → Pair
 pairTuple p n Int = Differ
 pairTuple p n Junk = Differ
@@ -54,6 +58,7 @@ pairTuple p n (Tuple q o) = cond (eqb n o) (Tuples p q n) Differ
 pairTuple p n (Pointer y) = Differ
 pairTuple p n (Code y q) = Differ
 
+-- a pointer to stack x beside each form
 abbrev pub pairPointer : ℕ → Val → Pair
 pairPointer x Int = Differ
 pairPointer x Junk = Differ
@@ -63,6 +68,7 @@ pairPointer x (Tuple q o) = Differ
 pairPointer x (Pointer y) = Pointers x y
 pairPointer x (Code y q) = Differ
 
+-- code with stack x and registers at p beside each form
 abbrev pub pairCode : ℕ → ℕ → Val → Pair
 pairCode x p Int = Differ
 pairCode x p Junk = Differ
@@ -72,6 +78,7 @@ pairCode x p (Tuple q o) = Differ
 pairCode x p (Pointer y) = Differ
 pairCode x p (Code y q) = Codes x p y q
 
+-- what is left to compare of two value rows
 abbrev pub pairOf : Val → Val → Pair
 pairOf Int w = pairInt w
 pairOf Junk w = pairJunk w
@@ -81,18 +88,22 @@ pairOf (Tuple p n) w = pairTuple p n w
 pairOf (Pointer x) w = pairPointer x w
 pairOf (Code x p) w = pairCode x p w
 
+-- a gap beside a part
 abbrev pub gapWith : Slot → Heads
 gapWith Gap = Both 0 0
 gapWith (Known u) = Apart
 
+-- row t beside a part
 abbrev pub rowWith : ℕ → Slot → Heads
 rowWith t Gap = Apart
 rowWith t (Known u) = Both t u
 
+-- what is left to compare of two parts
 abbrev pub slotsOf : Slot → Slot → Heads
 slotsOf Gap y = gapWith y
 slotsOf (Known t) y = rowWith t y
 
+-- no item beside the next one
 abbrev pub endWith : Next → Duo
 endWith End = Over
 endWith (OwnNext u o) = Unlike
@@ -100,6 +111,7 @@ endWith (GivenNext u o) = Unlike
 endWith (VarNext i o) = Unlike
 endWith Wrong = Unlike
 
+-- a value row of the left, in its context, beside the next item
 abbrev pub ownWith : ℕ → ℕ → Next → Duo
 ownWith t n End = Unlike
 ownWith t n (OwnNext u o) = OwnTwo t n u o
@@ -107,6 +119,7 @@ ownWith t n (GivenNext u o) = Unlike
 ownWith t n (VarNext i o) = Unlike
 ownWith t n Wrong = Unlike
 
+-- a value row of an argument beside the next item
 abbrev pub givenWith : ℕ → ℕ → Next → Duo
 givenWith t n End = Unlike
 givenWith t n (OwnNext u o) = GivenTwo t n u o
@@ -114,6 +127,7 @@ givenWith t n (GivenNext u o) = Unlike
 givenWith t n (VarNext i o) = Unlike
 givenWith t n Wrong = Unlike
 
+-- variable k beside the next item
 abbrev pub varWith : ℕ → ℕ → Next → Duo
 varWith k n End = Unlike
 varWith k n (OwnNext u o) = Unlike
@@ -121,6 +135,7 @@ varWith k n (GivenNext u o) = Unlike
 varWith k n (VarNext i o) = cond (eqb k i) (Onward n o) Unlike
 varWith k n Wrong = Unlike
 
+-- what is left to compare of two next items
 abbrev pub duoOf : Next → Next → Duo
 duoOf End b = endWith b
 duoOf (OwnNext t n) b = ownWith t n b

@@ -58,6 +58,7 @@ abbrev pub isSome : Option ℕ → Bool
 isSome none = false
 isSome (some n) = true
 
+-- the number, 0 if there is none
 abbrev pub orZero : Option ℕ → ℕ
 orZero none = 0
 orZero (some n) = n

@@ -27,9 +27,11 @@ pub record Tables : Type 0 where
 abbrev pub tables : List ℕ → List ℕ → List ℕ → List ℕ → ℕ → ℕ → Tables
 tables ι os bs β n l = record { instrs = ι; operands = os; bases = bs; blocks = β; count = n; labels = l }
 
+-- the program's operands
 abbrev pub operandsOf : Tables → OperandTable
 operandsOf T = operandTable (T .operands) (T .bases)
 
+-- the lent words and the place, as a state
 abbrev pub stateOf : List ℕ → List ℕ → List ℕ → List ℕ → List ℕ → List ℕ → Place → State
 stateOf rk rn sk sn hk hn p = record { registers = lent rk rn; stack = lent sk sn; heap = lent hk hn; depth = p .depth; used = p .used; position = p .position }
 
@@ -57,12 +59,15 @@ nextArith R to o d s v = given intKind (at R s) (λ x. given intKind (wordOf R v
 unfoldable pub nextJump : List ℕ → ℕ → Word → Next
 nextJump β labels w = given codeKind w (λ l. provided Stuck (ltb l labels) (Go (cell 2 β l 1)))
 
+-- a branch on register r
 unfoldable pub nextBranch : List ℕ → ℕ → Memory → ℕ → Branch → ℕ → Operand → Next
 nextBranch β labels R to o r v = given intKind (at R r) (λ x. cond (taken o (signOf x)) (nextJump β labels (wordOf R v)) (Go to))
 
+-- `ld`
 unfoldable pub nextLoad : Memory → Memory → ℕ → ℕ → ℕ → ℕ → Next
 nextLoad R H to d s i = given tupleKind (at R s) (λ a. provided Stuck (ltb i (at H a .number)) (Register d (pair (at H (componentAt a i))) to))
 
+-- `st`
 unfoldable pub nextStore : Memory → Memory → ℕ → ℕ → ℕ → ℕ → Next
 nextStore R H to d i s = given tupleKind (at R d) (λ a. provided Stuck (ltb i (at H a .number)) (Heap (componentAt a i) (pair (at R s)) to))
 
@@ -79,15 +84,19 @@ nextPush depth to n = provided StackFull (leb (depth + n) stackLimit) (Junk n (d
 unfoldable pub nextPop : ℕ → ℕ → ℕ → Next
 nextPop depth to n = provided Stuck (leb n depth) (Depth (depth - n) to)
 
+-- `sld`
 unfoldable pub nextRead : Memory → ℕ → ℕ → ℕ → ℕ → Next
 nextRead S depth to d i = provided Stuck (ltb i depth) (Register d (pair (at S (depth - suc i))) to)
 
+-- `sst`
 unfoldable pub nextWrite : Memory → ℕ → ℕ → ℕ → ℕ → Next
 nextWrite R depth to i s = provided Stuck (ltb i depth) (Stack (depth - suc i) (pair (at R s)) to)
 
+-- `slp`
 unfoldable pub nextReadThrough : Memory → Memory → ℕ → ℕ → ℕ → ℕ → ℕ → Next
 nextReadThrough R S depth to d s i = given heightKind (at R s) (λ p. provided Stuck (leb p depth && ltb i p) (Register d (pair (at S (p - suc i))) to))
 
+-- `ssp`
 unfoldable pub nextWriteThrough : Memory → ℕ → ℕ → ℕ → ℕ → ℕ → Next
 nextWriteThrough R depth to d i s = given heightKind (at R d) (λ p. provided Stuck (leb p depth && ltb i p) (Stack (p - suc i) (pair (at R s)) to))
 
@@ -110,6 +119,7 @@ nextOf T σ (ssp d i s t) = nextWriteThrough (σ .registers) (σ .depth) (suc (�
 nextOf T σ (jmp v) = nextJump (T .blocks) (T .labels) (wordOf (σ .registers) v)
 nextOf T σ (halt t) = End Halted
 
+-- what the next instruction does; stuck past the last
 unfoldable pub nextAt : Tables → State → Next
 nextAt T σ = cond (ltb (σ .position) (T .count)) (nextOf T σ (instrAt (T .instrs) (operandsOf T) (σ .position))) (End Stuck)
 

@@ -36,6 +36,7 @@ underV s ps h (Tuple p n) = partsSize s ps false h p n
 underV s ps h (Pointer x) = s x
 underV s ps h (Code x p) = s x + partsSize s ps true h p 8
 
+-- the sizes of the rows that a stack row names
 abbrev pub underS : (ℕ → ℕ) → Stk → ℕ
 underS s Nil = 0
 underS s (StkVar k) = 0

@@ -12,6 +12,7 @@ use Rattle.machine.specs.Step.{tables}
 use Rattle.machine.specs.Represents.{Represents}
 use Rattle.ready.specs.declared.Ready.{Ready}
 
+-- a text that cannot be started: fault and line
 abbrev pub barredAt : ℕ → ℕ → Ready
 barredAt n line = record { fault = n; line = line; blocks = 0; instrs = 0; samples = 0 }
 

@@ -21,6 +21,7 @@ use Rattle.rows.specs.declared.Step.the-variants.{Stay, Down}
 use Rattle.rows.specs.declared.Item.{Item}
 use Rattle.rows.specs.declared.Item.the-variants.{NoItem, ValItem, VarItem}
 
+-- rows and parts as a table
 abbrev pub tab : List ℕ → List ℕ → RowTable
 tab rows parts = record { rows = rows; parts = parts }
 
@@ -43,14 +44,17 @@ stackWith f h k a b =
     (cond (eqb k 7) (f a)
     (cond (eqb k 8) (Push (lower h a) (lower h b)) (Join (lower h a) (lower h b))))
 
+-- the value row h, 0 for none
 abbrev pub valueAt : List ℕ → (ℕ → Val) → ℕ → Val
 valueAt rows f zero = Junk
 valueAt rows f (suc r) = valueWith f (suc r) (cell 4 rows r 0) (cell 4 rows r 1) (cell 4 rows r 2)
 
+-- the stack row h, 0 for none
 abbrev pub stackAt : List ℕ → (ℕ → Stk) → ℕ → Stk
 stackAt rows f zero = Nil
 stackAt rows f (suc r) = stackWith f (suc r) (cell 4 rows r 0) (cell 4 rows r 1) (cell 4 rows r 2)
 
+-- row r is a stack row
 abbrev pub isStackAt : List ℕ → ℕ → Bool
 isStackAt rows r = leb 6 (cell 4 rows r 0)
 
@@ -78,6 +82,7 @@ buildV v s ps h (Tuple p n) = tuple (partsOf v ps false h p n)
 buildV v s ps h (Pointer x) = pointer (s x)
 buildV v s ps h (Code x p) = code (lettersAt ps p) (s x) (partsOf v ps true h p 8)
 
+-- the type of a stack row, by the types of lower rows
 abbrev pub buildS : (ℕ → Ty value) → (ℕ → Ty stack) → Stk → Ty stack
 buildS v s Nil = nil
 buildS v s (StkVar k) = svar k nil
@@ -118,9 +123,11 @@ acting A by d κ k = below d k (variable κ k) (placed κ by d A)
 unfoldable pub valueUnder : RowTable → List Arg → ℕ → ℕ → ℕ → Ty value
 valueUnder τ A by d h = walk (acting A by) d (meanV τ h)
 
+-- the type of stack row h in its context
 unfoldable pub stackUnder : RowTable → List Arg → ℕ → ℕ → ℕ → Ty stack
 stackUnder τ A by d h = walk (acting A by) d (meanS τ h)
 
+-- the types of parts in their context
 unfoldable pub partsUnder : RowTable → List Arg → ℕ → ℕ → Bool → ℕ → ℕ → ℕ → Ty stack
 partsUnder τ A by d file h p n = walk (acting A by) d (partsOf (meanV τ) (τ .parts) file h p n)
 
@@ -162,6 +169,7 @@ OkS m h (StkFill j) = j < m
 OkS m h (Push t x) = (t < h) × (x < h)
 OkS m h (Join x y) = (x < h) × (y < h)
 
+-- a part's row is lower
 abbrev pub OkSlot : ℕ → Slot → Type 0
 OkSlot h Gap = Unit
 OkSlot h (Known t) = t < h

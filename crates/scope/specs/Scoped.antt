@@ -58,6 +58,7 @@ unfoldable pub partsRespected : List ℕ → List (Option ℕ) → Bool
 partsRespected tops [] = true
 partsRespected tops (o ∷ os) = partRespected tops o && partsRespected tops os
 
+-- each variable that is bound inside the row is of its letter
 unfoldable pub rowRespected : List ℕ → List ℕ → Row → Bool
 rowRespected uses tops rowI = true
 rowRespected uses tops rowN = true
@@ -111,6 +112,7 @@ SmallVariable (rowX k) = k < 64
 SmallVariable (rowK t s) = Unit
 SmallVariable (rowA s₁ s₂) = Unit
 
+-- what passes one and two have seen of row r
 pub record Checked (τ : RowTable) (r : ℕ) : Type 0 where
   pub small : SmallVariable (rowAt τ r)
   pub lower : allBelow r (map (λ (x : Ref). x .row) (rowRefs (rowAt τ r))) ≡ true

@@ -43,9 +43,11 @@ entryAt first rows r e =
 unfoldable pub partAt : List ℕ → List ℕ → List ℕ → ℕ → ℕ → ℕ
 partAt first rows ps r j = newPart first ps (cell 4 rows r 0) (cell 4 rows r 1) (cell 4 rows r 2) j
 
+-- the new table of rows is filled up to a row
 abbrev pub FilledRows : List ℕ → List ℕ → ℕ → List ℕ → Type 0
 FilledRows first rows m l = (r e : ℕ) → r < m → e < 4 → cell 4 l r e ≡ entryAt first rows r e
 
+-- the new table of parts is filled up to a row
 abbrev pub FilledParts : List ℕ → List ℕ → List ℕ → ℕ → List ℕ → Type 0
 FilledParts first rows ps n l = (r j : ℕ) → r < n → j < 17 → cell 17 l r j ≡ partAt first rows ps r j
 
