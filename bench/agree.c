@@ -1,4 +1,4 @@
-/* Gives the cases of crates/vectors/data to the proved library and to the plain C, and compares: the check's answer; the run's answer and
+/* Gives the cases of crates/cases/data to the proved library and to the plain C, and compares: the check's answer; the run's answer and
    the whole lent state after a start, after a start with a budget of 5, and after continuing by 7 and by 1,000,000 steps. */
 #include "../link/stal.h"
 #include "plain/plain.h"
@@ -31,30 +31,51 @@ static int agree(const uint8_t *t, size_t n, const uint8_t *s, size_t m) {
     return ok;
 }
 
-static size_t field(const uint8_t *p, int k) {
-    return strtoul((const char *)p + 11 * k, NULL, 10);
+static uint8_t file[1 << 20], text[1 << 17], samples[1 << 17];
+
+/* the cases of a packed file (tools/pack_cases tells its form): of each the text and the samples */
+static int cases(const char *name, size_t n, int *good) {
+    size_t at = 0, t = 0, s = 0;
+    int count = 0;
+    while (at < n) {
+        const char *line = (const char *)file + at;
+        char *rest;
+        unsigned long a = strtoul(line + 1, &rest, 10), b = strtoul(rest, NULL, 10);
+        while (file[at++] != '\n')
+            ;
+        if (*line == 'c')
+            t = s = 0;
+        if (*line == 't') {
+            for (; a; a--, t += b)
+                memcpy(text + t, file + at, b);
+            at += b + 1;
+        }
+        if (*line == 's') {
+            memcpy(samples, file + at, s = a);
+            at += a + 1;
+        }
+        if (*line == 'a') {
+            int ok = agree(text, t, samples, s);
+            count++;
+            *good += ok;
+            if (!ok)
+                printf("%s, case %d differs\n", name, count);
+        }
+    }
+    return count;
 }
 
 int main(int argc, char **argv) {
-    static uint8_t all[1 << 20];
-    int cases = 0, good = 0;
+    int all = 0, good = 0;
     for (int i = 1; i < argc; i++) {
         FILE *f = fopen(argv[i], "rb");
         if (!f)
             return 2;
-        size_t n = fread(all, 1, sizeof all, f);
+        size_t n = fread(file, 1, sizeof file - 1, f);
         fclose(f);
-        for (size_t at = 0; at + 111 <= n;) {
-            size_t p = field(all + at, 0), s = field(all + at, 1);
-            const uint8_t *text = all + at + 111;
-            int ok = agree(text, p, text + p, s);
-            cases++;
-            good += ok;
-            if (!ok)
-                printf("%s, case %d differs\n", argv[i], cases);
-            at += 111 + p + s;
-        }
+        file[n] = 0;
+        all += cases(argv[i], n, &good);
     }
-    printf("%d cases, %d agree\n", cases, good);
-    return cases != good;
+    printf("%d cases, %d agree\n", all, good);
+    return all != good;
 }
