@@ -43,6 +43,7 @@ Names (Unfit l i) xs = In i xs
 abbrev pub low : List ℕ → Option Refusal
 low text = orElse (lowestLine 0 (passOne text)) (lowestLine 0 (passTwoOf text))
 
+-- the refusal of pass three
 abbrev pub third : List ℕ → Option Refusal
 third text = lowestLine 0 (passThree (programOf text))
 

@@ -16,16 +16,19 @@ use Rattle.text.specs.Bytes.{Line, fieldsOf, linesOf}
 use Rattle.text.specs.Grammar.{entryOf, parse}
 use Rattle.text.specs.PassOne.{linesFaults, passOne, said, entriesOf, rowsOf, grouped, listingsOf}
 use Rattle.tables.specs.Tables.{cell, rowAt, rowsFrom, instrAt, blocksFrom}
-use Rattle.lines.specs.Parts.{firstPart}
-use Rattle.lines.proofs.Parts.{line-ended, line-unended, lines-none, end-from}
+use Rattle.lines.specs.Parts.{firstPart, lineIn, InLine, LastEnd}
+use Rattle.lines.proofs.Parts.{line-ended, line-unended, lines-none, end-from, part-is}
+use Rattle.lines.proofs.InLine.{line-there, line-before}
 use Rattle.decode_store.specs.Store.{Store, rowTable, operandsOf, Room, Few, Same}
-use Rattle.decode_store.specs.Lines.{usedAfter, endsBlock, LineIs}
+use Rattle.decode_store.specs.Lines.{usedAfter, endsBlock, LineIs, LineEnds}
 use Rattle.decode.specs.Decoded.{refusalOf, noneUsed, faultyRead, lastRead, Decoded, ReadIs, placeOf, placeBehind, faultOf, lineFault}
 use Rattle.decode_store.specs.declared.Used.{Used}
+use Rattle.decode_store.specs.declared.LineRead.{LineRead}
 use Rattle.decode.specs.declared.Read.{Read}
 use Rattle.decode_store.specs.declared.Line as decoded
 use Rattle.decode_store.specs.declared.Line.the-variants as line
 use Rattle.decode_store.proofs.LineLaws.{same-refl}
+use Rattle.decode_store.proofs.PutLaws.{part-from}
 use Rattle.decode.proofs.FaultLaws.{countsOf, Kin, no-form, a-row, a-block, an-instr, a-last, fault-behind, fault-here, fault-end, fault-long, fault-start}
 use Rattle.decode.proofs.GrowthLaws.{Says, says-row, says-block, says-instr, Starts, starts-row, starts-instr, starts-block}
 
@@ -253,6 +256,39 @@ module _ (text : List ℕ) (at number place : ℕ) (u : Used) (σ : Store) (g : 
       -- a turn of the loop: the line has no fault, and what is in use and the place are those behind it
       pub turned : (l : decoded.Line) → LineIs (take (e - at) (drop at text)) u σ π l → (f : ℕ) → f ≡ lineFault l place u → f ≡ 0 → (v : Used) → v ≡ usedAfter u l → (p : ℕ) → p ≡ placeBehind l place → Going text (e + 1) (number + 1) p v π
       turned l i f w z v s p q = rw (s, q) (going-on l i (sym w ∙ z))
+
+-- ---- a line found by its reader
+module _ (text : List ℕ) (at r : ℕ) (l : LastEnd text r) (h : at < r) where
+  abbrev pub lineEnd : ℕ
+  lineEnd = at + length (firstPart 10 (drop at text))
+
+  pub line-part : InLine (take (length text - at) (drop at text)) 0
+  line-part = rw (part-from text at) (line-there text at r l h)
+
+  pub end-before : lineEnd < r
+  end-before = line-before text at r l h
+
+  pub end-inside : lineEnd < length text
+  end-inside = omega (arith, end-before, l .within)
+
+  line-same : lineIn (take (length text - at) (drop at text)) ≡ take (lineEnd - at) (drop at text)
+  line-same = ap lineIn (part-from text at) ∙ sym (part-is 10 text at lineEnd refl)
+
+  pub line-as : (u : Used) (σ π : Store) (x : decoded.Line) → LineIs (lineIn (take (length text - at) (drop at text))) u σ π x → LineIs (take (lineEnd - at) (drop at text)) u σ π x
+  line-as u σ π x g = rw (← line-same) g
+
+  -- a line without a fault is of some form, and its reader says where it ends
+  pub ends-there : (x : LineRead) → LineEnds (take (length text - at) (drop at text)) x → (place : ℕ) (u : Used) (f : ℕ) → f ≡ lineFault (x .line) place u → f ≡ 0 → at + x .next + 1 ≡ lineEnd + 1
+  ends-there x g place u f w z =
+      let form : x .line ≡ line.NoForm → ⊥ = (λ e. let q : f ≡ 1 = w ∙ ap (λ (y : decoded.Line). lineFault y place u) e in omega arith) in
+      let e : x .next ≡ length (lineIn (take (length text - at) (drop at text))) = g form in
+      omega (arith, ap length (ap lineIn (part-from text at)))
+
+-- behind the last LF
+pub open-end : (text : List ℕ) (at r : ℕ) → LastEnd text r → at ≤ r → r ≤ at → length text ≤ at + length (firstPart 10 (drop at text))
+open-end text at r l a b =
+    let q : at ≡ r = omega arith in
+    omega (arith, l .rest, ap (λ (k : ℕ). k + length (firstPart 10 (drop k text))) q)
 
 -- ---- a text that is too long
 pub read-long : (text : List ℕ) (σ : Store) → 65536 < length text → (r : Read) → r ≡ faultyRead 3 0 → ReadIs text σ r

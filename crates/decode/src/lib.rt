@@ -131,7 +131,7 @@ fn unused() -> Used
     }
 }
 
-// One pass over the text, line by line, into the tables.
+// One pass over the text, line by line, into the tables. What stands behind the last LF is a line of no form.
 pub fn read_text(
     text: &[u8],
     rows: &mut [u16],
@@ -148,25 +148,26 @@ pub fn read_text(
     if 65536 < text.len() {
         return faulty(3, 0);
     }
+    let end = lines::last_end(text);
     let mut u = unused();
     let mut at = 0;
     let mut line = 1;
     let mut place: u8 = 0;
-    while at < text.len() {
-        let e = lines::line_end(text, at);
-        if text.len() <= e {
-            return faulty(1, line);
-        }
-        let s = &text[at..e];
-        let l = decode_store::read_line(s, rows, parts, operands, numbers, args, instrs, blocks, u);
+    while at < end {
+        let s = &text[at..];
+        let x = decode_store::read_line(s, rows, parts, operands, numbers, args, instrs, blocks, u);
+        let l = x.line;
         let f = line_fault(l, place, u);
         if f != 0 {
             return faulty(f, line);
         }
         u = used_after(u, l);
         place = place_behind(l, place);
-        at = e + 1;
+        at = at + x.next + 1;
         line += 1;
+    }
+    if at < text.len() {
+        return faulty(1, line);
     }
     end_of_text(place, line, u)
 }

@@ -8,58 +8,20 @@ use Prim.Native.Nat.{ℕ, zero, suc, _+_, _-_, _<_, _≤_}
 use native.Mathlib.Omega.{arith}
 use lib.Dec.{eqb}
 use lib.ListN.{length, take, drop}
-use borrow.Author.Tests.{ne-eqb}
 use Rattle.syntax.specs.Partial.{bind, when}
 use Rattle.text.specs.Bytes.{bytes, sameBytes, number}
 use Rattle.text.specs.Grammar.{rowNumber, index, amount, register, known}
-use Rattle.tables.specs.Tables.{knownOf}
 use Rattle.lines.specs.Parts.{firstPart}
 use Rattle.numbers.specs.Numbers.{numberOf}
 use Rattle.numbers.specs.declared.Number.{Number}
 use Rattle.numbers.specs.declared.Number.the-variants.{Value, Bad}
 use Rattle.numbers.proofs.Laws.{number-bounds}
-use Rattle.fields.specs.Answers.{knownFrom}
 use Rattle.decode_line.specs.Fields.{fieldsFrom, plainField, readSlot, readSlots, keptAs, partNumber}
 use Rattle.decode_line.specs.Forms.{formCell, kindsOf, formOf}
 use Rattle.decode_line.specs.declared.Form.{Form}
 use Rattle.decode_line.specs.Answers.{slotOf}
 use Rattle.decode_line.specs.declared.Slot.{Slot}
 use Rattle.decode_line.proofs.Walk.{fields-past, fields-next}
-
--- ---- by the field's kind
-module _ (f : List ℕ) (kind : ℕ) (r : Number) where
-  pub plain-register : kind ≡ 1 → numberOf r ≡ register f → numberOf r ≡ plainField kind f
-  unfolding plainField
-  plain-register e h = h ∙ ap (λ (k : ℕ). plainField k f) (sym e)
-
-  pub plain-row : kind ≡ 2 → numberOf r ≡ rowNumber f → numberOf r ≡ plainField kind f
-  unfolding plainField
-  plain-row e h = h ∙ ap (λ (k : ℕ). plainField k f) (sym e)
-
-  pub plain-index : kind ≡ 3 → numberOf r ≡ index f → numberOf r ≡ plainField kind f
-  unfolding plainField
-  plain-index e h = h ∙ ap (λ (k : ℕ). plainField k f) (sym e)
-
-  pub plain-amount : (kind ≡ 1 → ⊥) → (kind ≡ 2 → ⊥) → (kind ≡ 3 → ⊥) → numberOf r ≡ amount f → numberOf r ≡ plainField kind f
-  unfolding plainField
-  plain-amount p q s h = h ∙ simp (ne-eqb kind 1 p, ne-eqb kind 2 q, ne-eqb kind 3 s)
-
-module _ (f : List ℕ) (b : Bool) (r : Number) where
-  pub part-row : b ≡ false → numberOf r ≡ rowNumber f → numberOf r ≡ partNumber b f
-  unfolding partNumber
-  part-row e h = h ∙ ap (λ (x : Bool). partNumber x f) (sym e)
-
-  pub part-known : b ≡ true → knownFrom (numberOf r) ≡ known f → numberOf r ≡ partNumber b f
-  unfolding partNumber knownFrom knownOf
-  part-known e h = go (numberOf r) h ∙ ap (λ (x : Bool). partNumber x f) (sym e)
-    where
-      back : (n : ℕ) → n ≡ keptAs (knownOf n)
-      back zero = refl
-      back (suc n) = refl
-
-      go : (o : Option ℕ) → knownFrom o ≡ known f → o ≡ bind (known f) (λ x. some (keptAs x))
-      go none k = ap (λ (x : Option (Option ℕ)). bind x (λ y. some (keptAs y))) k
-      go (some n) k = ap some (back n) ∙ ap (λ (x : Option (Option ℕ)). bind x (λ y. some (keptAs y))) k
 
 -- ---- their numbers fit
 number-small : (low high : ℕ) (f : List ℕ) (v : ℕ) → high < 600 → number low high f ≡ some v → v < 600
@@ -131,15 +93,6 @@ module _ (line : List ℕ) (at kind : ℕ) where
         let q : plainField kind (take (e - at) (drop at line)) ≡ some v = sym n ∙ ap numberOf b in
         sym (slot-here ∙ simp q)
 
-pub value-small : (kind : ℕ) (f : List ℕ) (r : Number) (v : ℕ) → r ≡ Value v → numberOf r ≡ plainField kind f → v < 600
-value-small kind f r v b n = plain-small kind f v (sym n ∙ ap numberOf b)
-
-pub part-value : (b : Bool) (f : List ℕ) (r : Number) (v : ℕ) → r ≡ Value v → numberOf r ≡ partNumber b f → partNumber b f ≡ some v
-part-value b f r v e n = sym n ∙ ap numberOf e
-
-pub part-bad : (b : Bool) (f : List ℕ) (r : Number) → r ≡ Bad → numberOf r ≡ partNumber b f → partNumber b f ≡ none
-part-bad b f r e n = sym n ∙ ap numberOf e
-
 -- ---- four in a row, each from where the one before left off
 module _ (line : List ℕ) (at k l m n : ℕ) where
   four-slots : (p q r s : Bool) (a b c d i j g h : ℕ) → when p (a, fieldsFrom line i) ≡ readSlot k (fieldsFrom line at) → when q (b, fieldsFrom line j) ≡ readSlot l (fieldsFrom line i) → when r (c, fieldsFrom line g) ≡ readSlot m (fieldsFrom line j) → when s (d, fieldsFrom line h) ≡ readSlot n (fieldsFrom line g) → when ((p && q) && (r && s)) (a ∷ b ∷ c ∷ d ∷ [], fieldsFrom line h) ≡ readSlots (k ∷ l ∷ m ∷ n ∷ []) (fieldsFrom line at)
@@ -153,10 +106,10 @@ module _ (line : List ℕ) (at k l m n : ℕ) where
 all-ok : (p q r s t u w : Bool) → t ≡ (p && q) → u ≡ (r && s) → w ≡ (t && u) → w ≡ ((p && q) && (r && s))
 all-ok p q r s t u w e f g = g ∙ ap (λ (x : Bool). x && u) e ∙ ap (λ (x : Bool). (p && q) && x) f
 
-pub slots-are : (line : List ℕ) (at : ℕ) (ks : List ℕ) (k l m n : ℕ) (x y z w : Slot) (t u v : Bool) → ks ≡ k ∷ l ∷ m ∷ n ∷ [] → slotOf line x ≡ readSlot k (fieldsFrom line at) → slotOf line y ≡ readSlot l (fieldsFrom line (x .next)) → slotOf line z ≡ readSlot m (fieldsFrom line (y .next)) → slotOf line w ≡ readSlot n (fieldsFrom line (z .next)) → t ≡ (x .ok && y .ok) → u ≡ (z .ok && w .ok) → v ≡ (t && u) → when v (x .value ∷ y .value ∷ z .value ∷ w .value ∷ [], fieldsFrom line (w .next)) ≡ readSlots ks (fieldsFrom line at)
+pub slots-are : (line : List ℕ) (at : ℕ) (ks : List ℕ) (k l m n : ℕ) (x y z w : Slot) (t u v : Bool) → ks ≡ k ∷ l ∷ m ∷ n ∷ [] → slotOf line x ≡ readSlot k (fieldsFrom line at) → slotOf line y ≡ readSlot l (fieldsFrom line (x .next + 1)) → slotOf line z ≡ readSlot m (fieldsFrom line (y .next + 1)) → slotOf line w ≡ readSlot n (fieldsFrom line (z .next + 1)) → t ≡ (x .ok && y .ok) → u ≡ (z .ok && w .ok) → v ≡ (t && u) → when v (x .value ∷ y .value ∷ z .value ∷ w .value ∷ [], fieldsFrom line (w .next + 1)) ≡ readSlots ks (fieldsFrom line at)
 slots-are line at ks k l m n x y z w t u v is a b c d e f g =
-    ap (λ (o : Bool). when o (x .value ∷ y .value ∷ z .value ∷ w .value ∷ [], fieldsFrom line (w .next))) (all-ok (x .ok) (y .ok) (z .ok) (w .ok) t u v e f g)
-    ∙ four-slots line at k l m n (x .ok) (y .ok) (z .ok) (w .ok) (x .value) (y .value) (z .value) (w .value) (x .next) (y .next) (z .next) (w .next) a b c d
+    ap (λ (o : Bool). when o (x .value ∷ y .value ∷ z .value ∷ w .value ∷ [], fieldsFrom line (w .next + 1))) (all-ok (x .ok) (y .ok) (z .ok) (w .ok) t u v e f g)
+    ∙ four-slots line at k l m n (x .ok) (y .ok) (z .ok) (w .ok) (x .value) (y .value) (z .value) (w .value) (x .next + 1) (y .next + 1) (z .next + 1) (w .next + 1) a b c d
     ∙ ap (λ (l : List ℕ). readSlots l (fieldsFrom line at)) (sym is)
 
 -- a form that was read

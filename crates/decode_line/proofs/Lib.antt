@@ -5,3 +5,4 @@ pub mod PartLaws
 pub mod OperandLaws
 pub mod LineLaws
 pub mod Words
+pub mod StopLaws

@@ -89,16 +89,16 @@ module _ (code : ℕ) (line : List ℕ) (at v : ℕ) (lt : code < 34) (u : code 
     says = λ parts ω t. sym (whole parts ∙ simp e);
   })
 
-  module _ (h : x .ok ≡ true) (m : ℕ) (em : m ≡ formCell code 4) (after : OperandTable) (n : Count) (read : OperandsRead (fieldsFrom line (x .next)) m v before after n) where
-    r : OperandsRead (fieldsFrom line (x .next)) (formCell code 4) v before after n
+  module _ (h : x .ok ≡ true) (m : ℕ) (em : m ≡ formCell code 4) (after : OperandTable) (n : Count) (read : OperandsRead (fieldsFrom line (x .next + 1)) m v before after n) where
+    r : OperandsRead (fieldsFrom line (x .next + 1)) (formCell code 4) v before after n
     r = rw em at read
 
-    behind : (parts : List ℕ) → formAt forms code (fieldsFrom line at) ≡ After parts (x .a ∷ x .b ∷ x .c ∷ x .d ∷ [], fieldsFrom line (x .next))
+    behind : (parts : List ℕ) → formAt forms code (fieldsFrom line at) ≡ After parts (x .a ∷ x .b ∷ x .c ∷ x .d ∷ [], fieldsFrom line (x .next + 1))
     behind parts = whole parts ∙ simp h
 
     pub plain-no-operands : (s : Said) → s ≡ noEntry → n .ok ≡ false → PlainIs code (fieldsFrom line at) v before after s
     plain-no-operands s z e =
-        let q : atMost (formCell code 4) operand (fieldsFrom line (x .next)) ≡ none = sym (r .says after (same-refl (v + n .count) after)) ∙ simp e in
+        let q : atMost (formCell code 4) operand (fieldsFrom line (x .next + 1)) ≡ none = sym (r .says after (same-refl (v + n .count) after)) ∙ simp e in
         rw z (record {
           kept = r .kept;
           few = zero-le;
@@ -109,7 +109,7 @@ module _ (code : ℕ) (line : List ℕ) (at v : ℕ) (lt : code < 34) (u : code 
     module _ (k : n .ok ≡ true) where
       with-operands : (parts : List ℕ) (ω : OperandTable) → SameOperands (v + n .count) ω after → formAt forms code (fieldsFrom line at) ≡ when (leb (fewest (formCell code 4)) (n .count)) (entryWith code (x .a) (x .b) (x .c) (x .d) parts (operandsAt ω v (n .count)))
       with-operands parts ω s =
-          let q : atMost (formCell code 4) operand (fieldsFrom line (x .next)) ≡ some (operandsAt ω v (n .count)) = sym (r .says ω s) ∙ simp k in
+          let q : atMost (formCell code 4) operand (fieldsFrom line (x .next + 1)) ≡ some (operandsAt ω v (n .count)) = sym (r .says ω s) ∙ simp k in
           behind parts ∙ simp (q, operands-length)
 
       pub plain-too-few : (s : Said) → s ≡ noEntry → (k : ℕ) → k ≡ fewest m → n .count < k → PlainIs code (fieldsFrom line at) v before after s
@@ -122,7 +122,7 @@ module _ (code : ℕ) (line : List ℕ) (at v : ℕ) (lt : code < 34) (u : code 
             says = λ parts ω t. sym (with-operands parts after (same-refl (v + n .count) after) ∙ simp (lt-leb (fewest (formCell code 4)) (n .count) e));
           })
 
-      pub plain-is : (k : ℕ) → k ≡ fewest m → k ≤ n .count → PlainIs code (fieldsFrom line at) v before after (record { ok = true; a = x .a; b = x .b; c = x .c; d = x .d; count = n .count })
+      pub plain-is : (k : ℕ) → k ≡ fewest m → k ≤ n .count → PlainIs code (fieldsFrom line at) v before after (record { ok = true; a = x .a; b = x .b; c = x .c; d = x .d; count = n .count; next = n .next })
       plain-is k w l =
           let e : fewest (formCell code 4) ≤ n .count = omega (arith, w ∙ ap fewest em) in
           let f : n .count ≤ 16 = omega (arith, most-few code, r .few) in
@@ -151,7 +151,7 @@ module _ (line : List ℕ) (at p : ℕ) (before after : List ℕ) (n : Count) (r
     says = λ parts vs t. sym (tuple-says ∙ simp e);
   })
 
-  pub tuple-is : n .ok ≡ true → RowIs 3 (fieldsFrom line at) p before after (record { ok = true; a = p; b = n .count; c = 0; d = 0; count = 0 })
+  pub tuple-is : n .ok ≡ true → RowIs 3 (fieldsFrom line at) p before after (record { ok = true; a = p; b = n .count; c = 0; d = 0; count = 0; next = n .next })
   unfolding entryWith rowFrom
   tuple-is e = record {
     kept = r .kept;
@@ -255,7 +255,7 @@ module _ (line : List ℕ) (at p : ℕ) (before : List ℕ) where
       says = λ parts vs t. sym (code-whole ∙ simp h (never (letters (take (e - at) (drop at line)))));
     })
 
-    module _ (h : x .ok ≡ true) (after : List ℕ) (n : Count) (r : PartsRead (fieldsFrom line (x .next)) true 8 p before after n) where
+    module _ (h : x .ok ≡ true) (after : List ℕ) (n : Count) (r : PartsRead (fieldsFrom line (x .next + 1)) true 8 p before after n) where
       regs-read : formAt forms 5 (fieldsFrom line at) ≡ bind (letters (take (e - at) (drop at line))) (λ q. bind (when (n .ok) (span after p (n .count))) (λ ns. when (eqb (length ns) 8) (row (rowC q (x .value) (map knownOf ns)))))
       regs-read =
           code-whole
@@ -300,7 +300,7 @@ module _ (line : List ℕ) (at p : ℕ) (before : List ℕ) where
                 says = λ parts vs t. sym (letters-read ∙ simp q);
               })
 
-          pub code-is : (v : ℕ) → y ≡ Value v → p + 17 ≤ length after → RowIs 5 (fieldsFrom line at) p before (set after′ (p + 8) v) (record { ok = true; a = x .value; b = p; c = 0; d = 0; count = 0 })
+          pub code-is : (v : ℕ) → y ≡ Value v → p + 17 ≤ length after → RowIs 5 (fieldsFrom line at) p before (set after′ (p + 8) v) (record { ok = true; a = x .value; b = p; c = 0; d = 0; count = 0; next = n .next })
           unfolding entryWith rowFrom
           code-is v b room =
               let f : List ℕ = take (e - at) (drop at line) in

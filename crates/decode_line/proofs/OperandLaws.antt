@@ -174,8 +174,8 @@ module _ (rest : List ℕ) (at most v : ℕ) (before : OperandTable) where
   }
 
   module _ (ω : OperandTable) (i n : ℕ) (g : OperandsGo rest at most v before ω i n) where
-    pub operands-end : length rest < i → OperandsRead (fieldsFrom rest at) most v before ω (record { ok = true; count = n })
-    operands-end h = record {
+    pub operands-end : length rest < i → (z : ℕ) → OperandsRead (fieldsFrom rest at) most v before ω (record { ok = true; count = n; next = z })
+    operands-end h z = record {
       kept = g .kept;
       few = g .few;
       says = λ ρ s. ap some (g .stands ρ s) ∙ walk-end operand (fieldsFrom rest at) n (g .xs) most (rw (← (fields-past rest i h)) (g .walked)) (g .few);
@@ -186,8 +186,8 @@ module _ (rest : List ℕ) (at most v : ℕ) (before : OperandTable) where
       next = rw (fields-next rest i e is l) at (g .walked)
 
       -- the field is no operand: only arguments may have been written, and there are none
-      pub operands-bad : (r : OperandRead) (args′ : List ℕ) → OperandIs (operand (take (e - i) (drop i rest))) (ω .args) (8 * (v + n)) r args′ → 3 ≤ r .kind → OperandsRead (fieldsFrom rest at) most v before (operandTable (ω .operands) (ω .numbers) args′) (record { ok = false; count = n })
-      operands-bad r args′ is′ k =
+      pub operands-bad : (r : OperandRead) (args′ : List ℕ) → OperandIs (operand (take (e - i) (drop i rest))) (ω .args) (8 * (v + n)) r args′ → 3 ≤ r .kind → (z : ℕ) → OperandsRead (fieldsFrom rest at) most v before (operandTable (ω .operands) (ω .numbers) args′) (record { ok = false; count = n; next = z })
+      operands-bad r args′ is′ k z =
           let k′ : 3 ≤ answerOf (operand (take (e - i) (drop i rest))) .kind = rw (is′ .answer) at k in
           let w : operand (take (e - i) (drop i rest)) ≡ none = no-operand (operand (take (e - i) (drop i rest))) k′ in
           let q : args′ ≡ ω .args = is′ .stored ∙ ap (λ (o : Option Operand). sets (ω .args) (8 * (v + n)) (argsOf o)) w ∙ nothing (ω .args) (8 * (v + n)) in
@@ -224,8 +224,8 @@ module _ (rest : List ℕ) (at most v : ℕ) (before : OperandTable) where
           let h : numbers′ ≡ set (ω .numbers) (v + n) (answerOf (some x) .number) = b ∙ ap (λ (y : OperandRead). set (ω .numbers) (v + n) (y .number)) z in
           rw (c, d, h) (on-stored m room x w)
 
-    pub operands-many : i ≤ length rest → n ≡ most → OperandsRead (fieldsFrom rest at) most v before ω (record { ok = false; count = n })
-    operands-many l m = record {
+    pub operands-many : i ≤ length rest → n ≡ most → (z : ℕ) → OperandsRead (fieldsFrom rest at) most v before ω (record { ok = false; count = n; next = z })
+    operands-many l m z = record {
       kept = g .kept;
       few = g .few;
       says = λ ρ s. walk-many operand (fieldsFrom rest at) (fieldsFrom rest (i + length (firstPart 44 (drop i rest)) + 1)) n (g .xs) most (take (i + length (firstPart 44 (drop i rest)) - i) (drop i rest)) (next l (i + length (firstPart 44 (drop i rest))) refl) (omega arith);

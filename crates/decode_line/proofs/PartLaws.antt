@@ -31,8 +31,8 @@ module _ (rest : List ℕ) (at : ℕ) (known : Bool) (most : ℕ) (before : List
   parts-start = record { few = zero-le; as-long = refl; kept = refl; walked = walk-start (partNumber known) (fieldsFrom rest at) }
 
   module _ (parts : List ℕ) (i n : ℕ) (g : PartsGo rest at known most before p parts i n) where
-    pub parts-end : length rest < i → PartsRead (fieldsFrom rest at) known most p before parts (record { ok = true; count = n })
-    parts-end h = record {
+    pub parts-end : length rest < i → (z : ℕ) → PartsRead (fieldsFrom rest at) known most p before parts (record { ok = true; count = n; next = z })
+    parts-end h z = record {
       kept = g .kept;
       few = g .few;
       says = walk-end (partNumber known) (fieldsFrom rest at) n (span parts p n) most (rw (← (fields-past rest i h)) (g .walked)) (g .few);
@@ -42,8 +42,8 @@ module _ (rest : List ℕ) (at : ℕ) (known : Bool) (most : ℕ) (before : List
       next : Walked (partNumber known) (fieldsFrom rest at) (take (e - i) (drop i rest) ∷ fieldsFrom rest (e + 1)) n (span parts p n)
       next = rw (fields-next rest i e is l) at (g .walked)
 
-      pub parts-bad : partNumber known (take (e - i) (drop i rest)) ≡ none → PartsRead (fieldsFrom rest at) known most p before parts (record { ok = false; count = n })
-      parts-bad b = record {
+      pub parts-bad : partNumber known (take (e - i) (drop i rest)) ≡ none → (z : ℕ) → PartsRead (fieldsFrom rest at) known most p before parts (record { ok = false; count = n; next = z })
+      parts-bad b z = record {
         kept = g .kept;
         few = g .few;
         says = walk-bad (partNumber known) (fieldsFrom rest at) (fieldsFrom rest (e + 1)) n (span parts p n) most (take (e - i) (drop i rest)) next b;
@@ -59,8 +59,8 @@ module _ (rest : List ℕ) (at : ℕ) (known : Bool) (most : ℕ) (before : List
             walked = rw here (walk-on (partNumber known) (fieldsFrom rest at) (fieldsFrom rest (e + 1)) n (span parts p n) (take (e - i) (drop i rest)) v next b);
           }
 
-    pub parts-many : i ≤ length rest → n ≡ most → PartsRead (fieldsFrom rest at) known most p before parts (record { ok = false; count = n })
-    parts-many l m = record {
+    pub parts-many : i ≤ length rest → n ≡ most → (z : ℕ) → PartsRead (fieldsFrom rest at) known most p before parts (record { ok = false; count = n; next = z })
+    parts-many l m z = record {
       kept = g .kept;
       few = g .few;
       says = walk-many (partNumber known) (fieldsFrom rest at) (fieldsFrom rest (i + length (firstPart 44 (drop i rest)) + 1)) n (span parts p n) most (take (i + length (firstPart 44 (drop i rest)) - i) (drop i rest)) (next l (i + length (firstPart 44 (drop i rest))) refl) (omega arith);

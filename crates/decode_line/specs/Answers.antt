@@ -4,15 +4,16 @@ use mathlib.Core.Path.{_≡_}
 use mathlib.Core.Bool.{Bool, true, false}
 use mathlib.Core.Option.{Option}
 use mathlib.Core.List.{List, [], _∷_}
-use lib.ListN.{take}
+use lib.ListN.{length, take}
 use lib.Seq.{sets}
 use Rattle.syntax.specs.Partial.{when}
 use Rattle.syntax.specs.Syntax.{Operand, Entry}
 use Rattle.text.specs.Grammar.{forms, operand}
 use Rattle.tables.specs.Tables.{span, OperandTable, operandsAt}
+use Rattle.lines.specs.Parts.{lineIn, StopAt}
 use Rattle.fields.specs.Names.{formAt}
 use Rattle.fields.specs.declared.OperandRead.{OperandRead}
-use Rattle.decode_line.specs.Fields.{fieldsFrom, atMost, partNumber}
+use Rattle.decode_line.specs.Fields.{fieldsFrom, readSlot, readSlots, atMost, partNumber}
 use Rattle.decode_line.specs.Forms.{formCell, fewest, entryWith}
 use Rattle.decode_line.specs.declared.Slot.{Slot}
 use Rattle.decode_line.specs.declared.Slots.{Slots}
@@ -21,11 +22,29 @@ use Rattle.decode_line.specs.declared.Said.{Said}
 
 -- a field read, and the fields behind it
 abbrev pub slotOf : List ℕ → Slot → Option (ℕ × List (List ℕ))
-slotOf line r = when (r .ok) (r .value, fieldsFrom line (r .next))
+slotOf line r = when (r .ok) (r .value, fieldsFrom line (r .next + 1))
 
 -- several fields read, and the fields behind them
 abbrev pub slotsOf : List ℕ → Slots → Option (List ℕ × List (List ℕ))
-slotsOf line r = when (r .ok) (r .a ∷ r .b ∷ r .c ∷ r .d ∷ [], fieldsFrom line (r .next))
+slotsOf line r = when (r .ok) (r .a ∷ r .b ∷ r .c ∷ r .d ∷ [], fieldsFrom line (r .next + 1))
+
+-- no field, at the stop `at`
+abbrev pub noSlot : ℕ → Slot
+noSlot at = record { ok = false; value = 0; next = at }
+
+-- r is the field behind the stop at `at` of the first line of s, and ends at a stop
+pub record SlotIs (s : List ℕ) (at kind : ℕ) (r : Slot) : Type 0 where
+  pub says : slotOf (lineIn s) r ≡ readSlot kind (fieldsFrom (lineIn s) (at + 1))
+  pub stop : StopAt s (r .next)
+
+-- the same of several fields
+pub record SlotsAre (s : List ℕ) (at : ℕ) (kinds : List ℕ) (r : Slots) : Type 0 where
+  pub says : slotsOf (lineIn s) r ≡ readSlots kinds (fieldsFrom (lineIn s) (at + 1))
+  pub stop : StopAt s (r .next)
+
+-- what was read goes to the end of the first line of s
+abbrev pub AtEnd : List ℕ → Bool → ℕ → Type 0
+AtEnd s ok next = ok ≡ true → next ≡ length (lineIn s)
 
 -- the fields fs, at most `most` of them, are read as rows or registers into `after` from p on; what stands before is kept
 pub record PartsRead (fs : List (List ℕ)) (known : Bool) (most p : ℕ) (before after : List ℕ) (r : Count) : Type 0 where
@@ -39,6 +58,7 @@ pub record SameOperands (m : ℕ) (ω ρ : OperandTable) : Type 0 where
   pub numbers : take m (ω .numbers) ≡ take m (ρ .numbers)
   pub args : take (8 * m) (ω .args) ≡ take (8 * m) (ρ .args)
 
+-- the three lists as a table of operands
 abbrev pub operandTable : List ℕ → List ℕ → List ℕ → OperandTable
 operandTable operands numbers args = record { operands = operands; numbers = numbers; args = args }
 
@@ -60,8 +80,9 @@ pub record OperandsRead (fs : List (List ℕ)) (most v : ℕ) (before after : Op
   pub says : (ω : OperandTable) → SameOperands (v + r .count) ω after → when (r .ok) (operandsAt ω v (r .count)) ≡ atMost most operand fs
 
 -- ---- a line
+-- what is said where the fields are of no form
 abbrev pub noEntry : Said
-noEntry = record { ok = false; a = 0; b = 0; c = 0; d = 0; count = 0 }
+noEntry = record { ok = false; a = 0; b = 0; c = 0; d = 0; count = 0; next = 0 }
 
 -- the entry of the form at place `code`
 abbrev pub saidBy : ℕ → Said → List ℕ → List Operand → Option Entry

@@ -18,12 +18,17 @@ fieldsFrom line at = cond (leb at (length line)) (fieldsOf (drop at line)) []
 unfoldable pub plainField : ℕ → List ℕ → Option ℕ
 plainField k f = cond (eqb k 1) (register f) (cond (eqb k 2) (rowNumber f) (cond (eqb k 3) (index f) (amount f)))
 
+-- the greatest number of a field of kind 2 row, 3 index, 4 amount
+unfoldable pub mostOf : ℕ → ℕ
+mostOf k = cond (eqb k 2) 511 (cond (eqb k 3) 63 64)
+
 -- its number, and the fields behind it; kind 0 takes no field and gives 0
 unfoldable pub readSlot : ℕ → List (List ℕ) → Option (ℕ × List (List ℕ))
 readSlot zero fs = some (0, fs)
 readSlot (suc k) [] = none
 readSlot (suc k) (f ∷ fs) = bind (plainField (suc k) f) (λ n. some (n, fs))
 
+-- the numbers of fields of these kinds, one after the other, and the fields behind them
 unfoldable pub readSlots : List ℕ → List (List ℕ) → Option (List ℕ × List (List ℕ))
 readSlots [] fs = some ([], fs)
 readSlots (k ∷ ks) fs = bind (readSlot k fs) (λ r. bind (readSlots ks (r .1)) (λ q. some (r .0 ∷ q .0, q .1)))

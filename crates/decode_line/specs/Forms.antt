@@ -67,6 +67,7 @@ fewest (suc zero) = 1
 fewest (suc (suc n)) = 0
 
 -- ---- entries
+-- the first of the operands; of none, register 0
 abbrev pub firstOperand : List Operand → Operand
 firstOperand [] = plain (reg 0)
 firstOperand (v ∷ vs) = v

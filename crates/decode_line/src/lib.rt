@@ -1,15 +1,19 @@
-// A line's fields into the tables.
+// A line's fields into the tables, in one walk up to the line's LF: `rest` is a text from a place within a line on, and a field is looked
+// for behind a comma of that line.
+// Promises: what the fields say by the line's form (`FormIs` of specs/Answers.antt), and where the line ends if they are of that form.
 ghost use mathlib.Core.Path.{_≡_};
-ghost use mathlib.Core.Bool.{_&&_};
+ghost use mathlib.Core.Bool.{true, _&&_};
 ghost use mathlib.Core.List.{[], _∷_};
 ghost use Prim.Native.Nat.{_+_, _*_, _≤_, _<_};
-ghost use lib.ListN.{length, set};
-ghost use Rattle.numbers.specs.Numbers.{numberOf};
-ghost use Rattle.decode_line.specs.Fields.{fieldsFrom, plainField, readSlot, readSlots, partNumber};
+ghost use lib.ListN.{length, getD, set};
+ghost use Rattle.lines.specs.Parts.{lineIn, fieldIn, InLine, StopAt};
+ghost use Rattle.numbers.specs.Numbers.{ScanIs};
+ghost use Rattle.decode_line.specs.Fields.{fieldsFrom, plainField, mostOf, partNumber};
 ghost use Rattle.decode_line.specs.Forms.{formOf, fewest};
-ghost use Rattle.decode_line.specs.Answers.{slotOf, slotsOf, PartsRead, withOperand, operandTable, OperandRoom, OperandsRead, noEntry, PlainIs, RowIs, FormIs};
+ghost use Rattle.decode_line.specs.Answers.{noSlot, SlotIs, SlotsAre, PartsRead, withOperand, operandTable, OperandRoom, OperandsRead, AtEnd, noEntry, PlainIs, RowIs, FormIs};
 use fields::OperandRead;
 use numbers::Number;
+use numbers::Scan;
 
 // By the form's place: the kinds of its plain fields, 1 register, 2 row, 3 index, 4 amount, 0 for none, the first the lowest of four octal
 // digits; above them how many operands follow: none, one, or up to 16.
@@ -59,14 +63,14 @@ pub struct Form {
     pub most: u16,
 }
 
-// A plain field's number, and where the next field starts.
+// A plain field's number, and where the field ends.
 pub struct Slot {
     pub ok: bool,
     pub value: u16,
     pub next: usize,
 }
 
-// The numbers of a form's plain fields, 0 for those that it has not, and where the next field starts.
+// The numbers of a form's plain fields, 0 for those that it has not, and where the last one ends.
 pub struct Slots {
     pub ok: bool,
     pub a: u16,
@@ -76,14 +80,15 @@ pub struct Slots {
     pub next: usize,
 }
 
-// How many operands or components were read, if all of them could be.
+// How many operands or components were read, if all of them could be, and where the line ends.
 pub struct Count {
     pub ok: bool,
     pub count: u16,
+    pub next: usize,
 }
 
-// What a line's fields say: the numbers of a form's plain fields and how many operands follow. Of U a and b are where its
-// components start and how many there are; of C they are its stack and where its registers start.
+// What a line's fields say: the numbers of a form's plain fields, how many operands follow, and where the line ends. Of U a and b are
+// where its components start and how many there are; of C they are its stack and where its registers start.
 pub struct Said {
     pub ok: bool,
     pub a: u16,
@@ -91,6 +96,7 @@ pub struct Said {
     pub c: u16,
     pub d: u16,
     pub count: u16,
+    pub next: usize,
 }
 
 fn no_entry() -> Said
@@ -103,6 +109,7 @@ fn no_entry() -> Said
         c: 0,
         d: 0,
         count: 0,
+        next: 0,
     }
 }
 
@@ -130,48 +137,63 @@ fn both(a: bool, b: bool) -> bool
     false
 }
 
-// The number of a field of that kind.
-fn plain_field(f: &[u8], kind: u16) -> Number
-    ensures { λ r. ⌜ numberOf r ≡ plainField kind (now (f .entry)) ⌝ }
+// The greatest number of a field of kind 2 row, 3 index, 4 amount.
+fn most_of(kind: u16) -> u32
+    ensures { λ r. ⌜ r ≡ mostOf kind ⌝ }
 {
-    match kind {
-        1 => numbers::register(f),
-        2 => numbers::row_number(f),
-        3 => numbers::index(f),
-        _ => numbers::amount(f),
+    if kind == 2 {
+        return 511;
+    }
+    if kind == 3 {
+        return 63;
+    }
+    64
+}
+
+// The number of the field of that kind that starts at `at`.
+fn plain_field(rest: &[u8], at: usize, kind: u16) -> Scan
+    requires { ⌜ InLine (now rest) at ⌝ }
+    ensures { λ r. ⌜ ScanIs (now (rest .entry)) at (plainField kind (fieldIn (now (rest .entry)) at)) r ⌝ }
+{
+    if kind == 1 {
+        return numbers::register_at(rest, at);
+    }
+    numbers::number_at(rest, at, 0, most_of(kind))
+}
+
+fn no_slot(at: usize) -> Slot
+    ensures { λ r. ⌜ r ≡ noSlot at ⌝ }
+{
+    Slot {
+        ok: false,
+        value: 0,
+        next: at,
     }
 }
 
-// The field at `at`, if there is one.
+// The field behind the stop at `at`, if there is one.
 fn read_field(rest: &[u8], at: usize, kind: u16) -> Slot
-    requires { ⌜ (kind ≡ 0 → ⊥) ⌝ }
-    ensures { λ r. ⌜ slotOf (now (rest .entry)) r ≡ readSlot kind (fieldsFrom (now (rest .entry)) at) ⌝ }
+    requires { ⌜ (kind ≡ 0 → ⊥) × StopAt (now rest) at ⌝ }
+    ensures { λ r. ⌜ SlotIs (now (rest .entry)) at kind r ⌝ }
 {
-    if rest.len() < at {
-        return Slot {
-            ok: false,
-            value: 0,
-            next: at,
-        };
+    if rest[at] != b',' {
+        return no_slot(at);
     }
-    let e = fields::field_end(rest, at);
-    match plain_field(&rest[at..e], kind) {
-        Number::Value(n) => Slot {
-            ok: true,
-            value: n as u16,
-            next: e + 1,
-        },
-        Number::Bad => Slot {
-            ok: false,
-            value: 0,
-            next: at,
-        },
+    let x = plain_field(rest, at + 1, kind);
+    if !x.ok {
+        return no_slot(at);
+    }
+    Slot {
+        ok: true,
+        value: x.value as u16,
+        next: x.next,
     }
 }
 
 // The same; kind 0 takes no field.
 fn read_slot(rest: &[u8], at: usize, kind: u16) -> Slot
-    ensures { λ r. ⌜ slotOf (now (rest .entry)) r ≡ readSlot kind (fieldsFrom (now (rest .entry)) at) ⌝ }
+    requires { ⌜ StopAt (now rest) at ⌝ }
+    ensures { λ r. ⌜ SlotIs (now (rest .entry)) at kind r ⌝ }
 {
     if kind == 0 {
         return Slot {
@@ -185,7 +207,8 @@ fn read_slot(rest: &[u8], at: usize, kind: u16) -> Slot
 
 // The plain fields of a form.
 fn read_slots(rest: &[u8], at: usize, f: Form) -> Slots
-    ensures { λ r. ⌜ slotsOf (now (rest .entry)) r ≡ readSlots (f .a ∷ f .b ∷ f .c ∷ f .d ∷ []) (fieldsFrom (now (rest .entry)) at) ⌝ }
+    requires { ⌜ StopAt (now rest) at ⌝ }
+    ensures { λ r. ⌜ SlotsAre (now (rest .entry)) at (f .a ∷ f .b ∷ f .c ∷ f .d ∷ []) r ⌝ }
 {
     let a = read_slot(rest, at, f.a);
     let b = read_slot(rest, a.next, f.b);
@@ -201,43 +224,77 @@ fn read_slots(rest: &[u8], at: usize, f: Form) -> Slots
     }
 }
 
-// A component's row, or a register's: 0 for `-`, else one more than the row.
-fn part_number(f: &[u8], known: bool) -> Number
-    ensures { λ r. ⌜ numberOf r ≡ partNumber known (now (f .entry)) ⌝ }
+// The dash that starts at `at`, if it is alone: no row.
+fn dash_at(rest: &[u8], at: usize) -> Scan
+    requires { ⌜ InLine (now rest) at × (getD (now rest) at 0 ≡ 45) ⌝ }
+    ensures { λ r. ⌜ ScanIs (now (rest .entry)) at (partNumber true (fieldIn (now (rest .entry)) at)) r ⌝ }
 {
-    if known {
-        return fields::known(f);
+    let e = at + 1;
+    if lines::is_stop(rest[e]) {
+        return Scan {
+            ok: true,
+            value: 0,
+            next: e,
+        };
     }
-    numbers::row_number(f)
+    numbers::no_scan(at)
 }
 
-// All the fields from `at` on, at most `most`, as rows or registers from p on.
+// A component's row, or a register's: 0 for `-`, else one more than the row.
+fn part_at(rest: &[u8], at: usize, known: bool) -> Scan
+    requires { ⌜ InLine (now rest) at ⌝ }
+    ensures { λ r. ⌜ ScanIs (now (rest .entry)) at (partNumber known (fieldIn (now (rest .entry)) at)) r ⌝ }
+{
+    if !known {
+        return numbers::number_at(rest, at, 0, 511);
+    }
+    if rest[at] == b'-' {
+        return dash_at(rest, at);
+    }
+    let x = numbers::number_at(rest, at, 0, 511);
+    if !x.ok {
+        return numbers::no_scan(at);
+    }
+    Scan {
+        ok: true,
+        value: x.value + 1,
+        next: x.next,
+    }
+}
+
+// All the fields behind the stop at `at`, at most `most`, as rows or registers from p on.
 fn read_parts(rest: &[u8], at: usize, known: bool, most: u16, parts: &mut [u16], p: usize) -> Count
-    requires { ⌜ (p + most ≤ length (now parts)) × (most ≤ 16) ⌝ }
-    ensures { λ r. ⌜ PartsRead (fieldsFrom (now (rest .entry)) at) known most p (now (parts .entry)) (now (parts .exit)) r ⌝ }
+    requires { ⌜ (p + most ≤ length (now parts)) × (most ≤ 16) × StopAt (now rest) at ⌝ }
+    ensures { λ r. ⌜ PartsRead (fieldsFrom (lineIn (now (rest .entry))) (at + 1)) known most p (now (parts .entry)) (now (parts .exit)) r × AtEnd (now (rest .entry)) (r .ok) (r .next) ⌝ }
 {
     let mut i = at;
     let mut n: u16 = 0;
-    while i <= rest.len() {
+    while rest[i] == b',' {
         if n == most {
             return Count {
                 ok: false,
                 count: n,
+                next: i,
             };
         }
-        let e = fields::field_end(rest, i);
-        let Number::Value(v) = part_number(&rest[i..e], known) else {
+        let x = part_at(rest, i + 1, known);
+        if !x.ok {
             return Count {
                 ok: false,
                 count: n,
+                next: i,
             };
-        };
+        }
         let to = p + (n as usize);
-        parts[to] = v as u16;
+        parts[to] = x.value as u16;
         n += 1;
-        i = e + 1;
+        i = x.next;
     }
-    Count { ok: true, count: n }
+    Count {
+        ok: true,
+        count: n,
+        next: i,
+    }
 }
 
 // Stores operand v, all but its arguments.
@@ -252,7 +309,7 @@ fn put_operand(o: OperandRead, operands: &mut [u16], numbers: &mut [u32], v: usi
     numbers[v] = o.number;
 }
 
-// All the fields from `at` on, at most `most`, as operands from v on.
+// All the fields behind the stop at `at`, at most `most`, as operands from v on.
 fn read_operands(
     rest: &[u8],
     at: usize,
@@ -262,32 +319,38 @@ fn read_operands(
     args: &mut [u16],
     v: usize,
 ) -> Count
-    requires { ⌜ OperandRoom (v + most) (length (now operands)) (length (now numbers)) (length (now args)) × (most ≤ 16) ⌝ }
-    ensures { λ r. ⌜ OperandsRead (fieldsFrom (now (rest .entry)) at) most v (operandTable (now (operands .entry)) (now (numbers .entry)) (now (args .entry))) (operandTable (now (operands .exit)) (now (numbers .exit)) (now (args .exit))) r ⌝ }
+    requires { ⌜ OperandRoom (v + most) (length (now operands)) (length (now numbers)) (length (now args)) × (most ≤ 16) × StopAt (now rest) at ⌝ }
+    ensures { λ r. ⌜ OperandsRead (fieldsFrom (lineIn (now (rest .entry))) (at + 1)) most v (operandTable (now (operands .entry)) (now (numbers .entry)) (now (args .entry))) (operandTable (now (operands .exit)) (now (numbers .exit)) (now (args .exit))) r × AtEnd (now (rest .entry)) (r .ok) (r .next) ⌝ }
 {
     let mut i = at;
     let mut n: u16 = 0;
-    while i <= rest.len() {
+    while rest[i] == b',' {
         if n == most {
             return Count {
                 ok: false,
                 count: n,
+                next: i,
             };
         }
-        let e = fields::field_end(rest, i);
         let w = v + (n as usize);
-        let o = fields::operand(&rest[i..e], args, 8 * w);
+        let x = fields::operand_at(rest, i + 1, args, 8 * w);
+        let o = x.read;
         if 3 <= o.kind {
             return Count {
                 ok: false,
                 count: n,
+                next: i,
             };
         }
         put_operand(o, operands, numbers, w);
         n += 1;
-        i = e + 1;
+        i = x.next;
     }
-    Count { ok: true, count: n }
+    Count {
+        ok: true,
+        count: n,
+        next: i,
+    }
 }
 
 // Where one operand may follow it must.
@@ -310,8 +373,8 @@ fn read_plain(
     args: &mut [u16],
     v: usize,
 ) -> Said
-    requires { ⌜ (code < 34) × (code ≡ 3 → ⊥) × (code ≡ 5 → ⊥) × OperandRoom (v + 16) (length (now operands)) (length (now numbers)) (length (now args)) ⌝ }
-    ensures { λ r. ⌜ PlainIs code (fieldsFrom (now (rest .entry)) at) v (operandTable (now (operands .entry)) (now (numbers .entry)) (now (args .entry))) (operandTable (now (operands .exit)) (now (numbers .exit)) (now (args .exit))) r ⌝ }
+    requires { ⌜ (code < 34) × (code ≡ 3 → ⊥) × (code ≡ 5 → ⊥) × OperandRoom (v + 16) (length (now operands)) (length (now numbers)) (length (now args)) × StopAt (now rest) at ⌝ }
+    ensures { λ r. ⌜ PlainIs code (fieldsFrom (lineIn (now (rest .entry))) (at + 1)) v (operandTable (now (operands .entry)) (now (numbers .entry)) (now (args .entry))) (operandTable (now (operands .exit)) (now (numbers .exit)) (now (args .exit))) r × AtEnd (now (rest .entry)) (r .ok) (r .next) ⌝ }
 {
     let f = form_at(code);
     let x = read_slots(rest, at, f);
@@ -333,13 +396,14 @@ fn read_plain(
         c: x.c,
         d: x.d,
         count: n.count,
+        next: n.next,
     }
 }
 
 // The line of a tuple: up to 16 components.
 fn read_tuple(rest: &[u8], at: usize, parts: &mut [u16], p: usize) -> Said
-    requires { ⌜ (p + 17 ≤ length (now parts)) × (p < 65536) ⌝ }
-    ensures { λ r. ⌜ RowIs 3 (fieldsFrom (now (rest .entry)) at) p (now (parts .entry)) (now (parts .exit)) r ⌝ }
+    requires { ⌜ (p + 17 ≤ length (now parts)) × (p < 65536) × StopAt (now rest) at ⌝ }
+    ensures { λ r. ⌜ RowIs 3 (fieldsFrom (lineIn (now (rest .entry))) (at + 1)) p (now (parts .entry)) (now (parts .exit)) r × AtEnd (now (rest .entry)) (r .ok) (r .next) ⌝ }
 {
     let n = read_parts(rest, at, false, 16, parts, p);
     if !n.ok {
@@ -352,19 +416,21 @@ fn read_tuple(rest: &[u8], at: usize, parts: &mut [u16], p: usize) -> Said
         c: 0,
         d: 0,
         count: 0,
+        next: n.next,
     }
 }
 
 // The line of a code row: its letters, its stack and eight registers.
 fn read_code(rest: &[u8], at: usize, parts: &mut [u16], p: usize) -> Said
-    requires { ⌜ (p + 17 ≤ length (now parts)) × (p < 65536) ⌝ }
-    ensures { λ r. ⌜ RowIs 5 (fieldsFrom (now (rest .entry)) at) p (now (parts .entry)) (now (parts .exit)) r ⌝ }
+    requires { ⌜ (p + 17 ≤ length (now parts)) × (p < 65536) × StopAt (now rest) at ⌝ }
+    ensures { λ r. ⌜ RowIs 5 (fieldsFrom (lineIn (now (rest .entry))) (at + 1)) p (now (parts .entry)) (now (parts .exit)) r × AtEnd (now (rest .entry)) (r .ok) (r .next) ⌝ }
 {
-    if rest.len() < at {
+    if rest[at] != b',' {
         return no_entry();
     }
-    let e = fields::field_end(rest, at);
-    let x = read_slot(rest, e + 1, 2);
+    let b = at + 1;
+    let e = lines::field_end(rest, b);
+    let x = read_slot(rest, e, 2);
     if !x.ok {
         return no_entry();
     }
@@ -375,7 +441,7 @@ fn read_code(rest: &[u8], at: usize, parts: &mut [u16], p: usize) -> Said
     if n.count < 8 {
         return no_entry();
     }
-    let Number::Value(q) = fields::letters(&rest[at..e], parts, p + 9) else {
+    let Number::Value(q) = fields::letters(&rest[b..e], parts, p + 9) else {
         return no_entry();
     };
     parts[p + 8] = q as u16;
@@ -386,10 +452,11 @@ fn read_code(rest: &[u8], at: usize, parts: &mut [u16], p: usize) -> Said
         c: 0,
         d: 0,
         count: 0,
+        next: n.next,
     }
 }
 
-// The fields of a line of the form at place `code`: a row's parts are written from p on, operands from v on.
+// The fields behind the stop at `at` of a line of the form at place `code`: a row's parts are written from p on, operands from v on.
 pub fn read_form(
     rest: &[u8],
     at: usize,
@@ -401,8 +468,8 @@ pub fn read_form(
     args: &mut [u16],
     v: usize,
 ) -> Said
-    requires { ⌜ (code < 34) × (p + 17 ≤ length (now parts)) × (p < 65536) × OperandRoom (v + 16) (length (now operands)) (length (now numbers)) (length (now args)) ⌝ }
-    ensures { λ r. ⌜ FormIs code (fieldsFrom (now (rest .entry)) at) p v (now (parts .entry)) (now (parts .exit)) (operandTable (now (operands .entry)) (now (numbers .entry)) (now (args .entry))) (operandTable (now (operands .exit)) (now (numbers .exit)) (now (args .exit))) r ⌝ }
+    requires { ⌜ (code < 34) × (p + 17 ≤ length (now parts)) × (p < 65536) × OperandRoom (v + 16) (length (now operands)) (length (now numbers)) (length (now args)) × StopAt (now rest) at ⌝ }
+    ensures { λ r. ⌜ FormIs code (fieldsFrom (lineIn (now (rest .entry))) (at + 1)) p v (now (parts .entry)) (now (parts .exit)) (operandTable (now (operands .entry)) (now (numbers .entry)) (now (args .entry))) (operandTable (now (operands .exit)) (now (numbers .exit)) (now (args .exit))) r × AtEnd (now (rest .entry)) (r .ok) (r .next) ⌝ }
 {
     if code == 3 {
         return read_tuple(rest, at, parts, p);

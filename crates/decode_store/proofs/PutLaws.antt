@@ -1,23 +1,27 @@
 -- Laws of what is stored of a line, and of the fields behind its first.
 -- Assumes nothing.
-use mathlib.Core.Path.{_≡_, ap, _∙_, subst}
-use mathlib.Core.Bool.{true, false}
+use mathlib.Core.Path.{_≡_, refl, ap, _∙_, subst}
+use mathlib.Core.Bool.{Bool, true, false}
 use mathlib.Core.List.{List, [], _∷_}
 use Prim.Native.Nat.{ℕ, _+_, _-_, _*_, _<_, _≤_}
 use native.Mathlib.Omega.{arith}
-use lib.Dec.{eqb, ltb, leb·zero}
-use lib.ListN.{length, take, drop, drop-of-length-le, length-drop}
-use lib.Seq.{sets, take-all}
-use borrow.Author.Tests.{lt-ltb, le-ltb, le-leb, lt-leb, eq-eqb, ne-eqb}
+use lib.Dec.{eqb, ltb}
+use lib.ListN.{length, take, drop, length-drop}
+use lib.Seq.{sets, take-all, drop-drop}
+use borrow.Author.Tests.{ltb-true, ltb-false, lt-ltb, le-ltb, le-leb, lt-leb, eq-eqb, ne-eqb}
 use Rattle.text.specs.Bytes.{fieldsOf}
 use Rattle.tables.specs.Tables.{OperandTable}
+use Rattle.lines.specs.Parts.{lineIn, StopAt}
+use Rattle.lines.proofs.InLine.{line-from, stop-from}
 use Rattle.decode_line.specs.Fields.{fieldsFrom}
-use Rattle.decode_line.specs.Answers.{FormIs}
+use Rattle.decode_line.specs.Answers.{AtEnd, FormIs}
 use Rattle.decode_line.specs.declared.Said.{Said}
-use Rattle.decode_store.specs.Lines.{lineOf, Stored}
+use Rattle.decode_store.specs.Store.{Store}
+use Rattle.decode_store.specs.Lines.{lineOf, noLine, LineIs, LineEnds, Stored}
 use Rattle.decode_store.specs.declared.Used.{Used}
 use Rattle.decode_store.specs.declared.Line.{Line}
-use Rattle.decode_store.specs.declared.Line.the-variants.{Row, Block, Instruction, Last}
+use Rattle.decode_store.specs.declared.LineRead.{LineRead}
+use Rattle.decode_store.specs.declared.Line.the-variants.{NoForm, Row, Block, Instruction, Last}
 
 module _ (code : ℕ) (s : Said) (u : Used) (rows instrs blocks : List ℕ) where
   pub stored-row : code < 10 → (rows′ : List ℕ) → rows′ ≡ sets rows (4 * u .rows) (code ∷ s .a ∷ s .b ∷ []) → Stored code s u rows instrs blocks rows′ instrs blocks Row
@@ -60,24 +64,45 @@ module _ (code : ℕ) (s : Said) (u : Used) (rows instrs blocks : List ℕ) wher
     stored-last k = stored-instr (Last (s .count)) (simp (le-ltb code 10 h, ne-eqb code 10 q, le-ltb code 32 k))
 
 -- ---- the rest of a line, as a part that starts in its middle
-part-from : (l : List ℕ) (a : ℕ) → take (length l - a) (drop a l) ≡ drop a l
+pub part-from : (l : List ℕ) (a : ℕ) → take (length l - a) (drop a l) ≡ drop a l
 part-from l a = let q : length (drop a l) ≤ length l - a = omega (arith, length-drop a l) in take-all (length l - a) (drop a l) q
 
--- the fields behind a comma
-pub fields-behind : (line : List ℕ) (f b : ℕ) → b ≡ f + 1 → f < length line → fieldsFrom (take (length line - b) (drop b line)) 0 ≡ fieldsFrom line (f + 1)
+fields-from : (line : List ℕ) (f : ℕ) → fieldsFrom (drop f line) (0 + 1) ≡ fieldsFrom line (f + 1)
 unfolding fieldsFrom
-fields-behind line f b e h =
-    let q : f + 1 ≤ length line = omega arith in
-    ap (λ (l : List ℕ). fieldsFrom l 0) (part-from line b)
-    ∙ simp leb·zero (ap (λ (k : ℕ). fieldsOf (drop k line)) e ∙ simp (le-leb (f + 1) (length line) q))
+fields-from line f = go (ltb f (length line)) refl
+  where
+    go : (t : Bool) → ltb f (length line) ≡ t → fieldsFrom (drop f line) (0 + 1) ≡ fieldsFrom line (f + 1)
+    go true e =
+        let h : f < length line = ltb-true f (length line) e in
+        let p : 0 + 1 ≤ length (drop f line) = omega (arith, length-drop f line) in
+        let q : f + 1 ≤ length line = omega arith in
+        simp (le-leb (0 + 1) (length (drop f line)) p, le-leb (f + 1) (length line) q) (ap fieldsOf (drop-drop 1 f line))
+    go false e =
+        let h : length line ≤ f = ltb-false f (length line) e in
+        let p : length (drop f line) < 0 + 1 = omega (arith, length-drop f line) in
+        let q : length line < f + 1 = omega arith in
+        simp (lt-leb (0 + 1) (length (drop f line)) p, lt-leb (f + 1) (length line) q)
 
--- with no comma there are none
-pub fields-none : (line : List ℕ) (f : ℕ) → length line ≤ f → fieldsFrom (take (length line - f) (drop f line)) 1 ≡ fieldsFrom line (f + 1)
-unfolding fieldsFrom
-fields-none line f h =
-    let q : length line < f + 1 = omega arith in
-    ap (λ (l : List ℕ). fieldsFrom l 1) (part-from line f ∙ drop-of-length-le line h) ∙ simp (lt-leb (f + 1) (length line) q)
+module _ (s : List ℕ) (f : ℕ) (p : StopAt s f) where
+  pub rest-stop : StopAt (take (length s - f) (drop f s)) 0
+  rest-stop = rw (part-from s f) (stop-from s f p)
+
+  rest-line : lineIn (take (length s - f) (drop f s)) ≡ drop f (lineIn s)
+  rest-line = ap lineIn (part-from s f) ∙ line-from s f (p .place .within)
+
+  pub rest-fields : fieldsFrom (lineIn (take (length s - f) (drop f s))) (0 + 1) ≡ fieldsFrom (lineIn s) (f + 1)
+  rest-fields = ap (λ (l : List ℕ). fieldsFrom l (0 + 1)) rest-line ∙ fields-from (lineIn s) f
+
+  pub rest-end : (ok : Bool) (n : ℕ) → AtEnd (take (length s - f) (drop f s)) ok n → AtEnd s ok (f + n)
+  rest-end ok n g t =
+      let e = g t in
+      let m : length (lineIn (take (length s - f) (drop f s))) ≡ length (lineIn s) - f = ap length rest-line ∙ length-drop f (lineIn s) in
+      omega (arith, p .place .within)
 
 -- the same fields say the same
 pub form-as : (code p v : ℕ) (parts parts′ : List ℕ) (ω ω′ : OperandTable) (s : Said) {fs gs : List (List ℕ)} → fs ≡ gs → FormIs code fs p v parts parts′ ω ω′ s → FormIs code gs p v parts parts′ ω ω′ s
 form-as code p v parts parts′ ω ω′ s e h = subst (λ (xs : List (List ℕ)). FormIs code xs p v parts parts′ ω ω′ s) e h
+
+-- ---- a line of no form ends nowhere
+pub no-line-is : (text line : List ℕ) (u : Used) (σ π : Store) (r : LineRead) → r ≡ noLine → LineIs line u σ π NoForm → LineIs line u σ π (r .line) × LineEnds text r
+no-line-is text line u σ π r e g = rw e (g, λ h. absurd (h refl))

@@ -5,16 +5,19 @@ use mathlib.Core.Bool.{Bool, true, false, cond}
 use mathlib.Core.Option.{Option, none, some}
 use mathlib.Core.List.{List, [], _∷_}
 use lib.Dec.{eqb, ltb}
+use lib.ListN.{length}
 use lib.Seq.{sets}
 use Rattle.syntax.specs.Syntax.{Entry, row, block, instr}
 use Rattle.text.specs.Bytes.{fieldsOf}
 use Rattle.text.specs.Grammar.{entryOf}
 use Rattle.text.specs.PassOne.{isLast}
 use Rattle.tables.specs.Tables.{cell, rowAt, instrAt}
+use Rattle.lines.specs.Parts.{lineIn}
 use Rattle.decode_line.specs.declared.Said.{Said}
 use Rattle.decode_store.specs.Store.{Store, rowTable, operandsOf, Same}
 use Rattle.decode_store.specs.declared.Used.{Used}
 use Rattle.decode_store.specs.declared.Line.{Line}
+use Rattle.decode_store.specs.declared.LineRead.{LineRead}
 use Rattle.decode_store.specs.declared.Line.the-variants.{NoForm, Row, Block, Instruction, Last}
 
 -- ---- what a line adds
@@ -64,6 +67,14 @@ pub record LineIs (line : List ℕ) (u : Used) (before after : Store) (l : Line)
   pub said : (σ : Store) → Same (usedAfter u l) σ after → says u l σ ≡ entryOf (fieldsOf line)
   pub last : ends l ≡ endsBlock (entryOf (fieldsOf line))
   pub starts : l ≡ Block → cell 2 (after .blocks) (u .blocks) 1 ≡ u .instrs
+
+-- a line of no form
+abbrev pub noLine : LineRead
+noLine = record { line = NoForm; next = 0 }
+
+-- where the first line of a text ends, if it is of some form
+abbrev pub LineEnds : List ℕ → LineRead → Type 0
+LineEnds text r = (r .line ≡ NoForm → ⊥) → r .next ≡ length (lineIn text)
 
 -- ---- what is stored of a line of the form at place `code`
 -- the rows, with it as the next one if it is a type line

@@ -1,14 +1,16 @@
 // One line of a text into the tables: what its fields say is stored at the first places that are not in use.
-// Promises: behind the line the tables say what it says (`LineIs` of specs/Lines.antt), and what was in use is kept.
+// Promises: behind the line the tables say what it says (`LineIs` of specs/Lines.antt), what was in use is kept, and the answer says where
+// a line of some form ends. Asked: that the line has an LF.
 ghost use mathlib.Core.Path.{_≡_};
 ghost use mathlib.Core.List.{[], _∷_};
 ghost use Prim.Native.Nat.{_+_, _*_, _≤_, _<_};
 ghost use lib.ListN.{length};
 ghost use lib.Seq.{sets};
+ghost use Rattle.lines.specs.Parts.{lineIn, InLine, StopAt};
 ghost use Rattle.decode_line.specs.Fields.{fieldsFrom};
-ghost use Rattle.decode_line.specs.Answers.{operandTable, OperandRoom, FormIs};
+ghost use Rattle.decode_line.specs.Answers.{operandTable, OperandRoom, AtEnd, FormIs};
 ghost use Rattle.decode_store.specs.Store.{store, Room, Few};
-ghost use Rattle.decode_store.specs.Lines.{LineIs, Stored};
+ghost use Rattle.decode_store.specs.Lines.{noLine, LineIs, LineEnds, Stored};
 use decode_line::Said;
 
 // How many places of the tables are in use.
@@ -26,6 +28,12 @@ pub enum Line {
     Block,
     Instruction(usize),
     Last(usize),
+}
+
+// The same, and where the line ends if it is of some form.
+pub struct LineRead {
+    pub line: Line,
+    pub next: usize,
 }
 
 fn put_row(rows: &mut [u16], r: usize, kind: u16, a: u16, b: u16)
@@ -88,9 +96,9 @@ fn put_line(
     Line::Last(s.count as usize)
 }
 
-// The fields behind a line's first, which ends at f: the rest of the line goes to their reader.
+// The fields behind a line's first, which ends at f: the text from there on goes to their reader, which stops at the line's LF.
 fn read_rest(
-    line: &[u8],
+    text: &[u8],
     f: usize,
     code: usize,
     parts: &mut [u16],
@@ -99,21 +107,24 @@ fn read_rest(
     args: &mut [u16],
     u: Used,
 ) -> Said
-    requires { ⌜ (code < 34) × (f ≤ length (now line)) × (17 * 513 ≤ length (now parts)) × OperandRoom 16400 (length (now operands)) (length (now numbers)) (length (now args)) × Few u ⌝ }
-    ensures { λ r. ⌜ FormIs code (fieldsFrom (now (line .entry)) (f + 1)) (17 * u .rows) (u .operands) (now (parts .entry)) (now (parts .exit)) (operandTable (now (operands .entry)) (now (numbers .entry)) (now (args .entry))) (operandTable (now (operands .exit)) (now (numbers .exit)) (now (args .exit))) r ⌝ }
+    requires { ⌜ (code < 34) × StopAt (now text) f × (17 * 513 ≤ length (now parts)) × OperandRoom 16400 (length (now operands)) (length (now numbers)) (length (now args)) × Few u ⌝ }
+    ensures { λ r. ⌜ FormIs code (fieldsFrom (lineIn (now (text .entry))) (f + 1)) (17 * u .rows) (u .operands) (now (parts .entry)) (now (parts .exit)) (operandTable (now (operands .entry)) (now (numbers .entry)) (now (args .entry))) (operandTable (now (operands .exit)) (now (numbers .exit)) (now (args .exit))) r × AtEnd (now (text .entry)) (r .ok) (f + r .next) ⌝ }
 {
     let p = 17 * u.rows;
     let v = u.operands;
-    if f < line.len() {
-        let b = f + 1;
-        return decode_line::read_form(&line[b..], 0, code, parts, p, operands, numbers, args, v);
-    }
-    decode_line::read_form(&line[f..], 1, code, parts, p, operands, numbers, args, v)
+    decode_line::read_form(&text[f..], 0, code, parts, p, operands, numbers, args, v)
 }
 
-// One line, read into the first places of the tables that are not in use.
+fn no_line() -> LineRead
+    ensures { λ r. ⌜ r ≡ noLine ⌝ }
+{
+    let l = Line::NoForm;
+    LineRead { line: l, next: 0 }
+}
+
+// The first line of the text, read into the first places of the tables that are not in use.
 pub fn read_line(
-    line: &[u8],
+    text: &[u8],
     rows: &mut [u16],
     parts: &mut [u16],
     operands: &mut [u16],
@@ -122,18 +133,22 @@ pub fn read_line(
     instrs: &mut [u16],
     blocks: &mut [u16],
     u: Used,
-) -> Line
-    requires { ⌜ Room (store (now rows) (now parts) (now operands) (now numbers) (now args) (now instrs) (now blocks)) × Few u ⌝ }
-    ensures { λ r. ⌜ LineIs (now (line .entry)) u (store (now (rows .entry)) (now (parts .entry)) (now (operands .entry)) (now (numbers .entry)) (now (args .entry)) (now (instrs .entry)) (now (blocks .entry))) (store (now (rows .exit)) (now (parts .exit)) (now (operands .exit)) (now (numbers .exit)) (now (args .exit)) (now (instrs .exit)) (now (blocks .exit))) r ⌝ }
+) -> LineRead
+    requires { ⌜ Room (store (now rows) (now parts) (now operands) (now numbers) (now args) (now instrs) (now blocks)) × Few u × InLine (now text) 0 ⌝ }
+    ensures { λ r. ⌜ LineIs (lineIn (now (text .entry))) u (store (now (rows .entry)) (now (parts .entry)) (now (operands .entry)) (now (numbers .entry)) (now (args .entry)) (now (instrs .entry)) (now (blocks .entry))) (store (now (rows .exit)) (now (parts .exit)) (now (operands .exit)) (now (numbers .exit)) (now (args .exit)) (now (instrs .exit)) (now (blocks .exit))) (r .line) × LineEnds (now (text .entry)) r ⌝ }
 {
-    let f = fields::field_end(line, 0);
-    let code = fields::name_code(&line[0..f]);
+    let f = lines::field_end(text, 0);
+    let code = fields::name_code(&text[0..f]);
     if 34 <= code {
-        return Line::NoForm;
+        return no_line();
     }
-    let s = read_rest(line, f, code, parts, operands, numbers, args, u);
+    let s = read_rest(text, f, code, parts, operands, numbers, args, u);
     if !s.ok {
-        return Line::NoForm;
+        return no_line();
     }
-    put_line(code, s, rows, instrs, blocks, u)
+    let l = put_line(code, s, rows, instrs, blocks, u);
+    LineRead {
+        line: l,
+        next: f + s.next,
+    }
 }

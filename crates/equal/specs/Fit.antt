@@ -24,6 +24,7 @@ pub record Tabled (τ : RowTable) (args : List ℕ) (m l r : ℕ) : Type 0 where
   pub right : r ≤ top
   pub given : (j : ℕ) → j < m → suc (getD args j 0) ≤ top
 
+-- what arguments add to the sums of a side
 abbrev pub big : ℕ → ℕ
 big zero = 0
 big (suc m) = 68719476736
@@ -36,6 +37,7 @@ Room m by d l = by + d + 65536 * l + big m ≤ 1099511627776
 abbrev pub Spare : ℕ → ℕ → ℕ → ℕ → ℕ → Type 0
 Spare m l r a b = (l + room m < a) × (r < b) × (a ≤ 65536) × (b ≤ 65536)
 
+-- the two sides are the same row in the same context, with no arguments
 pub record AtSame (m by d l by₂ d₂ r : ℕ) : Type 0 where
   pub row : l ≡ r
   pub no-args : m ≡ 0
@@ -44,12 +46,15 @@ pub record AtSame (m by d l by₂ d₂ r : ℕ) : Type 0 where
 
 -- ---- the left row with arguments A, the right row raised only
 module _ (τ : RowTable) (A : List Arg) (by d : ℕ) where
+  -- value row l in its context has the type of value row r, and no argument is of the wrong kind
   unfoldable pub fitValues : ℕ → ℕ → ℕ → ℕ → Bool
   fitValues l by₂ d₂ r = same (valueUnder τ A by d l) (valueUnder τ [] by₂ d₂ r) && meets A d (meanV τ l)
 
+  -- the same of two code rows by their stacks and where their registers start
   unfoldable pub fitCodes : ℕ → ℕ → ℕ → ℕ → ℕ → ℕ → ℕ → ℕ → Bool
   fitCodes l x p by₂ d₂ r y q = same (codeUnder τ A by d l x p) (codeUnder τ [] by₂ d₂ r y q) && meets A d (codeOf τ l x p)
 
+  -- the same of n parts from p and from q on
   unfoldable pub fitParts : Bool → ℕ → ℕ → ℕ → ℕ → ℕ → ℕ → ℕ → Bool
   fitParts file l p by₂ d₂ r q n = same (partsUnder τ A by d file l p n) (partsUnder τ [] by₂ d₂ file r q n) && meets A d (partsOf (meanV τ) (τ .parts) file l p n)
 
@@ -59,11 +64,13 @@ module _ (τ : RowTable) (A : List Arg) (by d : ℕ) where
 
 -- ---- stacks under way: i entries pending on the left, j on the right
 module _ (τ : RowTable) (A : List Arg) (by d by₂ d₂ : ℕ) where
+  -- what is pending on both sides has the same items, and no argument is of the wrong kind
   unfoldable pub fitPending : List ℕ → ℕ → List ℕ → ℕ → Bool
   fitPending ls i rs j = same (pendingType τ A by d ls i) (pendingType τ [] by₂ d₂ rs j) && pendingMeets τ A d ls i
 
 -- what is said of them by the next items; ls₂ and rs₂ are the entries then
 module _ (τ : RowTable) (A : List Arg) (m by d by₂ d₂ : ℕ) (ls : List ℕ) (i : ℕ) (rs : List ℕ) (j : ℕ) (ls₂ rs₂ : List ℕ) where
+  -- by each answer of the code
   abbrev pub DuoIs : Duo → Type 0
   DuoIs Over = fitPending τ A by d by₂ d₂ ls i rs j ≡ true
   DuoIs Unlike = fitPending τ A by d by₂ d₂ ls i rs j ≡ false
@@ -76,6 +83,7 @@ module _ (τ : RowTable) (A : List Arg) (m by d by₂ d₂ : ℕ) (ls : List ℕ
       × ((l : ℕ) → Pends m l ls i → (0 < m) × (t < 514) × (n + t ≤ 514 + l)) × ((r : ℕ) → Pends 0 r rs j → o + u ≤ r)
 
 -- ---- filling
+-- u is the type, if there is one
 unfoldable pub isFull : Ty value → Option (Ty value) → Bool
 isFull u none = false
 isFull u (some t) = same u t

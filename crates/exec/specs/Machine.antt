@@ -19,15 +19,19 @@ pub record Word : Type 0 where
 abbrev pub intKind : ℕ
 intKind = 0
 
+-- the kind of a label
 abbrev pub codeKind : ℕ
 codeKind = 1
 
+-- the kind of a tuple handle
 abbrev pub tupleKind : ℕ
 tupleKind = 2
 
+-- the kind of a stack height
 abbrev pub heightKind : ℕ
 heightKind = 3
 
+-- the kind of junk
 abbrev pub junkKind : ℕ
 junkKind = 4
 
@@ -35,12 +39,15 @@ junkKind = 4
 abbrev pub integer : ℕ → Word
 integer n = record { kind = intKind; number = n }
 
+-- label l
 abbrev pub label : ℕ → Word
 label l = record { kind = codeKind; number = l }
 
+-- the handle of the tuple whose first heap word is a
 abbrev pub handle : ℕ → Word
 handle a = record { kind = tupleKind; number = a }
 
+-- stack height p
 abbrev pub height : ℕ → Word
 height p = record { kind = heightKind; number = p }
 
@@ -85,6 +92,7 @@ pub record State : Type 0 where
 abbrev pub stackLimit : ℕ
 stackLimit = 256
 
+-- "2,048 heap words"
 abbrev pub heapLimit : ℕ
 heapLimit = 2048
 

@@ -27,6 +27,7 @@ pub fn start(
     let mut numbers = [0u32; 16400];
     let mut instrs = [0u16; 8200];
     let mut blocks = [0u16; 130];
+    let mut plan = [0u32; 8200];
     let r = ready::make_ready(text, &mut operands, &mut numbers, &mut instrs, &mut blocks);
     let fault = r.fault;
     if fault != 0 {
@@ -41,6 +42,7 @@ pub fn start(
         &blocks,
         r.instrs,
         r.blocks,
+        &mut plan,
         rk,
         rn,
         sk,
@@ -70,6 +72,7 @@ pub fn resume(
     let mut numbers = [0u32; 16400];
     let mut instrs = [0u16; 8200];
     let mut blocks = [0u16; 130];
+    let mut plan = [0u32; 8200];
     let r = ready::make_ready(text, &mut operands, &mut numbers, &mut instrs, &mut blocks);
     let fault = r.fault;
     if fault != 0 {
@@ -82,6 +85,7 @@ pub fn resume(
         &blocks,
         r.instrs,
         r.blocks,
+        &mut plan,
         rk,
         rn,
         sk,

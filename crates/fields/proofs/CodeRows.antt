@@ -15,11 +15,11 @@ use borrow.Author.Tests.{eq-eqb, ne-eqb, le-leb, lt-leb, leb-true}
 use Rattle.syntax.specs.Partial.{bind, when}
 use Rattle.syntax.specs.Syntax.{Kind, value, stack}
 use Rattle.text.specs.Bytes.{bytes, sameBytes}
-use Rattle.text.specs.Grammar.{rowNumber, letter, eachLetter, letters, known}
-use Rattle.tables.specs.Tables.{span, letterOf, knownOf}
+use Rattle.text.specs.Grammar.{letter, eachLetter, letters}
+use Rattle.tables.specs.Tables.{span, letterOf}
 use Rattle.numbers.proofs.Laws.{row-small}
 use Rattle.fields.proofs.Stores.{span-sets}
-use Rattle.fields.specs.Answers.{countOf, kindCode, codesOf, knownFrom}
+use Rattle.fields.specs.Answers.{countOf, kindCode, codesOf}
 use Rattle.fields.specs.Pieces.{letterCode, allLetters, wordCount}
 
 and-true : (b : Bool) → (b && true) ≡ b
@@ -226,23 +226,6 @@ code-back (stack ∷ l) = ap (λ (q : List Kind). stack ∷ q) (code-back l)
 pub letters-back : (q : List Kind) → reverse (map letterOf (codesOf (some q))) ≡ q
 unfolding codesOf
 letters-back q = ap reverse (code-back (reverse q)) ∙ reverse-reverse q
-
--- ---- a register's row
-known-dash : (f : List ℕ) → sameBytes f (bytes "-") ≡ true → some none ≡ known f
-unfolding known
-known-dash f e = simp e
-
-pub known-nothing : (f : List ℕ) → sameBytes f (bytes "-") ≡ true → knownFrom (some 0) ≡ known f
-unfolding knownFrom knownOf
-known-nothing f e = known-dash f e
-
-pub known-row : (f : List ℕ) (t : ℕ) → sameBytes f (bytes "-") ≡ false → rowNumber f ≡ some t → knownFrom (some (t + 1)) ≡ known f
-unfolding knownFrom knownOf known
-known-row f t d e = simp (d, e, add-one)
-
-pub known-bad : (f : List ℕ) → sameBytes f (bytes "-") ≡ false → rowNumber f ≡ none → knownFrom none ≡ known f
-unfolding knownFrom known
-known-bad f d e = simp (d, e)
 
 -- for callers: what is written, where there is room, and bounds
 word-few : (o : Option (List Kind)) (n : ℕ) → bind o (λ q. when (sized q) (length q)) ≡ some n → n ≤ 8

@@ -1,5 +1,5 @@
-pub mod Fields
 pub mod Names
 pub mod Stores
 pub mod CodeRows
 pub mod Operands
+pub mod PlacedLaws

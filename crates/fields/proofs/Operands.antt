@@ -327,7 +327,7 @@ digit-high : (b : ℕ) → isDigit b ≡ true → b ≤ 57
 unfolding isDigit
 digit-high b e = leb-true b 57 (and-right (leb 48 b) (leb b 57) e)
 
-digits-whole : (s : List ℕ) → allDigits s ≡ true → split 61 s ≡ s ∷ []
+pub digits-whole : (s : List ℕ) → allDigits s ≡ true → split 61 s ≡ s ∷ []
 unfolding split allDigits
 digits-whole [] e = refl
 digits-whole (b ∷ s) e =
@@ -341,7 +341,7 @@ decimal-digits [] e = absurd (true≢false (sym e))
 decimal-digits (b ∷ []) e = ap (λ (x : Bool). x && true) e
 decimal-digits (b ∷ c ∷ s) e = and-right (not (eqb b 48)) (isDigit b && (isDigit c && allDigits s)) e
 
-number-digits : (low high : ℕ) (s : List ℕ) (n : ℕ) → number low high s ≡ some n → allDigits s ≡ true
+pub number-digits : (low high : ℕ) (s : List ℕ) (n : ℕ) → number low high s ≡ some n → allDigits s ≡ true
 unfolding number
 number-digits low high s n e = decimal-digits s (go (isDecimal s) refl)
   where
@@ -402,9 +402,3 @@ literal-operand (b ∷ s) n e = go (eqb b 45) refl
         let k : number 0 (half - 1) (b ∷ s) ≡ some n = sym (digits-literal b s g) ∙ e in
         let d = number-digits 0 (half - 1) (b ∷ s) n k in
         plain-literal (b ∷ s) n e (digits-whole (b ∷ s) d) (digit-carrier b s d)
-
-pub literal-is : (f : List ℕ) (n : ℕ) (l : List ℕ) (at : ℕ) → literal f ≡ some n → OperandIs (operand f) l at (record { kind = 1; number = n; count = 0; row = 0 }) l
-unfolding answerOf argsOf
-literal-is f n l at e =
-    let q = literal-operand f n e in
-    record { answer = sym (ap answerOf q); stored = sym (ap (λ (o : Option Operand). sets l at (argsOf o)) q) }

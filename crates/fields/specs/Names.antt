@@ -1,15 +1,10 @@
 -- The fields of a line, and the place of the first among the forms of crate text.
 use Prim.Native.Nat.{ℕ, zero, suc}
-use Prim.Native.Char.{code}
 use mathlib.Core.Bool.{cond}
 use mathlib.Core.Option.{none}
 use mathlib.Core.List.{List, [], _∷_}
 use Rattle.text.specs.Bytes.{bytes, sameBytes}
 use Rattle.text.specs.Grammar.{Named, Form, forms}
-
--- what parts the fields of a line
-abbrev pub comma : ℕ
-comma = code ","
 
 -- the place of the first form of that name; their count where there is none
 unfoldable pub placeOf : List Named → List ℕ → ℕ

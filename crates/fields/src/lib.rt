@@ -1,20 +1,24 @@
-// The fields of a line: where a field ends, the code of the line's first field, and readers of the fields that hold
-// more than a number: a code row's letters and registers, and operands.
+// The fields of a line: the code of the line's first field, and readers of the fields that hold more than a number: a code
+// row's letters, and operands.
 // Promises: each answer, and what is written into lent memory, is what crate text says of the field, on every input;
 // a reader takes the field alone, as a part of the caller's line, and nothing is written past the end of what is lent.
+// `operand_at` takes a place of the line instead, and reads a plain operand in one walk up to the byte that ends it.
 ghost use mathlib.Core.Path.{_≡_};
+ghost use mathlib.Core.Bool.{cond};
 ghost use mathlib.Core.List.{[], _∷_, map, reverse};
 ghost use mathlib.Core.Option.{none};
-ghost use Prim.Native.Nat.{_+_, _≤_};
+ghost use Prim.Native.Nat.{_+_, _-_, _≤_};
+ghost use lib.Dec.{eqb, ltb};
 ghost use lib.ListN.{length, take, drop};
 ghost use lib.Seq.{sets};
+ghost use Rattle.syntax.specs.Bits.{modulus};
 ghost use Rattle.text.specs.Bytes.{bytes, sameBytes, split};
-ghost use Rattle.text.specs.Grammar.{forms, known, letters, rowNumber, carrier, carried, fromParts, operand};
-ghost use Rattle.lines.specs.Parts.{firstPart};
+ghost use Rattle.text.specs.Grammar.{forms, letters, rowNumber, carrier, carried, fromParts, operand};
+ghost use Rattle.lines.specs.Parts.{InLine};
 ghost use Rattle.numbers.specs.Numbers.{numberOf};
-ghost use Rattle.fields.specs.Answers.{knownFrom, countOf, codesOf, answerOf, OperandIs};
-ghost use Rattle.fields.specs.Pieces.{colon, allLetters, letterCode, wordCount, plainRead, asPlain, isSome, orZero, rowCount, rowsIn, packed, keysOf, keyPlace};
-ghost use Rattle.fields.specs.Names.{comma, nameCode};
+ghost use Rattle.fields.specs.Answers.{countOf, codesOf, answerOf, OperandIs, OperandAt, PlainAt};
+ghost use Rattle.fields.specs.Pieces.{colon, allLetters, letterCode, wordCount, plainRead, asPlain, isSome, orZero, rowCount, rowsIn, packed, keysOf, keyPlace, skipOf, lowOf, highOf, kindOf, valueOf};
+ghost use Rattle.fields.specs.Names.{nameCode};
 use numbers::Number;
 
 // An operand's answer: its base's kind (0 register, 1 literal, 2 label; 3 where the field is no operand) and number, the
@@ -26,22 +30,10 @@ pub struct OperandRead {
     pub row: u16,
 }
 
-// Where the field that starts at `at` ends: at the next comma, or at the end of the line. Past the end: `at` itself.
-pub fn field_end(line: &[u8], at: usize) -> usize
-    ensures { λ r. ⌜ r ≡ at + length (firstPart comma (drop at (now (line .entry)))) ⌝ }
-{
-    lines::part_end(line, at, b',')
-}
-
-// The field that starts at `at`, as a part of the line; past the end: empty.
-pub fn field(line: &[u8], at: usize) -> &[u8]
-    ensures { λ r. ⌜ now r ≡ firstPart comma (drop at (now (line .entry))) ⌝ }
-{
-    if line.len() < at {
-        return &line[0..0];
-    }
-    let e = field_end(line, at);
-    &line[at..e]
+// The same, read from a place of a line on, and where its field ends.
+pub struct Placed {
+    pub read: OperandRead,
+    pub next: usize,
 }
 
 // The byte as a wider number.
@@ -140,19 +132,6 @@ fn is_dash(f: &[u8]) -> bool
         return f[0] == b'-';
     }
     false
-}
-
-// A register's row: 0 for `-`, else one more than the row.
-pub fn known(f: &[u8]) -> Number
-    ensures { λ r. ⌜ knownFrom (numberOf r) ≡ known (now (f .entry)) ⌝ }
-{
-    if is_dash(f) {
-        return Number::Value(0);
-    }
-    match numbers::row_number(f) {
-        Number::Value(t) => Number::Value(t + 1),
-        Number::Bad => Number::Bad,
-    }
 }
 
 // Each byte is a letter v or s.
@@ -384,17 +363,120 @@ fn any_operand(f: &[u8], out: &mut [u16], at: usize) -> OperandRead
     carried(&f[0..e], t, out, at)
 }
 
-// The same; a literal, which has no `=`, is read at once.
-pub fn operand(f: &[u8], out: &mut [u16], at: usize) -> OperandRead
-    ensures { λ r. ⌜ OperandIs (operand (now (f .entry))) (now (out .entry)) at r (now (out .exit)) ⌝ }
+// 1 if the byte is c, else 0.
+fn one_if(b: u8, c: u8) -> u32
+    ensures { λ r. ⌜ (r ≡ cond (eqb b c) 1 0) × (r ≤ 1) ⌝ }
 {
-    match numbers::literal(f) {
-        Number::Value(v) => OperandRead {
-            kind: 1,
-            number: v,
-            count: 0,
-            row: 0,
-        },
-        Number::Bad => any_operand(f, out, at),
+    if b == c {
+        return 1;
     }
+    0
+}
+
+// By the first byte of a plain operand, `r`, `#`, a minus sign or a digit: how many bytes stand before its number.
+fn skip_of(b: u8) -> usize
+    ensures { λ r. ⌜ r ≡ skipOf b ⌝ }
+{
+    (one_if(b, b'r') + one_if(b, b'#') + one_if(b, b'-')) as usize
+}
+
+// The least number that may follow.
+fn low_of(b: u8) -> u32
+    ensures { λ r. ⌜ r ≡ lowOf b ⌝ }
+{
+    one_if(b, b'r') + one_if(b, b'-')
+}
+
+// The greatest, and for a literal one more where it has no minus sign.
+fn high_of(b: u8) -> u32
+    ensures { λ r. ⌜ r ≡ highOf b ⌝ }
+{
+    if b == b'r' {
+        return 8;
+    }
+    if b == b'#' {
+        return 63;
+    }
+    2147483648
+}
+
+// The literal v, behind the byte b, is too great.
+fn over(b: u8, v: u32) -> bool
+    ensures { λ r. ⌜ r ≡ ltb (2147483647 + cond (eqb b 45) 1 0) v ⌝ }
+{
+    2147483647 + one_if(b, b'-') < v
+}
+
+// The operand's kind.
+fn kind_of(b: u8) -> u16
+    ensures { λ r. ⌜ r ≡ kindOf b ⌝ }
+{
+    if b == b'r' {
+        return 0;
+    }
+    if b == b'#' {
+        return 2;
+    }
+    1
+}
+
+// The number behind a minus sign, as bits.
+fn signed(b: u8, v: u32) -> u32
+    requires { ⌜ lowOf b ≤ v ⌝ }
+    ensures { λ r. ⌜ r ≡ cond (eqb b 45) (modulus - v) v ⌝ }
+{
+    if b == b'-' {
+        return 4294967295 - (v - 1);
+    }
+    v
+}
+
+// What the number v stands for.
+fn value_of(b: u8, v: u32) -> u32
+    requires { ⌜ lowOf b ≤ v ⌝ }
+    ensures { λ r. ⌜ r ≡ valueOf b v ⌝ }
+{
+    signed(b, v) - one_if(b, b'r')
+}
+
+// The plain operand whose field starts at `at`; none where the field is no plain operand.
+fn plain_at(s: &[u8], at: usize) -> Placed
+    requires { ⌜ InLine (now s) at ⌝ }
+    ensures { λ r. ⌜ PlainAt (now (s .entry)) at r ⌝ }
+{
+    let b = s[at];
+    let k = at + skip_of(b);
+    let x = numbers::number_at(s, k, low_of(b), high_of(b));
+    if !x.ok {
+        let o = no_operand();
+        return Placed { read: o, next: at };
+    }
+    if over(b, x.value) {
+        let o = no_operand();
+        return Placed { read: o, next: at };
+    }
+    let o = OperandRead {
+        kind: kind_of(b),
+        number: value_of(b, x.value),
+        count: 0,
+        row: 0,
+    };
+    Placed {
+        read: o,
+        next: x.next,
+    }
+}
+
+// The operand whose field starts at `at`; its arguments as above.
+pub fn operand_at(s: &[u8], at: usize, out: &mut [u16], to: usize) -> Placed
+    requires { ⌜ InLine (now s) at ⌝ }
+    ensures { λ r. ⌜ OperandAt (now (s .entry)) at (now (out .entry)) to r (now (out .exit)) ⌝ }
+{
+    let p = plain_at(s, at);
+    if p.read.kind < 3 {
+        return p;
+    }
+    let e = lines::field_end(s, at);
+    let o = any_operand(&s[at..e], out, to);
+    Placed { read: o, next: e }
 }

@@ -8,7 +8,7 @@ use mathlib.Core.List.{List, []}
 use Rattle.syntax.specs.Partial.{when}
 use Rattle.syntax.specs.Syntax.{Kind, value, stack, Operand, Arith, aop, malloc}
 use Rattle.syntax.specs.Fault.{fault}
-use Rattle.syntax.proofs.Least.{least}
+use Rattle.syntax.proofs.Least.{least, least-none}
 use Rattle.types.specs.Types.{Ty, int, tuple, Arg}
 use Rattle.types.specs.Rows.{typeAt}
 use Rattle.types.specs.Equal.{same}
@@ -25,6 +25,8 @@ use Rattle.context.specs.Told.{toldOf, answer}
 use Rattle.typing.specs.Typing.{typesIn, Ready}
 use Rattle.typing.proofs.Judging.{told-when, told-next, stops, aop-stops, aop-goes, malloc-stops, malloc-differs, malloc-goes}
 use Rattle.judge_heap.specs.Forms.{held}
+use Rattle.operands.specs.Operands.{Makes}
+use Rattle.types.proofs.Equal.{same-refl}
 
 -- ---- the integer type
 pub int-type : (rows parts : List ℕ) (n : ℕ) → Ready rows parts n → typeAt value (typesIn rows parts n) n ≡ int
@@ -61,3 +63,11 @@ module _ (P : Program) (Δ : List Kind) (Γ : Context) where
 
       pub makes : (k : ℕ) (Γ′ : Context) → b ≡ true → toldOf (assign P Δ Γ d u) ≡ answer k Γ′ → toldOf (judge P Δ Γ (malloc d t vs)) ≡ answer k Γ′
       makes k Γ′ n a = malloc-goes P Δ Γ d t vs f g k c Γ′ p q (sym e ∙ z) (sym (eb ∙ ap (λ (x : Ty value). same x (tuple c)) eu) ∙ n) (rw eu at a)
+
+  -- operands seen at once to make the tuple u
+  module _ (d t : ℕ) (vs : List Operand) (f : ℕ) (u : Ty value) (p : toldOf (formed P Δ t) ≡ answer f tt) (m : Makes P Δ (Γ .regs) vs u) where
+    pub sees-none : (Γ′ : Context) → (f ≡ 0 → ⊥) → toldOf (judge P Δ Γ (malloc d t vs)) ≡ answer f Γ′
+    sees-none Γ′ n = makes-none d t vs f 0 f (m .parts) p (m .told) (sym (least-none f)) Γ′ n
+
+    pub sees : (k : ℕ) (Γ′ : Context) → f ≡ 0 → u ≡ typeOf P t → toldOf (assign P Δ Γ d u) ≡ answer k Γ′ → toldOf (judge P Δ Γ (malloc d t vs)) ≡ answer k Γ′
+    sees k Γ′ z eu a = makes d t vs f 0 f (m .parts) p (m .told) (sym (least-none f)) u true z eu (sym (ap (λ (x : Ty value). same x (tuple (m .parts))) (m .whole) ∙ same-refl (tuple (m .parts)))) k Γ′ refl a

@@ -123,8 +123,8 @@ pub fn move_to(
     judge_heap::set_register(regs, d, w.row)
 }
 
-// malloc d t v .. v + c - 1
-pub fn make_tuple(
+// malloc d t v .. v + c - 1, its operands listed
+fn make_listed(
     rows: &[u16],
     parts: &[u16],
     n: usize,
@@ -176,4 +176,58 @@ pub fn make_tuple(
         return judge_heap::set_register(regs, d, r);
     }
     10
+}
+
+// malloc d t v .. v + c - 1
+pub fn make_tuple(
+    rows: &[u16],
+    parts: &[u16],
+    n: usize,
+    uses: &[u8],
+    tops: &[u16],
+    blocks: &[u16],
+    nb: usize,
+    operands: &[u16],
+    numbers: &[u32],
+    args: &[u16],
+    v: usize,
+    c: usize,
+    q: usize,
+    l: usize,
+    regs: &mut [u16],
+    back: &mut [u16],
+    d: usize,
+    t: usize,
+) -> usize
+    requires { ⌜ Ready (now rows) (now parts) n × Scoped (tab (now rows) (now parts)) n (now uses) (now tops) × AllShort (operandsAt (operandTable (now operands) (now numbers) (now args)) v c) × (v + c ≤ 131072) × (c ≤ 16) × (8 ≤ length (now regs)) × (8 ≤ length (now back)) ⌝ }
+    ensures { λ out. ⌜ InFile (now (rows .entry)) (now (parts .entry)) n (now (blocks .entry)) nb (map letterOf (span (now (parts .entry)) l q)) (now (regs .entry)) (now (regs .exit)) out (malloc d t (operandsAt (operandTable (now (operands .entry)) (now (numbers .entry)) (now (args .entry))) v c)) ⌝ }
+{
+    let r = typing::given_row(n, t);
+    if !operands::plain_tuple(rows, parts, n, blocks, nb, operands, numbers, v, c, regs, r) {
+        return make_listed(
+            rows,
+            parts,
+            n,
+            uses,
+            tops,
+            blocks,
+            nb,
+            operands,
+            numbers,
+            args,
+            v,
+            c,
+            q,
+            l,
+            regs,
+            back,
+            d,
+            t,
+        );
+    }
+    let f = typing::formed_row(rows, parts, n, uses, tops, t, q, l);
+    if f != 0 {
+        return f;
+    }
+    judge_heap::set_register(regs, d, r)
 }

@@ -9,6 +9,7 @@ use Rattle.launch.specs.declared.Answer.{Answer}
 use Rattle.launch.specs.declared.Answer.the-variants.{Refused, Halted, Paused, StackFull, HeapFull, Stuck}
 use Rattle.launch.specs.declared.Outcome.{Outcome}
 
+-- the code's answer, as crate exec's
 abbrev pub answerIs : Answer → exec.Answer
 answerIs (Refused n line) = refused n line
 answerIs (Halted steps k n) = haltedAfter steps k n
@@ -21,5 +22,6 @@ answerIs (Stuck steps) = stuckAfter steps
 abbrev pub outcomeIs : Outcome → List ℕ → List ℕ → List ℕ → List ℕ → List ℕ → List ℕ → exec.Outcome
 outcomeIs r rk rn sk sn hk hn = record { answer = answerIs (r .answer); state = stateOf rk rn sk sn hk hn (r .place) }
 
+-- a refusal with fault n on that line, at the place p, which is kept
 abbrev pub refusedAt : ℕ → ℕ → Place → Outcome
 refusedAt n line p = record { answer = Refused n line; place = p }

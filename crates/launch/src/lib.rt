@@ -1,18 +1,20 @@
 // Runs of a program that stands in the tables: `start_ready` reads the samples and starts, `resume_ready` looks at the lent state and
 // goes on. Promised: the answer and the whole lent state, as `startOn` and `continueUnless` of crate exec have them, for each program
-// that the tables represent. A refusal changes nothing that is lent.
+// that the tables represent. A refusal changes nothing of the state that is lent. Asked: tables that fit the machine, and `plan`, which
+// is to hold the machine's own rows, long enough for 1,025 of them.
 // rk and rn are the registers' kinds and numbers, sk and sn the stack's, hk and hn the heap's.
 ghost use mathlib.Core.Path.{_≡_};
 ghost use mathlib.Core.List.{List};
 ghost use mathlib.Core.Option.{none};
 ghost use Prim.Native.Nat.{ℕ, _≤_};
+ghost use lib.ListN.{length};
 ghost use Rattle.text.specs.Samples.{samplesOf};
 ghost use Rattle.valid.specs.Program.{Program};
 ghost use Rattle.exec.specs.Machine.{Bodies, at};
 ghost use Rattle.exec.specs.Run.{stopped, answerOf, outcome, run, budget, bodies, wanted, startOn, continueUnless};
 ghost use Rattle.memory.specs.Lent.{lent};
 ghost use Rattle.machine.specs.Step.{tables, stateOf, stopIs};
-ghost use Rattle.machine.specs.Represents.{Represents};
+ghost use Rattle.machine.specs.Represents.{Represents, Fit};
 ghost use Rattle.runner.specs.Runs.{ranIs};
 ghost use Rattle.launch.specs.Answers.{answerIs, outcomeIs, refusedAt};
 use machine::Place;
@@ -89,6 +91,7 @@ fn run_from(
     blocks: &[u16],
     count: usize,
     labels: usize,
+    plan: &mut [u32],
     rk: &mut [u8],
     rn: &mut [u32],
     sk: &mut [u8],
@@ -98,6 +101,7 @@ fn run_from(
     p: Place,
     m: usize,
 ) -> Outcome
+    requires { ⌜ Fit (tables (now instrs) (now operands) (now bases) (now blocks) count labels) × (8200 ≤ length (now plan)) × (8 ≤ length (now rk)) × (8 ≤ length (now rn)) × (256 ≤ length (now sk)) × (256 ≤ length (now sn)) × (p .depth ≤ 256) × (p .used ≤ 2048) × (p .position ≤ count) ⌝ }
     ensures { λ r. ⌜ ((args : List ℕ) (P : Bodies) → Represents (tables (now (instrs .entry)) (now (operands .entry)) (now (bases .entry)) (now (blocks .entry)) count labels) args P → outcomeIs r (now (rk .exit)) (now (rn .exit)) (now (sk .exit)) (now (sn .exit)) (now (hk .exit)) (now (hn .exit)) ≡ outcome (run P (budget m) (stateOf (now (rk .entry)) (now (rn .entry)) (now (sk .entry)) (now (sn .entry)) (now (hk .entry)) (now (hn .entry)) p))) ⌝ }
 {
     let ran = runner::run(
@@ -107,6 +111,7 @@ fn run_from(
         blocks,
         count,
         labels,
+        plan,
         rk,
         rn,
         sk,
@@ -129,6 +134,7 @@ pub fn start_ready(
     blocks: &[u16],
     count: usize,
     labels: usize,
+    plan: &mut [u32],
     rk: &mut [u8],
     rn: &mut [u32],
     sk: &mut [u8],
@@ -138,7 +144,7 @@ pub fn start_ready(
     place: Place,
     m: usize,
 ) -> Outcome
-    requires { ⌜ want ≤ 16 ⌝ }
+    requires { ⌜ (want ≤ 16) × Fit (tables (now instrs) (now operands) (now bases) (now blocks) count labels) × (8200 ≤ length (now plan)) ⌝ }
     ensures { λ r. ⌜ ((args : List ℕ) (P : Program) → Represents (tables (now (instrs .entry)) (now (operands .entry)) (now (bases .entry)) (now (blocks .entry)) count labels) args (bodies P) → want ≡ wanted (P .blocks) → outcomeIs r (now (rk .exit)) (now (rn .exit)) (now (sk .exit)) (now (sn .exit)) (now (hk .exit)) (now (hn .exit)) ≡ startOn P (samplesOf (now (samples .entry))) m (stateOf (now (rk .entry)) (now (rn .entry)) (now (sk .entry)) (now (sn .entry)) (now (hk .entry)) (now (hn .entry)) place)) ⌝ }
 {
     let mut xs = [0u32; 16];
@@ -156,6 +162,7 @@ pub fn start_ready(
         blocks,
         count,
         labels,
+        plan,
         rk,
         rn,
         sk,
@@ -175,6 +182,7 @@ pub fn resume_ready(
     blocks: &[u16],
     count: usize,
     labels: usize,
+    plan: &mut [u32],
     rk: &mut [u8],
     rn: &mut [u32],
     sk: &mut [u8],
@@ -184,6 +192,7 @@ pub fn resume_ready(
     place: Place,
     m: usize,
 ) -> Outcome
+    requires { ⌜ Fit (tables (now instrs) (now operands) (now bases) (now blocks) count labels) × (8200 ≤ length (now plan)) ⌝ }
     ensures { λ r. ⌜ ((args : List ℕ) (P : Program) → Represents (tables (now (instrs .entry)) (now (operands .entry)) (now (bases .entry)) (now (blocks .entry)) count labels) args (bodies P) → outcomeIs r (now (rk .exit)) (now (rn .exit)) (now (sk .exit)) (now (sn .exit)) (now (hk .exit)) (now (hn .exit)) ≡ continueUnless none P m (stateOf (now (rk .entry)) (now (rn .entry)) (now (sk .entry)) (now (sn .entry)) (now (hk .entry)) (now (hn .entry)) place)) ⌝ }
 {
     if !good_form::good_form(count, rk, rn, sk, sn, hk, hn, place) {
@@ -196,6 +205,7 @@ pub fn resume_ready(
         blocks,
         count,
         labels,
+        plan,
         rk,
         rn,
         sk,

@@ -1,5 +1,5 @@
 -- Where the parts and the lines of a text stand, by the definitions of crate text.
-use Prim.Native.Nat.{ℕ, _<_, _≤_}
+use Prim.Native.Nat.{ℕ, _+_, _-_, _<_, _≤_}
 use Prim.Native.Char.{code}
 use mathlib.Core.Path.{_≡_}
 use mathlib.Core.List.{List, [], _∷_, map}
@@ -35,3 +35,32 @@ pub record NextLine (text : List ℕ) (at r : ℕ) : Type 0 where
   pub within : r ≤ length text
   pub moves : at < length text → at < r
   pub others : linesOf (drop r text) ≡ drop 1 (linesOf (drop at text))
+
+-- the text behind r has no LF, and r is behind one or 0
+pub record LastEnd (text : List ℕ) (r : ℕ) : Type 0 where
+  pub within : r ≤ length text
+  pub ended : 0 < r → getD text (r - 1) 0 ≡ lf
+  pub rest : r + length (firstPart lf (drop r text)) ≡ length text
+
+-- ---- the first line and its fields
+-- what parts the fields of a line
+abbrev pub comma : ℕ
+comma = code ","
+
+-- the first line, without its LF
+abbrev pub lineIn : List ℕ → List ℕ
+lineIn s = firstPart lf s
+
+-- its field that starts at `at`
+abbrev pub fieldIn : List ℕ → ℕ → List ℕ
+fieldIn s at = firstPart comma (drop at (lineIn s))
+
+-- `at` is a place of the first line or that of its LF, and there is one
+pub record InLine (s : List ℕ) (at : ℕ) : Type 0 where
+  pub within : at ≤ length (lineIn s)
+  pub ended : length (lineIn s) < length s
+
+-- the byte at `at` is a comma of the first line or its LF
+pub record StopAt (s : List ℕ) (at : ℕ) : Type 0 where
+  pub place : InLine s at
+  pub stops : at < length (lineIn s) → getD s at 0 ≡ comma

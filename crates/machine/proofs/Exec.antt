@@ -17,9 +17,7 @@ use Rattle.arith.specs.Codes.{arithOf, branchOf}
 use Rattle.memory.specs.Lent.{lent, operandTable, tupleOf}
 use Rattle.machine.specs.declared.Stop.{Stop as Reason}
 use Rattle.machine.specs.declared.Stop.the-variants.{Halted, StackFull, HeapFull, Stuck}
-use Rattle.machine.specs.declared.Next.{Next}
-use Rattle.machine.specs.declared.Next.the-variants.{Go, Register, Stack, Heap, Depth, Junk, Tuple, End}
-use Rattle.machine.specs.Step.{Tables, operandsOf, given, provided, nextArith, nextJump, nextBranch, nextLoad, nextStore, nextTuple, nextCut, nextPush, nextPop, nextRead, nextWrite, nextReadThrough, nextWriteThrough, nextOf, nextAt, resultOf, stepAt}
+use Rattle.machine.specs.Step.{Tables, operandsOf, given, provided, nextArith, nextJump, nextBranch, nextLoad, nextStore, nextTuple, nextCut, nextPush, nextPop, nextRead, nextWrite, nextReadThrough, nextWriteThrough, nextOf, nextAt, resultOf, stepAt, Next, Go, Register, Stack, Heap, Depth, Junk, Tuple, End}
 use Rattle.machine.specs.Represents.{Represents}
 use Rattle.machine.proofs.Codes.{is-arith, is-branch, is-mov, is-ld, is-st, is-malloc, is-getsp, is-setsp, is-salloc, is-sfree, is-sld, is-sst, is-slp, is-ssp, is-jmp, is-halt}
 use Rattle.machine.proofs.Forms.{length-operands}

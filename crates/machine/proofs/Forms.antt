@@ -15,9 +15,7 @@ use Rattle.arith.specs.Codes.{arithOf, branchOf}
 use Rattle.memory.specs.declared.Word.{Word as Pair}
 use Rattle.memory.specs.Lent.{wordIs, operandTable}
 use Rattle.machine.specs.declared.Stop.the-variants.{Halted, Stuck}
-use Rattle.machine.specs.declared.Next.{Next}
-use Rattle.machine.specs.declared.Next.the-variants.{Register, End}
-use Rattle.machine.specs.Step.{Tables, tables, pair, nextArith, nextJump, nextBranch, nextLoad, nextStore, nextTuple, nextCut, nextPush, nextPop, nextRead, nextWrite, nextReadThrough, nextWriteThrough, nextOf, nextAt}
+use Rattle.machine.specs.Step.{Tables, tables, pair, nextArith, nextJump, nextBranch, nextLoad, nextStore, nextTuple, nextCut, nextPush, nextPop, nextRead, nextWrite, nextReadThrough, nextWriteThrough, nextOf, nextAt, Next, Register, End}
 use Rattle.machine.proofs.Codes.{is-arith, is-branch, is-mov, is-ld, is-st, is-malloc, is-getsp, is-setsp, is-salloc, is-sfree, is-sld, is-sst, is-slp, is-ssp, is-jmp, is-halt}
 
 pub length-operands : (ω : OperandTable) (v n : ℕ) → length (operandsAt ω v n) ≡ n

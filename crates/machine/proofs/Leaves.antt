@@ -1,20 +1,16 @@
 -- What each function for an instruction answers, by the tests that it makes. `w` is a word that the code read, and `e` says which.
-use mathlib.Core.Path.{_≡_, refl, ap, ap₂, sym, _∙_}
-use mathlib.Core.Bool.{Bool, true, false, _&&_}
+use mathlib.Core.Path.{_≡_, ap, ap₂, sym, _∙_}
 use mathlib.Core.List.{List}
 use Prim.Native.Nat.{ℕ, suc, _+_, _-_, _<_, _≤_}
 use native.Mathlib.Omega.{arith}
-use lib.Dec.{leb, ltb, eqb}
 use borrow.Author.Tests.{lt-ltb, le-ltb, le-leb, lt-leb, eq-eqb, ne-eqb}
-use Rattle.syntax.specs.Syntax.{Operand, Arith, Branch}
-use Rattle.exec.specs.Machine.{Word, Memory, at, componentAt, compute, signOf, taken, wordOf}
+use Rattle.syntax.specs.Syntax.{Operand, Arith}
+use Rattle.exec.specs.Machine.{Memory, at, componentAt, compute, wordOf}
 use Rattle.tables.specs.Tables.{cell}
 use Rattle.memory.specs.declared.Word.{Word as Pair}
 use Rattle.memory.specs.Lent.{wordIs}
 use Rattle.machine.specs.declared.Stop.the-variants.{StackFull, HeapFull, Stuck}
-use Rattle.machine.specs.declared.Next.{Next}
-use Rattle.machine.specs.declared.Next.the-variants.{Go, Register, Stack, Heap, Depth, Junk, Tuple, End}
-use Rattle.machine.specs.Step.{pair, given, provided, nextArith, nextJump, nextBranch, nextLoad, nextStore, nextTuple, nextCut, nextPush, nextPop, nextRead, nextWrite, nextReadThrough, nextWriteThrough}
+use Rattle.machine.specs.Step.{pair, given, provided, nextArith, nextJump, nextLoad, nextStore, nextTuple, nextCut, nextPush, nextPop, nextRead, nextWrite, nextReadThrough, nextWriteThrough, Next, Go, Register, Stack, Heap, Depth, Junk, Tuple, End}
 
 -- the word that was read, with another name for its index
 word-at : (M : Memory) {i j : ℕ} (w : Pair) → wordIs w ≡ at M i → i ≡ j → w ≡ pair (at M j)
@@ -35,7 +31,7 @@ module _ (R : Memory) (to : ℕ) (o : Arith) (d s : ℕ) (v : Operand) (x : Pair
     unfolding nextArith given
     arith-done q c p = ap₂ (λ (a b : ℕ). Register a (record { kind = 0; number = b }) to) p c ∙ sym (simp (← ex, ← ey, eq-eqb (x .kind) 0 l, eq-eqb (y .kind) 0 q))
 
--- ---- jumps and branches
+-- ---- jumps
 module _ (β : List ℕ) (labels : ℕ) (w : Pair) where
   pub jump-kind : {r : Next} → r ≡ End Stuck → (w .kind ≡ 1 → ⊥) → r ≡ nextJump β labels (wordIs w)
   unfolding nextJump given
@@ -49,20 +45,6 @@ module _ (β : List ℕ) (labels : ℕ) (w : Pair) where
     pub jump-done : {p : ℕ} → l < labels → p ≡ cell 2 β l 1 → Go p ≡ nextJump β labels (wordIs w)
     unfolding nextJump given provided
     jump-done k c = ap Go c ∙ sym (simp (eq-eqb (w .kind) 1 q, ← e, lt-ltb l labels k))
-
-module _ (β : List ℕ) (labels : ℕ) (R : Memory) (to : ℕ) (o : Branch) (s : ℕ) (v : Operand) (x : Pair) (ex : wordIs x ≡ at R s) where
-  pub branch-kind : {r : Next} → r ≡ End Stuck → (x .kind ≡ 0 → ⊥) → r ≡ nextBranch β labels R to o s v
-  unfolding nextBranch given
-  branch-kind h n = h ∙ sym (simp (← ex, ne-eqb (x .kind) 0 n))
-
-  module _ (b : Bool) (eb : b ≡ taken o (signOf (x .number))) (q : x .kind ≡ 0) where
-    pub branch-taken : {r : Next} (w : Pair) → b ≡ true → wordIs w ≡ wordOf R v → r ≡ nextJump β labels (wordIs w) → r ≡ nextBranch β labels R to o s v
-    unfolding nextBranch given
-    branch-taken w t e h = h ∙ sym (simp (← ex, ← e, eq-eqb (x .kind) 0 q, ← eb, t))
-
-    pub branch-not : b ≡ false → Go to ≡ nextBranch β labels R to o s v
-    unfolding nextBranch given
-    branch-not t = sym (simp (← ex, eq-eqb (x .kind) 0 q, ← eb, t))
 
 -- ---- tuples
 module _ (R H : Memory) (to d s i : ℕ) (w : Pair) (e : wordIs w ≡ at R s) where

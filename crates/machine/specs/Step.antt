@@ -12,10 +12,9 @@ use Rattle.memory.specs.Lent.{wordIs, lent, operandTable, tupleOf}
 use Rattle.machine.specs.declared.Place.{Place}
 use Rattle.machine.specs.declared.Stop.{Stop as Reason}
 use Rattle.machine.specs.declared.Stop.the-variants.{Halted, StackFull, HeapFull, Stuck}
-use Rattle.machine.specs.declared.Next.{Next}
-use Rattle.machine.specs.declared.Next.the-variants.{Go, Register, Stack, Heap, Depth, Junk, Tuple, End}
 
 -- ---- the tables, and the state that is lent
+-- the tables of a decoded program, and how many instructions and labels they hold
 pub record Tables : Type 0 where
   pub instrs : List ℕ
   pub operands : List ℕ
@@ -24,6 +23,7 @@ pub record Tables : Type 0 where
   pub count : ℕ
   pub labels : ℕ
 
+-- these, from their parts
 abbrev pub tables : List ℕ → List ℕ → List ℕ → List ℕ → ℕ → ℕ → Tables
 tables ι os bs β n l = record { instrs = ι; operands = os; bases = bs; blocks = β; count = n; labels = l }
 
@@ -39,23 +39,42 @@ stateOf rk rn sk sn hk hn p = record { registers = lent rk rn; stack = lent sk s
 abbrev pub pair : Word → Pair
 pair w = record { kind = w .kind; number = w .number }
 
+-- the code's stop, as that of crate exec
 abbrev pub stopIs : Reason → Stop
 stopIs Halted = halted
 stopIs StackFull = stackFull
 stopIs HeapFull = heapFull
 stopIs Stuck = stuck
 
+-- ---- what the next instruction does
+-- the last number is the position after it
+pub data Next : Type 0 where
+  Go : ℕ → Next
+  -- a word to a register, to the stack or to the heap
+  Register : ℕ → Pair → ℕ → Next
+  Stack : ℕ → Pair → ℕ → Next
+  Heap : ℕ → Pair → ℕ → Next
+  -- another depth; n words of junk on top, and the depth then
+  Depth : ℕ → ℕ → Next
+  Junk : ℕ → ℕ → ℕ → Next
+  -- a tuple at the first unused word: that word, the handle's register, the first operand, their number, the use then
+  Tuple : ℕ → ℕ → ℕ → ℕ → ℕ → ℕ → Next
+  End : Reason → Next
+
 -- ---- what an instruction does, from the registers, the memory that it reads and the next position
 -- as `only` and `unless` of crate exec
 unfoldable pub given : ℕ → Word → (ℕ → Next) → Next
 given k w f = cond (eqb (w .kind) k) (f (w .number)) (End Stuck)
 
+-- x if b holds, else the stop s
 unfoldable pub provided : Reason → Bool → Next → Next
 provided s b x = cond b x (End s)
 
+-- `add`, `sub` and `mul`
 unfoldable pub nextArith : Memory → ℕ → Arith → ℕ → ℕ → Operand → Next
 nextArith R to o d s v = given intKind (at R s) (λ x. given intKind (wordOf R v) (λ y. Register d (pair (integer (compute o x y))) to))
 
+-- a jump to the word w
 unfoldable pub nextJump : List ℕ → ℕ → Word → Next
 nextJump β labels w = given codeKind w (λ l. provided Stuck (ltb l labels) (Go (cell 2 β l 1)))
 
@@ -75,12 +94,15 @@ nextStore R H to d i s = given tupleKind (at R d) (λ a. provided Stuck (ltb i (
 unfoldable pub nextTuple : ℕ → ℕ → ℕ → ℕ → ℕ → Next
 nextTuple used to d v n = provided HeapFull (leb (used + n + 1) heapLimit) (Tuple used d v n (used + n + 1) to)
 
+-- `setsp`
 unfoldable pub nextCut : Memory → ℕ → ℕ → ℕ → Next
 nextCut R depth to s = given heightKind (at R s) (λ p. provided Stuck (leb p depth) (Depth p to))
 
+-- `salloc`
 unfoldable pub nextPush : ℕ → ℕ → ℕ → Next
 nextPush depth to n = provided StackFull (leb (depth + n) stackLimit) (Junk n (depth + n) to)
 
+-- `sfree`
 unfoldable pub nextPop : ℕ → ℕ → ℕ → Next
 nextPop depth to n = provided Stuck (leb n depth) (Depth (depth - n) to)
 
@@ -124,6 +146,7 @@ unfoldable pub nextAt : Tables → State → Next
 nextAt T σ = cond (ltb (σ .position) (T .count)) (nextOf T σ (instrAt (T .instrs) (operandsOf T) (σ .position))) (End Stuck)
 
 -- ---- the state that it leaves
+-- ω are the program's operands
 unfoldable pub resultOf : OperandTable → State → Next → Result State
 resultOf ω σ (Go p) = go (setPosition σ p)
 resultOf ω σ (Register d w p) = go (record { registers = put (σ .registers) d (wordIs w); stack = σ .stack; heap = σ .heap; depth = σ .depth; used = σ .used; position = p })

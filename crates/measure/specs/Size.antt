@@ -23,10 +23,12 @@ abbrev pub slotRow : Slot → ℕ
 slotRow Gap = 0
 slotRow (Known t) = t
 
+-- the sizes of the n parts from p on, added up
 unfoldable pub partsSize : (ℕ → ℕ) → List ℕ → Bool → ℕ → ℕ → ℕ → ℕ
 partsSize s ps file h p zero = 0
 partsSize s ps file h p (suc n) = slotSize s (slotAt file h (getD ps p 0)) + partsSize s ps file h (suc p) n
 
+-- the sizes of the rows that a value row names
 abbrev pub underV : (ℕ → ℕ) → List ℕ → ℕ → Val → ℕ
 underV s ps h Int = 0
 underV s ps h Junk = 0

@@ -51,7 +51,7 @@ pub within : (b : ℕ) → 48 ≤ b → b ≤ 57 → false ≡ ltb 9 (digitOf b)
 within b k h = sym (le-ltb 9 (b - 48) (omega arith)) ∙ ap (ltb 9) (digit-is b k h)
 
 -- a byte's value tells whether it is a digit
-no-digit : (b : ℕ) → 9 < digitOf b → isDigit b ≡ false
+pub no-digit : (b : ℕ) → 9 < digitOf b → isDigit b ≡ false
 unfolding digitOf isDigit
 no-digit b h = go (leb 48 b) (leb b 57) refl refl
   where
@@ -86,7 +86,7 @@ too-high high n s h =
     let q : high < spelled n s = omega (arith, spelled-grows s n) in
     simp (lt-leb (spelled n s) high q, and-false)
 
-up-cons : (high n b : ℕ) (s : List ℕ) → digitOf b ≤ 9 → upTo high n (b ∷ s) ≡ upTo high (n * 10 + digitOf b) s
+pub up-cons : (high n b : ℕ) (s : List ℕ) → digitOf b ≤ 9 → upTo high n (b ∷ s) ≡ upTo high (n * 10 + digitOf b) s
 unfolding upTo allDigits spelled
 up-cons high n b s k =
     let d = a-digit b k in

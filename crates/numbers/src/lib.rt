@@ -1,15 +1,18 @@
 // Numbers of a field: decimal numbers within bounds, literals as bits, registers.
 // Promises: an answer stands, by `numberOf` of specs/Numbers.antt, for what `number`, `literal` and `register` of crate
 // text say of the whole field; reading stops as soon as the number is above its bound, however many digits follow.
+// `number_at` reads a field of a line in one walk, from its first byte to the one that ends it (`ScanIs`).
 ghost use mathlib.Core.Path.{_≡_};
+ghost use mathlib.Core.Bool.{_&&_};
 ghost use mathlib.Core.Option.{some};
 ghost use Prim.Native.Nat.{_-_, _≤_};
-ghost use lib.Dec.{leb, ltb};
+ghost use lib.Dec.{eqb, leb, ltb};
 ghost use Rattle.syntax.specs.Bits.{modulus};
 ghost use Rattle.syntax.specs.Partial.{bind, when};
 ghost use Rattle.text.specs.Bytes.{number, literal};
 ghost use Rattle.text.specs.Grammar.{rowNumber, index, amount, register};
-ghost use Rattle.numbers.specs.Numbers.{numberOf, digitOf, upTo, zeroLed};
+ghost use Rattle.lines.specs.Parts.{fieldIn, InLine};
+ghost use Rattle.numbers.specs.Numbers.{numberOf, digitOf, upTo, zeroLed, noScan, DigitIs, ScanIs};
 
 // A number, or none.
 pub enum Number {
@@ -172,4 +175,107 @@ pub fn amount(s: &[u8]) -> Number
     ensures { λ r. ⌜ numberOf r ≡ amount (now (s .entry)) ⌝ }
 {
     number_in(s, 0, 64)
+}
+
+// A number read from a place of a line on, and where its field ends.
+pub struct Scan {
+    pub ok: bool,
+    pub value: u32,
+    pub next: usize,
+}
+
+// There is no number at that place.
+pub fn no_scan(at: usize) -> Scan
+    ensures { λ r. ⌜ r ≡ noScan at ⌝ }
+{
+    Scan {
+        ok: false,
+        value: 0,
+        next: at,
+    }
+}
+
+// A digit's value; above 9 for any other byte.
+fn digit_of(b: u8) -> u8
+    ensures { λ r. ⌜ DigitIs b r ⌝ }
+{
+    std::num::wrapping_sub_u8(b, 48)
+}
+
+// The number of the field that starts at `at`, if it is digits alone and the number is at most high; 0 for no digit at all.
+fn digits_at(s: &[u8], at: usize, high: u32) -> Scan
+    requires { ⌜ InLine (now s) at ⌝ }
+    ensures { λ r. ⌜ ScanIs (now (s .entry)) at (upTo high 0 (fieldIn (now (s .entry)) at)) r ⌝ }
+{
+    let top = high as u64;
+    let mut n: u64 = 0;
+    let mut i = at;
+    let mut d = digit_of(s[i]);
+    while d <= 9 {
+        n = n * 10 + (d as u64);
+        if top < n {
+            return no_scan(at);
+        }
+        i += 1;
+        d = digit_of(s[i]);
+    }
+    if lines::is_stop(s[i]) {
+        return Scan {
+            ok: true,
+            value: n as u32,
+            next: i,
+        };
+    }
+    no_scan(at)
+}
+
+// Of n bytes, several, the first is the zero b.
+fn led(b: u8, n: usize) -> bool
+    ensures { λ r. ⌜ r ≡ (ltb 1 n && eqb b 48) ⌝ }
+{
+    if 1 < n {
+        return b == b'0';
+    }
+    false
+}
+
+// The decimal number from low to high, without a leading zero, of the field that starts at `at`.
+pub fn number_at(s: &[u8], at: usize, low: u32, high: u32) -> Scan
+    requires { ⌜ InLine (now s) at ⌝ }
+    ensures { λ r. ⌜ ScanIs (now (s .entry)) at (number low high (fieldIn (now (s .entry)) at)) r ⌝ }
+{
+    let x = digits_at(s, at, high);
+    if !x.ok {
+        return no_scan(at);
+    }
+    let e = x.next;
+    if e == at {
+        return no_scan(at);
+    }
+    if led(s[at], e - at) {
+        return no_scan(at);
+    }
+    if x.value < low {
+        return no_scan(at);
+    }
+    x
+}
+
+// The register, r1 to r8 as 0 to 7, of the field that starts at `at`.
+pub fn register_at(s: &[u8], at: usize) -> Scan
+    requires { ⌜ InLine (now s) at ⌝ }
+    ensures { λ r. ⌜ ScanIs (now (s .entry)) at (register (fieldIn (now (s .entry)) at)) r ⌝ }
+{
+    if s[at] != b'r' {
+        return no_scan(at);
+    }
+    let x = number_at(s, at + 1, 1, 8);
+    if !x.ok {
+        return no_scan(at);
+    }
+    Scan {
+        ok: true,
+        value: x.value - 1,
+        next: x.next,
+    }
 }

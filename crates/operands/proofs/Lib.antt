@@ -1,3 +1,4 @@
 pub mod Bases
 pub mod Filling
 pub mod Lists
+pub mod Plain

@@ -67,7 +67,7 @@ module _ (T : List Arg) where
     list-all v c zero f l h s = let q : v + 0 ≡ v = omega arith in let d : c - 0 ≡ c = omega arith in rw (q, d) at s
     list-all v c (suc i) f l h s = absurd (omega arith)
 
-    list-cons : (w m k f : ℕ) (t : Ty value) (a : Ty stack) → toldOf (operand P Δ (fault 10) g (operandAt ω w)) ≡ answer k t → toldOf (operands P Δ g (operandsAt ω (suc w) m)) ≡ answer f a
+    pub list-cons : (w m k f : ℕ) (t : Ty value) (a : Ty stack) → toldOf (operand P Δ (fault 10) g (operandAt ω w)) ≡ answer k t → toldOf (operands P Δ g (operandsAt ω (suc w) m)) ≡ answer f a
         → toldOf (operands P Δ g (operandsAt ω w (suc m))) ≡ answer (least k f) (push t a)
     unfolding operandsAt operands
     list-cons w m k f t a h s =
@@ -140,7 +140,7 @@ other-differs (tuple a) b e = no-tuple (sym e)
 other-differs (pointer a) b e = refl
 other-differs (code q a r) b e = refl
 
-tuple-is : (u : Ty value) (a : Ty stack) → asTuple u ≡ some a → u ≡ tuple a
+pub tuple-is : (u : Ty value) (a : Ty stack) → asTuple u ≡ some a → u ≡ tuple a
 unfolding asTuple
 tuple-is int a e = no-tuple e
 tuple-is junk a e = no-tuple e

@@ -17,7 +17,7 @@ use Rattle.arith.specs.Codes.{branchOf}
 use Rattle.memory.proofs.Laws.{any-default}
 use Rattle.arith.proofs.Table.{every, at, at2}
 use Rattle.machine.specs.Step.{Tables, tables}
-use Rattle.predecode.specs.Plan.{forms, columns, chosen, operandFits, bit, putRow, codeAt, kindAt, numberAt, columnAt, formAt, rowOf, Plan}
+use Rattle.predecode.specs.Plan.{forms, halts, columns, chosen, putRow, codeAt, operandIn, countAt, kindAt, numberAt, targetAt, columnAt, formFor, formAt, goalAt, goalIn, lastAt, rowOf, stuckRow, Plan}
 
 -- ---- past a table of rows
 pub no-row : (t : List (List ℕ)) (k i d : ℕ) → length t ≤ k → d ≡ getD (getD t k []) i d
@@ -27,64 +27,87 @@ no-row t k i d h = sym (ap (λ (r : List ℕ). getD r i d) (List·getD-eq-defaul
 three : (t : List (List ℕ)) → T (every (λ (k : ℕ) (r : List ℕ). eqb (length r) 3) 0 t) → (k : ℕ) → k < length t → length (getD t k []) ≡ 3
 three t ok k h = eqb→eq (length (getD t k [])) 3 (at [] (λ (k : ℕ) (r : List ℕ). eqb (length r) 3) t ok k h)
 
-pub past-form : (k i : ℕ) → k < 23 → 3 ≤ i → 22 ≡ getD (getD forms k []) i 22
-past-form k i h l = sym (List·getD-eq-default (getD forms k []) 22 (omega (arith, three forms tt k h)))
+any-row : (t : List (List ℕ)) (k : ℕ) (d e : List ℕ) → k < length t → getD t k d ≡ getD t k e
+any-row [] k d e h = absurd (not-suc-le-zero h)
+any-row (r ∷ t) zero d e h = refl
+any-row (r ∷ t) (suc k) d e h = any-row t k d e (le-of-suc-le-suc h)
+
+pub form-in : (k i : ℕ) → k < 23 → i < 3 → getD (getD forms k []) i 0 ≡ getD (getD forms k halts) i 26
+form-in k i h l = any-default (getD forms k []) i 0 26 (omega (arith, three forms tt k h)) ∙ ap (λ (r : List ℕ). getD r i 26) (any-row forms k [] halts h)
+
+same3 : (a k : ℕ) → k < 3 → getD (a ∷ a ∷ a ∷ []) k 26 ≡ a
+same3 a zero h = refl
+same3 a (suc zero) h = refl
+same3 a (suc (suc zero)) h = refl
+same3 a (suc (suc (suc k))) h = absurd (omega arith)
+
+pub all-three : (a k : ℕ) {r : List ℕ} → k < 3 → r ≡ a ∷ a ∷ a ∷ [] → getD r k 26 ≡ a
+all-three a k h e = ap (λ (r : List ℕ). getD r k 26) e ∙ same3 a k h
+
+pub past-form : (k i : ℕ) → 23 ≤ k → i < 3 → 25 ≡ getD (getD forms k halts) i 26
+past-form k i h l = sym (all-three 25 i l (List·getD-eq-default forms halts h))
 
 -- ---- leaves
-module _ (a b c t : ℕ) where
-  pub chosen-1 : (k : ℕ) → k ≡ 1 → a ≡ chosen k a b c t
+module _ (a b c t v o : ℕ) where
+  pub chosen-1 : (k : ℕ) → k ≡ 1 → a ≡ chosen k a b c t v o
   unfolding chosen
   chosen-1 k e = rw e
 
-  pub chosen-2 : (k : ℕ) → k ≡ 2 → b ≡ chosen k a b c t
+  pub chosen-2 : (k : ℕ) → k ≡ 2 → b ≡ chosen k a b c t v o
   unfolding chosen
   chosen-2 k e = rw e
 
-  pub chosen-3 : (k : ℕ) → k ≡ 3 → c ≡ chosen k a b c t
+  pub chosen-3 : (k : ℕ) → k ≡ 3 → c ≡ chosen k a b c t v o
   unfolding chosen
   chosen-3 k e = rw e
 
-  pub chosen-4 : (k : ℕ) → k ≡ 4 → t ≡ chosen k a b c t
+  pub chosen-4 : (k : ℕ) → k ≡ 4 → 8 * t ≡ chosen k a b c t v o
   unfolding chosen
   chosen-4 k e = rw e
 
-  pub chosen-no : (k : ℕ) → (k ≡ 1 → ⊥) → (k ≡ 2 → ⊥) → (k ≡ 3 → ⊥) → (k ≡ 4 → ⊥) → 0 ≡ chosen k a b c t
+  pub chosen-5 : (k : ℕ) → k ≡ 5 → v ≡ chosen k a b c t v o
   unfolding chosen
-  chosen-no k p q r s = simp (ne-eqb k 1 p, ne-eqb k 2 q, ne-eqb k 3 r, ne-eqb k 4 s)
+  chosen-5 k e = rw e
 
-module _ (l k n : ℕ) where
-  pub fits-register : {r : Bool} → k ≡ 0 → r ≡ ltb n 8 → r ≡ operandFits l k n
-  unfolding operandFits
-  fits-register e h = h ∙ sym (simp (eq-eqb k 0 e))
+  pub chosen-6 : (k : ℕ) → k ≡ 6 → o ≡ chosen k a b c t v o
+  unfolding chosen
+  chosen-6 k e = rw e
 
-  pub fits-integer : k ≡ 1 → true ≡ operandFits l k n
-  unfolding operandFits
-  fits-integer e = rw e
+  pub chosen-no : (k : ℕ) → (k ≡ 1 → ⊥) → (k ≡ 2 → ⊥) → (k ≡ 3 → ⊥) → (k ≡ 4 → ⊥) → (k ≡ 5 → ⊥) → (k ≡ 6 → ⊥) → 0 ≡ chosen k a b c t v o
+  unfolding chosen
+  chosen-no k p q r s w x = simp (ne-eqb k 1 p, ne-eqb k 2 q, ne-eqb k 3 r, ne-eqb k 4 s, ne-eqb k 5 w, ne-eqb k 6 x)
 
-  pub fits-label : {r : Bool} → (k ≡ 0 → ⊥) → (k ≡ 1 → ⊥) → r ≡ ltb n l → r ≡ operandFits l k n
-  unfolding operandFits
-  fits-label p q h = h ∙ sym (simp (ne-eqb k 0 p, ne-eqb k 1 q))
+pub kind-low : (k : ℕ) → k < 2 → k ≡ cond (ltb k 2) k 2
+kind-low k h = sym (simp (lt-ltb k 2 h))
 
-module _ (code x : ℕ) where
-  pub no-test : code < 3 → 0 ≡ bit code x
-  unfolding bit
-  no-test h = sym (simp (lt-ltb code 3 h))
+pub kind-high : (k : ℕ) → 2 ≤ k → 2 ≡ cond (ltb k 2) k 2
+kind-high k h = sym (simp (le-ltb k 2 h))
 
-  pub test-is : (b : Bool) {r : ℕ} → 3 ≤ code → b ≡ taken (branchOf (code - 3)) (signOf x) → r ≡ cond b 1 0 → r ≡ bit code x
-  unfolding bit
-  test-is b h e q = q ∙ sym (simp (le-ltb code 3 h, ← e))
+module _ (f k l : ℕ) where
+  abbrev pub kept : ℕ
+  kept = cond (ltb k l) f (cond (eqb f 6) 23 (cond (eqb f 10) 26 f))
 
-pub checked-is : (x y : ℕ) (b : Bool) (f : ℕ) → x < 8 → y < 8 → b ≡ true → f ≡ cond (ltb x 8 && ltb y 8 && b) f 22
-checked-is x y b f hx hy hb = sym (simp (lt-ltb x 8 hx, lt-ltb y 8 hy, hb))
+  pub checked-there : k < l → f ≡ kept
+  checked-there h = sym (simp (lt-ltb k l h))
 
-pub unchecked-fits : (x y : ℕ) (b : Bool) (f : ℕ) → x < 8 → y < 8 → b ≡ false → 22 ≡ cond (ltb x 8 && ltb y 8 && b) f 22
-unchecked-fits x y b f hx hy hb = sym (simp (lt-ltb x 8 hx, lt-ltb y 8 hy, hb))
+  pub checked-branch : l ≤ k → f ≡ 6 → 23 ≡ kept
+  checked-branch h e = sym (simp (le-ltb k l h, eq-eqb f 6 e))
 
-pub unchecked-y : (x y : ℕ) (b : Bool) (f : ℕ) → x < 8 → 8 ≤ y → 22 ≡ cond (ltb x 8 && ltb y 8 && b) f 22
-unchecked-y x y b f hx hy = sym (simp (lt-ltb x 8 hx, le-ltb y 8 hy))
+  pub checked-jump : l ≤ k → f ≡ 10 → 26 ≡ kept
+  checked-jump h e = sym (simp (le-ltb k l h, e))
 
-pub unchecked-x : (x y : ℕ) (b : Bool) (f : ℕ) → 8 ≤ x → 22 ≡ cond (ltb x 8 && ltb y 8 && b) f 22
-unchecked-x x y b f hx = sym (simp (le-ltb x 8 hx))
+  pub checked-else : l ≤ k → (f ≡ 6 → ⊥) → (f ≡ 10 → ⊥) → f ≡ kept
+  checked-else h p q = sym (simp (le-ltb k l h, ne-eqb f 6 p, ne-eqb f 10 q))
+
+pub last-of : (code m n : ℕ) → code ≡ 12 → m ≡ cond (eqb code 12) m n
+last-of code m n e = sym (simp (eq-eqb code 12 e))
+
+pub last-else : (code m n : ℕ) → (code ≡ 12 → ⊥) → n ≡ cond (eqb code 12) m n
+last-else code m n e = sym (simp (ne-eqb code 12 e))
+
+-- which goal, as the test was
+pub goal-is : {b d : Bool} (c : Bool) (t s : ℕ) {r : ℕ} → b ≡ d → b ≡ c → r ≡ 8 * cond c t s → r ≡ 8 * cond d t s
+goal-is c t s e q h = h ∙ ap (λ (x : Bool). 8 * cond x t s) (sym q ∙ e)
 
 -- ---- rows in the table
 pub eight : (s : List ℕ) (p a b c d e f g h : ℕ) {s1 s2 s3 s4 s5 s6 s7 s8 : List ℕ} → s1 ≡ set s p a → s2 ≡ set s1 (p + 1) b → s3 ≡ set s2 (p + 2) c → s4 ≡ set s3 (p + 3) d → s5 ≡ set s4 (p + 4) e → s6 ≡ set s5 (p + 5) f → s7 ≡ set s6 (p + 6) g → s8 ≡ set s7 (p + 7) h → s8 ≡ putRow s p (a ∷ b ∷ c ∷ d ∷ e ∷ f ∷ g ∷ h ∷ [])
@@ -147,40 +170,60 @@ module _ (T : Tables) where
   unfolding PlanTo
   no-rows φ j k h hk = absurd (not-suc-le-zero h)
 
-  pub all-rows : (φ : List ℕ) (m : ℕ) → PlanTo T φ m → T .count ≤ m → Plan T φ
+  -- and the row behind them
+  pub all-rows : (φ : List ℕ) (m : ℕ) {ψ : List ℕ} → PlanTo T φ m → m ≡ T .count → 8 * T .count + 8 ≤ length φ → ψ ≡ putRow φ (8 * T .count) stuckRow → Plan T ψ
   unfolding PlanTo
-  all-rows φ m h l = record { rows = λ j k hj hk. h j k (le-trans hj l) hk }
+  all-rows φ m {ψ} h q l e = record { rows = before; last = behind }
+    where
+      before : (j k : ℕ) → j < T .count → k < 8 → cell 8 ψ j k ≡ getD (rowOf T j) k 0
+      before j k hj hk =
+          let a : 8 * j + k < 8 * T .count = omega arith in
+          let b : j < m = omega arith in
+          ap (λ (s : List ℕ). getD s (8 * j + k) 0) e ∙ before-row φ (8 * T .count) stuckRow (8 * j + k) a ∙ h j k b hk
 
-pub form-in : (k i : ℕ) → k < 23 → i < 3 → getD (getD forms k []) i 0 ≡ getD (getD forms k []) i 22
-form-in k i h l = any-default (getD forms k []) i 0 22 (omega (arith, three forms tt k h))
+      behind : (k : ℕ) → k < 8 → cell 8 ψ (T .count) k ≡ getD stuckRow k 0
+      behind k hk = ap (λ (s : List ℕ). getD s (8 * T .count + k) 0) e ∙ in-row φ (8 * T .count) stuckRow k l hk
 
 -- ---- the row that the function makes, from what it reads
-module _ (ι os bs β : List ℕ) (l j : ℕ) {code a b c v kind n label t : ℕ} (ek : code ≡ cell 8 ι j 0) (ea : a ≡ cell 8 ι j 1) (eb : b ≡ cell 8 ι j 2) (ec : c ≡ cell 8 ι j 3) (ev : v ≡ cell 8 ι j 5) (eo : kind ≡ cell 4 os v 0) (en : n ≡ getD bs v 0) (el : label ≡ n) (et : t ≡ cell 2 β label 1) where
+module _ (ι os bs β : List ℕ) (l j : ℕ) {code a b c v m kind n label t o raw : ℕ} (ek : code ≡ cell 8 ι j 0) (ea : a ≡ cell 8 ι j 1) (eb : b ≡ cell 8 ι j 2) (ec : c ≡ cell 8 ι j 3) (ev : v ≡ cell 8 ι j 5) (em : m ≡ cell 8 ι j 6) (er : raw ≡ cell 4 os v 0) (eo : kind ≡ cond (ltb raw 2) raw 2) (en : n ≡ getD bs v 0) (el : label ≡ n) (et : t ≡ cell 2 β label 1) (eb3 : o ≡ code - 3) where
   number-of : n ≡ getD bs (cell 8 ι j 5) 0
   number-of = en ∙ ap (λ (i : ℕ). getD bs i 0) ev
 
-  kind-of : kind ≡ cell 4 os (cell 8 ι j 5) 0
-  kind-of = eo ∙ ap (λ (i : ℕ). cell 4 os i 0) ev
+  target-of : t ≡ cell 2 β (getD bs (cell 8 ι j 5) 0) 1
+  target-of = et ∙ ap (λ (x : ℕ). cell 2 β x 1) (el ∙ number-of)
 
-  column-of : (m i : ℕ) {k r : ℕ} → k ≡ getD (getD columns code []) i 0 → r ≡ chosen k a b c t → r ≡ columnAt (tables ι os bs β m l) j i
-  unfolding columnAt
-  column-of m i {k} {r} e h =
-      let q : k ≡ getD (getD columns (cell 8 ι j 0) []) i 0 = e ∙ ap (λ (x : ℕ). getD (getD columns x []) i 0) ek in
-      let s : t ≡ cell 2 β (getD bs (cell 8 ι j 5) 0) 1 = et ∙ ap (λ (x : ℕ). cell 2 β x 1) (el ∙ number-of) in
-      h ∙ (λ x. chosen (q x) (ea x) (eb x) (ec x) (s x))
+  branch-of : o ≡ cell 8 ι j 0 - 3
+  branch-of = eb3 ∙ ap (λ (x : ℕ). x - 3) ek
 
-  form-of : (m : ℕ) {x y f g : ℕ} {w : Bool} → x ≡ columnAt (tables ι os bs β m l) j 0 → y ≡ columnAt (tables ι os bs β m l) j 1 → w ≡ operandFits l kind label → g ≡ getD (getD forms code []) kind 22 → f ≡ cond (ltb x 8 && ltb y 8 && w) g 22 → f ≡ formAt (tables ι os bs β m l) j
-  unfolding formAt
-  form-of m ex ey ew eg h =
-      let q : operandFits l kind label ≡ operandFits l (cell 4 os (cell 8 ι j 5) 0) (getD bs (cell 8 ι j 5) 0) = ap₂ (λ (x y : ℕ). operandFits l x y) kind-of (el ∙ number-of) in
-      let s : getD (getD forms code []) kind 22 ≡ getD (getD forms (cell 8 ι j 0) []) (cell 4 os (cell 8 ι j 5) 0) 22 = ap₂ (λ (x y : ℕ). getD (getD forms x []) y 22) ek kind-of in
-      h ∙ (λ i. cond (ltb (ex i) 8 && ltb (ey i) 8 && (ew ∙ q) i) ((eg ∙ s) i) 22)
+  module _ (q : ℕ) where
+    abbrev T0 : Tables
+    T0 = tables ι os bs β q l
 
-  pub row-is : (m : ℕ) {k0 k1 k2 x y z g f nf nx ny nz p q r : ℕ} {w : Bool} → k0 ≡ getD (getD columns code []) 0 0 → x ≡ chosen k0 a b c t → k1 ≡ getD (getD columns code []) 1 0 → y ≡ chosen k1 a b c t → k2 ≡ getD (getD columns code []) 2 0 → z ≡ chosen k2 a b c t → g ≡ getD (getD forms code []) kind 22 → w ≡ operandFits l kind label → f ≡ cond (ltb x 8 && ltb y 8 && w) g 22 → nf ≡ f → nx ≡ x → ny ≡ y → nz ≡ z → p ≡ bit code 2147483648 → q ≡ bit code 0 → r ≡ bit code 1 → (nf ∷ nx ∷ ny ∷ nz ∷ n ∷ p ∷ q ∷ r ∷ []) ≡ rowOf (tables ι os bs β m l) j
-  unfolding rowOf
-  row-is m {k0} {k1} {k2} {x} {y} {z} e0 ex e1 ey e2 ez eg ew ef qf qx qy qz ep eq er =
-      let cx : x ≡ columnAt (tables ι os bs β m l) j 0 = column-of m 0 e0 ex in
-      let cy : y ≡ columnAt (tables ι os bs β m l) j 1 = column-of m 1 e1 ey in
-      let cz : z ≡ columnAt (tables ι os bs β m l) j 2 = column-of m 2 e2 ez in
-      let cf = form-of m cx cy ew eg ef in
-      (λ i. (qf ∙ cf) i ∷ (qx ∙ cx) i ∷ (qy ∙ cy) i ∷ (qz ∙ cz) i ∷ number-of i ∷ (ep ∙ ap (λ (u : ℕ). bit u 2147483648) ek) i ∷ (eq ∙ ap (λ (u : ℕ). bit u 0) ek) i ∷ (er ∙ ap (λ (u : ℕ). bit u 1) ek) i ∷ [])
+    kind-of : kind ≡ kindAt T0 j
+    unfolding kindAt
+    kind-of = eo ∙ ap (λ (k : ℕ). cond (ltb k 2) k 2) (er ∙ ap (λ (i : ℕ). cell 4 os i 0) ev)
+
+    column-of : (i : ℕ) {k r : ℕ} → k ≡ getD (getD columns code []) i 0 → r ≡ chosen k a b c t v o → r ≡ columnAt T0 j i
+    unfolding columnAt
+    column-of i {k} {r} e h =
+        let w : k ≡ getD (getD columns (cell 8 ι j 0) []) i 0 = e ∙ ap (λ (x : ℕ). getD (getD columns x []) i 0) ek in
+        h ∙ (λ x. chosen (w x) (ea x) (eb x) (ec x) (target-of x) (ev x) (branch-of x))
+
+    form-of : {f g : ℕ} → g ≡ getD (getD forms code halts) kind 26 → f ≡ kept g label l → f ≡ formAt T0 j
+    unfolding formAt formFor
+    form-of {f} {g} eg h =
+        let s : g ≡ getD (getD forms (cell 8 ι j 0) halts) (kindAt T0 j) 26 = eg ∙ ap₂ (λ (x y : ℕ). getD (getD forms x halts) y 26) ek kind-of in
+        h ∙ ap₂ (λ (x y : ℕ). kept x y l) s (el ∙ number-of)
+
+    last-is : {r : ℕ} → r ≡ cond (eqb code 12) m n → r ≡ lastAt T0 j
+    unfolding lastAt
+    last-is h = h ∙ (λ i. cond (eqb (ek i) 12) (em i) (number-of i))
+
+    goal-of : (x : ℕ) {r : ℕ} → r ≡ 8 * cond (taken (branchOf o) (signOf x)) t (j + 1) → r ≡ 8 * goalAt T0 j x
+    unfolding goalAt
+    goal-of x h = h ∙ ap₂ (λ (k s : ℕ). 8 * cond (taken (branchOf k) (signOf x)) s (j + 1)) branch-of target-of
+
+    pub row-is : {k0 k1 k2 x y z g f nf nx ny nz r p0 p1 p2 : ℕ} → k0 ≡ getD (getD columns code []) 0 0 → x ≡ chosen k0 a b c t v o → k1 ≡ getD (getD columns code []) 1 0 → y ≡ chosen k1 a b c t v o → k2 ≡ getD (getD columns code []) 2 0 → z ≡ chosen k2 a b c t v o → g ≡ getD (getD forms code halts) kind 26 → f ≡ kept g label l → nf ≡ f → nx ≡ x → ny ≡ y → nz ≡ z → r ≡ cond (eqb code 12) m n → p0 ≡ 8 * cond (taken (branchOf o) (signOf 2147483648)) t (j + 1) → p1 ≡ 8 * cond (taken (branchOf o) (signOf 0)) t (j + 1) → p2 ≡ 8 * cond (taken (branchOf o) (signOf 1)) t (j + 1) → (nf ∷ nx ∷ ny ∷ nz ∷ r ∷ p0 ∷ p1 ∷ p2 ∷ []) ≡ rowOf T0 j
+    unfolding rowOf goalIn
+    row-is e0 ex e1 ey e2 ez eg ef qf qx qy qz er g0 g1 g2 =
+        λ i. (qf ∙ form-of eg ef) i ∷ (qx ∙ column-of 0 e0 ex) i ∷ (qy ∙ column-of 1 e1 ey) i ∷ (qz ∙ column-of 2 e2 ez) i ∷ last-is er i ∷ goal-of 2147483648 g0 i ∷ goal-of 0 g1 i ∷ goal-of 1 g2 i ∷ []

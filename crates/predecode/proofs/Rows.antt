@@ -1,81 +1,110 @@
--- What a row does is what the instruction does: `next-is`.
+-- What a row does is what the instruction does: `next-is`. And what a row says of registers and of goals.
 use mathlib.Core.Path.{_≡_, refl, ap, ap₂, sym, _∙_, subst}
-use mathlib.Core.Bool.{Bool, true, false, _&&_, cond}
+use mathlib.Core.Bool.{Bool, true, false, cond}
 use mathlib.Core.List.{List, [], _∷_}
 use Prim.Native.Nat.{ℕ, zero, suc, _+_, _-_, _*_, _<_, _≤_}
 use native.Mathlib.Decide.{decLt}
 use native.Mathlib.Omega.{arith}
 use lib.Dec.{T, ltb, eqb, eqb→eq}
-use lib.ListN.{length, getD}
-use borrow.Author.Tests.{lt-ltb, le-ltb, eq-eqb, ne-eqb, ltb-true}
-use Rattle.syntax.specs.Syntax.{Base, reg, lit, lab, Operand, plain, Arith, Branch}
+use lib.ListN.{length, getD, List·getD-eq-default}
+use borrow.Author.Tests.{lt-ltb, le-ltb, eq-eqb, ltb-true, eqb-false}
+use Rattle.syntax.specs.Syntax.{Base, reg, lit, lab, Operand, plain, Instr, Arith, Branch}
 use Rattle.exec.specs.Machine.{Word, Memory, at, State, Sign, negative, null, positive, signOf, taken, intKind, label, integer, height, compute, baseWord, wordOf}
-use Rattle.tables.specs.Tables.{cell, OperandTable, baseOf, operandAt}
+use Rattle.tables.specs.Tables.{cell, OperandTable, baseOf, operandOf, operandAt, instrAt, span}
 use Rattle.arith.specs.Codes.{arithOf, branchOf, column}
 use Rattle.memory.specs.Lent.{operandTable}
 use Rattle.memory.proofs.Laws.{word-of}
-use Rattle.machine.specs.declared.Next.{Next}
-use Rattle.machine.specs.declared.Next.the-variants.{Go, Register, End}
-use Rattle.machine.specs.declared.Stop.the-variants.{Stuck}
-use Rattle.machine.specs.Step.{Tables, tables, pair, given, provided, nextArith, nextJump, nextBranch, nextLoad, nextStore, nextCut, nextPush, nextPop, nextRead, nextWrite, nextReadThrough, nextWriteThrough, nextAt}
-use Rattle.machine.proofs.Forms.{here, arith-is, branch-is, jmp-is, mov-is, getsp-is, setsp-is, salloc-is, sfree-is, sld-is, sst-is, slp-is, ssp-is, ld-is, st-is}
-use Rattle.predecode.specs.Plan.{forms, columns, readsOperand, chosen, operandFits, bit, codeAt, kindAt, numberAt, columnAt, formAt, rowOf, Plan, planned}
-use Rattle.predecode.proofs.Laws.{no-row, past-form, form-in}
+use Rattle.machine.specs.declared.Stop.the-variants.{Halted, Stuck}
+use Rattle.machine.specs.Represents.{LowBase, LowOperand, Registered, Fit}
+use Rattle.machine.specs.Step.{Tables, tables, operandsOf, pair, given, provided, nextArith, nextJump, nextBranch, nextLoad, nextStore, nextTuple, nextCut, nextPush, nextPop, nextRead, nextWrite, nextReadThrough, nextWriteThrough, nextAt, Next, Go, Register, End}
+use Rattle.machine.proofs.Codes.{is-arith, is-branch, is-mov, is-ld, is-st, is-malloc, is-getsp, is-setsp, is-salloc, is-sfree, is-sld, is-sst, is-slp, is-ssp, is-jmp}
+use Rattle.machine.proofs.Forms.{here, nowhere, arith-is, branch-is, jmp-is, mov-is, malloc-is, getsp-is, setsp-is, salloc-is, sfree-is, sld-is, sst-is, slp-is, ssp-is, ld-is, st-is, halt-is}
+use Rattle.predecode.specs.Plan.{forms, halts, columns, readsOperand, chosen, codeAt, operandIn, countAt, kindAt, numberAt, targetAt, columnAt, formFor, formAt, goalAt, goalIn, lastAt, rowOf, stuckRow, Plan, planned}
+use Rattle.predecode.proofs.Laws.{all-three, past-form, form-in}
 use Rattle.arith.proofs.Table.{at2}
-
--- ---- the table of forms
-pub passed : (b : Bool) (g f : ℕ) → f ≡ cond b g 22 → f < 22 → (b ≡ true) × (f ≡ g)
-passed true g f e h = (refl, e)
-passed false g f e h = absurd (omega arith)
-
-same3 : (a k f : ℕ) → f ≡ getD (a ∷ a ∷ a ∷ []) k 22 → f < 22 → f ≡ a
-same3 a zero f e h = e
-same3 a (suc zero) f e h = e
-same3 a (suc (suc zero)) f e h = e
-same3 a (suc (suc (suc k))) f e h = absurd (omega arith)
-
-high-code : (c k f : ℕ) → 22 ≤ c → f ≡ getD (getD forms c []) k 22 → f < 22 → ⊥
-high-code c k f l e h = pick (decLt 22 c)
-  where
-    all : (k : ℕ) → f ≡ getD (22 ∷ 22 ∷ 22 ∷ []) k 22 → ⊥
-    all k q = let p : f ≡ 22 = same3 22 k f q h in omega arith
-
-    pick : Dec (22 < c) → ⊥
-    pick (yes m) = let q : 22 ≡ getD (getD forms c []) k 22 = no-row forms c k 22 m in omega arith
-    pick (no n) = let q : c ≡ 22 = omega arith in all k (e ∙ ap (λ (x : ℕ). getD (getD forms x []) k 22) q)
 
 none-true : {X : Type 0} → false ≡ true → X
 none-true e = let z : _≡_ {A = ℕ} 0 1 = cc in absurd (omega arith)
 
-pub and3 : (a b c : Bool) → (a && b && c) ≡ true → (a ≡ true) × (b ≡ true) × (c ≡ true)
-and3 true true true e = (refl, refl, refl)
-and3 true true false e = none-true e
-and3 true false c e = none-true e
-and3 false b c e = none-true e
+both-same : (b : Bool) (x : Next) → cond b x x ≡ x
+both-same true x = refl
+both-same false x = refl
 
--- a form that reads a register as its operand stands in the first column
-reads-first : (k i x : ℕ) → Bool
-reads-first k i x = cond (readsOperand x) (eqb i 0) true
+go-either : (b : Bool) (s p : ℕ) → Go (cond b s p) ≡ cond b (Go s) (Go p)
+go-either true s p = refl
+go-either false s p = refl
 
-pub reads-kind : (c k f : ℕ) → f ≡ getD (getD forms c []) k 22 → readsOperand f ≡ true → k ≡ 0
-unfolding reads-first readsOperand
-reads-kind c k f e r = inside (decLt c 23)
+-- ---- the form, where the label may not be there
+other-is : (b : Bool) (f : ℕ) → eqb f 6 ≡ false → eqb f 10 ≡ false → cond b f (cond (eqb f 6) 23 (cond (eqb f 10) 26 f)) ≡ f
+other-is true f p q = refl
+other-is false f p q = simp (p, q)
+
+was-branch : (b p r : Bool) (f : ℕ) → eqb f 6 ≡ p → cond b f (cond p 23 (cond r 26 f)) ≡ 6 → (b ≡ true) × (f ≡ 6)
+was-branch true p r f q e = (refl, e)
+was-branch false true r f q e = absurd (omega arith)
+was-branch false false true f q e = absurd (omega arith)
+was-branch false false false f q e = absurd (eqb-false f 6 q e)
+
+was-jump : (b p r : Bool) (f : ℕ) → eqb f 10 ≡ r → cond b f (cond p 23 (cond r 26 f)) ≡ 10 → (b ≡ true) × (f ≡ 10)
+was-jump true p r f q e = (refl, e)
+was-jump false true r f q e = absurd (omega arith)
+was-jump false false true f q e = absurd (omega arith)
+was-jump false false false f q e = absurd (eqb-false f 10 q e)
+
+not-read : (b p r : Bool) (f : ℕ) → readsOperand f ≡ false → readsOperand (cond b f (cond p 23 (cond r 26 f))) ≡ false
+unfolding readsOperand
+not-read true p r f e = e
+not-read false true r f e = refl
+not-read false false true f e = refl
+not-read false false false f e = e
+
+-- only a jump has form 10
+only-jump : (k i x : ℕ) → Bool
+only-jump k i x = cond (eqb x 10) (eqb k 21) true
+
+jump-code : (c k : ℕ) → k < 3 → getD (getD forms c halts) k 26 ≡ 10 → c ≡ 21
+unfolding only-jump
+jump-code c k h e = inside (decLt c 23)
   where
-    never : f ≡ 22 → k ≡ 0
-    never q = none-true (ap readsOperand (sym q) ∙ r)
+    inside : Dec (c < 23) → c ≡ 21
+    inside (yes l) =
+        let q : eqb (getD (getD forms c []) k 0) 10 ≡ true = eq-eqb (getD (getD forms c []) k 0) 10 (form-in c k l h ∙ e) in
+        eqb→eq c 21 (subst (λ (b : Bool). T (cond b (eqb c 21) true)) q (at2 0 3 only-jump forms tt c k l h))
+    inside (no n) =
+        let m : 23 ≤ c = omega arith in
+        let q : 25 ≡ getD (getD forms c halts) k 26 = past-form c k m h in
+        absurd (omega arith)
 
-    columns-in : c < 23 → Dec (k < 3) → k ≡ 0
-    columns-in h (no n) = let m : 3 ≤ k = omega arith in never (e ∙ sym (past-form c k h m))
-    columns-in h (yes m) =
-        let q : readsOperand (getD (getD forms c []) k 0) ≡ true = ap readsOperand (form-in c k h m ∙ sym e) ∙ r in
-        eqb→eq k 0 (subst (λ (b : Bool). T (cond b (eqb k 0) true)) q (at2 0 3 reads-first forms tt c k h m))
+-- ---- the operand
+-- its kind as the row's
+same-base : (k n : ℕ) → baseOf (cond (ltb k 2) k 2) n ≡ baseOf k n
+unfolding baseOf
+same-base zero n = refl
+same-base (suc zero) n = refl
+same-base (suc (suc k)) n = let q : ltb (suc (suc k)) 2 ≡ false = le-ltb (suc (suc k)) 2 (omega arith) in ap (λ (b : Bool). baseOf (cond b (suc (suc k)) 2) n) q
 
-    inside : Dec (c < 23) → k ≡ 0
-    inside (yes h) = columns-in h (decLt k 3)
-    inside (no n) = let m : 23 ≤ c = omega arith in never (e ∙ sym (no-row forms c k 22 m))
+kind-three : (k : ℕ) → cond (ltb k 2) k 2 < 3
+kind-three zero = omega arith
+kind-three (suc zero) = omega arith
+kind-three (suc (suc k)) = let q : ltb (suc (suc k)) 2 ≡ false = le-ltb (suc (suc k)) 2 (omega arith) in subst (λ (b : Bool). cond b (suc (suc k)) 2 < 3) (sym q) (omega arith)
+
+-- its register, if it is one
+low-base : (b : Base) (ts : List ℕ) (t : ℕ) → LowOperand (operandOf b ts t) → LowBase b
+unfolding operandOf
+low-base b [] t h = h
+low-base b (a ∷ ts) t h = h
+
+low-at : (ω : OperandTable) (v : ℕ) → LowOperand (operandAt ω v) → LowBase (baseOf (cell 4 (ω .operands) v 0) (getD (ω .numbers) v 0))
+unfolding operandAt
+low-at ω v h = low-base (baseOf (cell 4 (ω .operands) v 0) (getD (ω .numbers) v 0)) (span (ω .args) (8 * v) (cell 4 (ω .operands) v 1)) (cell 4 (ω .operands) v 2) h
+
+low-register : (k n : ℕ) → k ≡ 0 → LowBase (baseOf k n) → n < 8
+unfolding baseOf
+low-register zero n e h = h
+low-register (suc k) n e h = absurd (omega arith)
 
 -- ---- one row
-module _ (T : Tables) (σ : State) (h : σ .position < T .count) {f x y z n p : ℕ} (t : ℕ → ℕ) (ef : f ≡ formAt T (σ .position)) (ex : x ≡ columnAt T (σ .position) 0) (ey : y ≡ columnAt T (σ .position) 1) (ez : z ≡ columnAt T (σ .position) 2) (en : n ≡ numberAt T (σ .position)) (e0 : t 0 ≡ bit (codeAt T (σ .position)) 2147483648) (e1 : t 1 ≡ bit (codeAt T (σ .position)) 0) (e2 : t 2 ≡ bit (codeAt T (σ .position)) 1) (ep : p ≡ σ .position + 1) (small : f < 22) where
+module _ (T : Tables) (σ : State) (h : σ .position < T .count) {f x y z n p : ℕ} (ef : f ≡ formAt T (σ .position)) (ex : x ≡ columnAt T (σ .position) 0) (ey : y ≡ columnAt T (σ .position) 1) (ez : z ≡ columnAt T (σ .position) 2) (en : n ≡ lastAt T (σ .position)) (ep : p ≡ σ .position + 1) where
   abbrev j : ℕ
   j = σ .position
 
@@ -106,56 +135,79 @@ module _ (T : Tables) (σ : State) (h : σ .position < T .count) {f x y z n p : 
   abbrev kind : ℕ
   kind = kindAt T j
 
+  abbrev number : ℕ
+  number = numberAt T j
+
   abbrev does : ℕ → Next
-  does k = planned β l t k x y z n p R (σ .stack) (σ .heap) (σ .depth)
+  does k = planned β l (targetAt T j) (goalIn T j) k x y z n p R (σ .stack) (σ .heap) (σ .depth) (σ .used)
 
   abbrev Same : Type 0
   Same = does f ≡ nextAt T σ
 
-  abbrev ok : Bool
-  ok = ltb (columnAt T j 0) 8 && ltb (columnAt T j 1) 8 && operandFits l kind (numberAt T j)
+  -- ---- the form, by the code and the kind
+  abbrev there : Bool
+  there = ltb number l
 
-  all : (ok ≡ true) × (f ≡ getD (getD forms code []) kind 22)
-  unfolding formAt
-  all = passed ok (getD (getD forms code []) kind 22) f ef small
+  kind-low : kind < 3
+  unfolding kindAt
+  kind-low = kind-three (cell 4 os v 0)
 
-  pub form-at : (c : ℕ) → code ≡ c → f ≡ getD (getD forms c []) kind 22
-  form-at c e = all .1 ∙ ap (λ (i : ℕ). getD (getD forms i []) kind 22) e
+  pub form-at : (c : ℕ) → code ≡ c → (g : ℕ) → getD (getD forms c halts) kind 26 ≡ g → f ≡ cond there g (cond (eqb g 6) 23 (cond (eqb g 10) 26 g))
+  unfolding formAt formFor
+  form-at c e g q = ef ∙ ap (λ (r : ℕ). cond there r (cond (eqb r 6) 23 (cond (eqb r 10) 26 r))) (ap (λ (k : ℕ). getD (getD forms k halts) kind 26) e ∙ q)
 
-  -- the columns, by the code
-  target : ℕ
-  target = cell 2 β (numberAt T j) 1
+  at-kind : (c k : ℕ) {g : ℕ} → kind ≡ k → getD (getD forms c halts) k 26 ≡ g → getD (getD forms c halts) kind 26 ≡ g
+  at-kind c k q g = ap (λ (i : ℕ). getD (getD forms c halts) i 26) q ∙ g
 
-  column-at : (i c : ℕ) → code ≡ c → columnAt T j i ≡ chosen (getD (getD columns c []) i 0) (cell 8 ι j 1) (cell 8 ι j 2) (cell 8 ι j 3) (cell 2 β (numberAt T j) 1)
+  -- a form that goes to no label
+  form-is : (c k : ℕ) {g : ℕ} → code ≡ c → kind ≡ k → getD (getD forms c halts) k 26 ≡ g → eqb g 6 ≡ false → eqb g 10 ≡ false → f ≡ g
+  form-is c k {g} e q r a b = form-at c e g (at-kind c k q r) ∙ other-is there g a b
+
+  label-form : (c : ℕ) {g : ℕ} → code ≡ c → kind ≡ 2 → getD (getD forms c halts) 2 26 ≡ g → (b : Bool) → there ≡ b → f ≡ cond b g (cond (eqb g 6) 23 (cond (eqb g 10) 26 g))
+  label-form c {g} e q r b t = form-at c e g (at-kind c 2 q r) ∙ ap (λ (i : Bool). cond i g (cond (eqb g 6) 23 (cond (eqb g 10) 26 g))) t
+
+  -- the same for all kinds
+  plain-form : (c g : ℕ) → code ≡ c → getD forms c halts ≡ g ∷ g ∷ g ∷ [] → eqb g 6 ≡ false → eqb g 10 ≡ false → f ≡ g
+  plain-form c g e q a b = form-at c e g (all-three g kind kind-low q) ∙ other-is there g a b
+
+  -- ---- the columns, by the code
+  column-at : (i c : ℕ) → code ≡ c → columnAt T j i ≡ chosen (getD (getD columns c []) i 0) (cell 8 ι j 1) (cell 8 ι j 2) (cell 8 ι j 3) (targetAt T j) (operandIn T j) (c - 3)
   unfolding columnAt
-  column-at i c e = ap (λ (k : ℕ). chosen (getD (getD columns k []) i 0) (cell 8 ι j 1) (cell 8 ι j 2) (cell 8 ι j 3) (cell 2 β (numberAt T j) 1)) e
+  column-at i c e = ap (λ (k : ℕ). chosen (getD (getD columns k []) i 0) (cell 8 ι j 1) (cell 8 ι j 2) (cell 8 ι j 3) (targetAt T j) (operandIn T j) (k - 3)) e
 
-  -- the operand's word, by its kind
-  word : (k : ℕ) → kind ≡ k → baseWord R (baseOf k n) ≡ wordOf R (operandAt (operandTable os bs) v)
-  word k e = ap₂ (λ (a b : ℕ). baseWord R (baseOf a b)) (sym e) en ∙ sym (word-of R os bs v)
+  column-is : (c : ℕ) → code ≡ c → (i : ℕ) {r k : ℕ} → r ≡ columnAt T j i → getD (getD columns c []) i 0 ≡ k → r ≡ chosen k (cell 8 ι j 1) (cell 8 ι j 2) (cell 8 ι j 3) (targetAt T j) (operandIn T j) (c - 3)
+  column-is c e i q g = q ∙ column-at i c e ∙ ap (λ (k : ℕ). chosen k (cell 8 ι j 1) (cell 8 ι j 2) (cell 8 ι j 3) (targetAt T j) (operandIn T j) (c - 3)) g
 
-  by-kind : (c : ℕ) → c < 23 → code ≡ c → (kind ≡ 0 → Same) → (kind ≡ 1 → Same) → (kind ≡ 2 → Same) → Same
-  by-kind c hc e a b d = go kind refl
+  last-is : (c : ℕ) → code ≡ c → (b : Bool) → eqb c 12 ≡ b → n ≡ cond b (countAt T j) number
+  unfolding lastAt
+  last-is c e b q = en ∙ ap (λ (i : Bool). cond i (countAt T j) number) (ap (λ (i : ℕ). eqb i 12) e ∙ q)
+
+  -- ---- the operand's word, by its kind
+  word : (c k : ℕ) → code ≡ c → eqb c 12 ≡ false → kind ≡ k → baseWord R (baseOf k n) ≡ wordOf R (operandAt (operandTable os bs) v)
+  unfolding kindAt
+  word c k e q r =
+      ap₂ (λ (a b : ℕ). baseWord R (baseOf a b)) (sym r) (last-is c e false q)
+      ∙ ap (baseWord R) (same-base (cell 4 os v 0) number)
+      ∙ sym (word-of R os bs v)
+
+  by-kind : {X : Type 0} → (kind ≡ 0 → X) → (kind ≡ 1 → X) → (kind ≡ 2 → X) → X
+  by-kind {X} a b d = go kind refl
     where
-      go : (k : ℕ) → kind ≡ k → Same
+      go : (k : ℕ) → kind ≡ k → X
       go zero q = a q
       go (suc zero) q = b q
       go (suc (suc zero)) q = d q
-      go (suc (suc (suc k))) q =
-          let m : 3 ≤ kind = omega arith in
-          let r : 22 ≡ getD (getD forms c []) kind 22 = past-form c kind hc m in
-          let s : f ≡ getD (getD forms c []) kind 22 = form-at c e in
-          absurd (omega arith)
+      go (suc (suc (suc k))) q = absurd (omega (arith, kind-low))
 
-  -- the form that the table has
-  form-is : (c k : ℕ) {r : ℕ} → code ≡ c → kind ≡ k → getD (getD forms c []) k 22 ≡ r → f ≡ r
-  form-is c k e q g = form-at c e ∙ ap (λ (i : ℕ). getD (getD forms c []) i 22) q ∙ g
+  by-label : {X : Type 0} → (there ≡ true → n < l → X) → (there ≡ false → l ≤ n → X) → n ≡ number → X
+  by-label {X} a b e = go (decLt number l)
+    where
+      go : Dec (number < l) → X
+      go (yes q) = a (lt-ltb number l q) (omega arith)
+      go (no q) = let m : l ≤ number = omega arith in b (le-ltb number l m) (omega arith)
 
   as-form : (r : ℕ) → f ≡ r → does r ≡ nextAt T σ → Same
   as-form r e q = ap does e ∙ q
-
-  left-out : f ≡ 22 → Same
-  left-out e = absurd (omega arith)
 
   -- ---- arithmetic
   new-word : (o : Arith) (d s to : ℕ) (b b′ : Operand) → wordOf R b ≡ wordOf R b′ → nextArith R to o d s b ≡ nextArith R to o d s b′
@@ -167,175 +219,214 @@ module _ (T : Tables) (σ : State) (h : σ .position < T .count) {f x y z n p : 
       arith-is ι os bs β (T .count) l σ (nextArith R p (arithOf c) x y b) h c (sym e) hc
       ((λ i. nextArith R (ep i) (arithOf c) (qx i) (qy i) b) ∙ new-word (arithOf c) (cell 8 ι j 1) (cell 8 ι j 2) (j + 1) b (operandAt (operandTable os bs) v) w)
 
+  arith-label : (o : Arith) (d s m : ℕ) → End Stuck ≡ nextArith R p o d s (plain (lab m))
+  unfolding nextArith given wordOf baseWord
+  arith-label o d s m = sym (both-same (eqb (at R s .kind) 0) (End Stuck))
+
+  module _ (c : ℕ) (hc : c < 3) (e : code ≡ c) (q : eqb c 12 ≡ false) (rc : getD columns c [] ≡ 1 ∷ 2 ∷ 0 ∷ []) where
+    first : x ≡ cell 8 ι j 1
+    unfolding chosen
+    first = column-is c e 0 ex (ap (λ (r : List ℕ). getD r 0 0) rc)
+
+    second : y ≡ cell 8 ι j 2
+    unfolding chosen
+    second = column-is c e 1 ey (ap (λ (r : List ℕ). getD r 1 0) rc)
+
+    arith-operand : (b : Operand) → wordOf R b ≡ wordOf R (operandAt (operandTable os bs) v) → nextArith R p (arithOf c) x y b ≡ nextAt T σ
+    arith-operand b w = arith-at c hc e first second b w
+
+    arith-none : kind ≡ 2 → End Stuck ≡ nextAt T σ
+    unfolding baseOf baseWord wordOf
+    arith-none k = arith-label (arithOf c) x y n ∙ arith-operand (plain (lab n)) (word c 2 e q k)
+
   arith-rows : (c : ℕ) → c < 3 → code ≡ c → Same
-  unfolding planned chosen baseOf baseWord wordOf arithOf
-  arith-rows zero hc e = by-kind 0 (omega arith) e
-      (λ q. as-form 0 (form-is 0 0 e q refl) (arith-at 0 hc e (ex ∙ column-at 0 0 e) (ey ∙ column-at 1 0 e) (plain (reg n)) (word 0 q)))
-      (λ q. as-form 1 (form-is 0 1 e q refl) (arith-at 0 hc e (ex ∙ column-at 0 0 e) (ey ∙ column-at 1 0 e) (plain (lit n)) (word 1 q)))
-      (λ q. left-out (form-is 0 2 e q refl))
-  arith-rows (suc zero) hc e = by-kind 1 (omega arith) e
-      (λ q. as-form 2 (form-is 1 0 e q refl) (arith-at 1 hc e (ex ∙ column-at 0 1 e) (ey ∙ column-at 1 1 e) (plain (reg n)) (word 0 q)))
-      (λ q. as-form 3 (form-is 1 1 e q refl) (arith-at 1 hc e (ex ∙ column-at 0 1 e) (ey ∙ column-at 1 1 e) (plain (lit n)) (word 1 q)))
-      (λ q. left-out (form-is 1 2 e q refl))
-  arith-rows (suc (suc zero)) hc e = by-kind 2 (omega arith) e
-      (λ q. as-form 4 (form-is 2 0 e q refl) (arith-at 2 hc e (ex ∙ column-at 0 2 e) (ey ∙ column-at 1 2 e) (plain (reg n)) (word 0 q)))
-      (λ q. as-form 5 (form-is 2 1 e q refl) (arith-at 2 hc e (ex ∙ column-at 0 2 e) (ey ∙ column-at 1 2 e) (plain (lit n)) (word 1 q)))
-      (λ q. left-out (form-is 2 2 e q refl))
+  unfolding planned baseOf baseWord wordOf arithOf
+  arith-rows zero hc e = by-kind
+      (λ q. as-form 0 (form-is 0 0 e q refl refl refl) (arith-operand 0 hc e refl refl (plain (reg n)) (word 0 0 e refl q)))
+      (λ q. as-form 1 (form-is 0 1 e q refl refl refl) (arith-operand 0 hc e refl refl (plain (lit n)) (word 0 1 e refl q)))
+      (λ q. as-form 26 (form-is 0 2 e q refl refl refl) (arith-none 0 hc e refl refl q))
+  arith-rows (suc zero) hc e = by-kind
+      (λ q. as-form 2 (form-is 1 0 e q refl refl refl) (arith-operand 1 hc e refl refl (plain (reg n)) (word 1 0 e refl q)))
+      (λ q. as-form 3 (form-is 1 1 e q refl refl refl) (arith-operand 1 hc e refl refl (plain (lit n)) (word 1 1 e refl q)))
+      (λ q. as-form 26 (form-is 1 2 e q refl refl refl) (arith-none 1 hc e refl refl q))
+  arith-rows (suc (suc zero)) hc e = by-kind
+      (λ q. as-form 4 (form-is 2 0 e q refl refl refl) (arith-operand 2 hc e refl refl (plain (reg n)) (word 2 0 e refl q)))
+      (λ q. as-form 5 (form-is 2 1 e q refl refl refl) (arith-operand 2 hc e refl refl (plain (lit n)) (word 2 1 e refl q)))
+      (λ q. as-form 26 (form-is 2 2 e q refl refl refl) (arith-none 2 hc e refl refl q))
   arith-rows (suc (suc (suc k))) hc e = absurd (omega arith)
 
-  -- ---- checks that a row has passed
-  checks : (ltb (columnAt T j 0) 8 ≡ true) × (ltb (columnAt T j 1) 8 ≡ true) × (operandFits l kind (numberAt T j) ≡ true)
-  checks = and3 (ltb (columnAt T j 0) 8) (ltb (columnAt T j 1) 8) (operandFits l kind (numberAt T j)) (all .0)
+  -- ---- jumps to a label
+  to-label : n ≡ number → n < l → Go (targetAt T j) ≡ nextJump β l (label n)
+  unfolding nextJump given provided
+  to-label e m = ap (λ (i : ℕ). Go (cell 2 β i 1)) (sym e) ∙ sym (simp (lt-ltb n l m))
 
-  label-in : kind ≡ 2 → n < l
-  unfolding operandFits
-  label-in e =
-      let q : operandFits l 2 (numberAt T j) ≡ true = ap (λ (k : ℕ). operandFits l k (numberAt T j)) (sym e) ∙ checks .2 in
-      let m : numberAt T j < l = ltb-true (numberAt T j) l q in
-      omega arith
-
-  leads : kind ≡ 2 → z ≡ cell 2 β (numberAt T j) 1 → Go z ≡ nextJump β l (wordOf R (operandAt (operandTable os bs) v))
-  unfolding nextJump given provided baseOf baseWord
-  leads e q =
-      let m : n < l = label-in e in
-      let r : cell 2 β (numberAt T j) 1 ≡ cell 2 β n 1 = ap (λ (i : ℕ). cell 2 β i 1) (sym en) in
-      ap Go (q ∙ r) ∙ sym (simp (lt-ltb n l m)) ∙ ap (nextJump β l) (word 2 e)
+  to-none : l ≤ n → End Stuck ≡ nextJump β l (label n)
+  unfolding nextJump given provided
+  to-none m = sym (simp (le-ltb n l m))
 
   -- ---- branches
-  test-at : 3 ≤ code → (s : Sign) → t (column s) ≡ cond (taken (branchOf (code - 3)) s) 1 0
-  unfolding bit signOf column
-  test-at m negative = e0 ∙ simp (le-ltb code 3 m)
-  test-at m null = e1 ∙ simp (le-ltb code 3 m)
-  test-at m positive = e2 ∙ simp (le-ltb code 3 m)
+  goal-is : (s : Sign) → goalIn T j (column s) ≡ cond (taken (branchOf (code - 3)) s) (targetAt T j) (j + 1)
+  unfolding goalIn goalAt signOf column
+  goal-is negative = refl
+  goal-is null = refl
+  goal-is positive = refl
 
-  as-test : (b : Bool) (u : ℕ) (a c : Next) → u ≡ cond b 1 0 → cond (eqb u 1) a c ≡ cond b a c
-  as-test true u a c e = simp e
-  as-test false u a c e = simp e
+  module _ (c : ℕ) (l3 : 3 ≤ c) (l9 : c < 9) (e : code ≡ c) (q : eqb c 12 ≡ false) (rf : getD forms c halts ≡ 22 ∷ 23 ∷ 6 ∷ []) (rc : getD columns c [] ≡ 1 ∷ 6 ∷ 0 ∷ []) where
+    tested : x ≡ cell 8 ι j 1
+    unfolding chosen
+    tested = column-is c e 0 ex (ap (λ (r : List ℕ). getD r 0 0) rc)
 
-  branch-at : (c : ℕ) → 3 ≤ c → c < 9 → code ≡ c → kind ≡ 2 → x ≡ cell 8 ι j 1 → z ≡ cell 2 β (numberAt T j) 1 → given intKind (at R x) (λ u. cond (eqb (t (column (signOf u))) 1) (Go z) (Go p)) ≡ nextAt T σ
-  unfolding nextBranch given
-  branch-at c l3 l9 e k qx qz =
-      let lo : 3 ≤ code = omega arith in
-      let ts : (s : Sign) → t (column s) ≡ cond (taken (branchOf (c - 3)) s) 1 0 = λ s. test-at lo s ∙ ap (λ (i : ℕ). cond {A = ℕ} (taken (branchOf (i - 3)) s) 1 0) e in
-      let go : (u : ℕ) → cond (eqb (t (column (signOf u))) 1) (Go z) (Go p) ≡ cond (taken (branchOf (c - 3)) (signOf u)) (nextJump β l (wordOf R (operandAt (operandTable os bs) v))) (Go (j + 1)) = λ u. as-test (taken (branchOf (c - 3)) (signOf u)) (t (column (signOf u))) (Go z) (Go p) (ts (signOf u)) ∙ ap₂ (λ (a b : Next). cond (taken (branchOf (c - 3)) (signOf u)) a b) (leads k qz) (ap Go ep) in
-      branch-is ι os bs β (T .count) l σ (given intKind (at R x) (λ u. cond (eqb (t (column (signOf u))) 1) (Go z) (Go p))) h c (sym e) l3 l9
-      (ap (λ (i : ℕ). given intKind (at R i) (λ u. cond (eqb (t (column (signOf u))) 1) (Go z) (Go p))) qx
-      ∙ ap (λ (q : Next). cond (eqb (at R (cell 8 ι j 1) .kind) 0) q (End Stuck)) (go (at R (cell 8 ι j 1) .number)))
+    sort : y ≡ c - 3
+    unfolding chosen
+    sort = column-is c e 1 ey (ap (λ (r : List ℕ). getD r 1 0) rc)
 
-  branch-rows : (c : ℕ) → 3 ≤ c → c < 9 → code ≡ c → (getD forms c [] ≡ 22 ∷ 22 ∷ 6 ∷ []) → (getD columns c [] ≡ 1 ∷ 0 ∷ 4 ∷ []) → Same
-  unfolding planned chosen
-  branch-rows c l3 l9 e rf rc =
-      let a : x ≡ cell 8 ι j 1 = ex ∙ column-at 0 c e ∙ ap (λ (r : List ℕ). chosen (getD r 0 0) (cell 8 ι j 1) (cell 8 ι j 2) (cell 8 ι j 3) (cell 2 β (numberAt T j) 1)) rc in
-      let b : z ≡ cell 2 β (numberAt T j) 1 = ez ∙ column-at 2 c e ∙ ap (λ (r : List ℕ). chosen (getD r 2 0) (cell 8 ι j 1) (cell 8 ι j 2) (cell 8 ι j 3) (cell 2 β (numberAt T j) 1)) rc in
-      by-kind c (omega arith) e
-      (λ q. left-out (form-is c 0 e q (ap (λ (r : List ℕ). getD r 0 22) rf)))
-      (λ q. left-out (form-is c 1 e q (ap (λ (r : List ℕ). getD r 1 22) rf)))
-      (λ q. as-form 6 (form-is c 2 e q (ap (λ (r : List ℕ). getD r 2 22) rf)) (branch-at c l3 l9 e q a b))
+    -- the branch, with a way a where it is taken
+    branch-at : (a : Next) → a ≡ nextJump β l (wordOf R (operandAt (operandTable os bs) v)) → given intKind (at R x) (λ u. cond (taken (branchOf (c - 3)) (signOf u)) a (Go p)) ≡ nextAt T σ
+    unfolding nextBranch given
+    branch-at a w =
+        branch-is ι os bs β (T .count) l σ (given intKind (at R x) (λ u. cond (taken (branchOf (c - 3)) (signOf u)) a (Go p))) h c (sym e) l3 l9
+        (λ i. given intKind (at R (tested i)) (λ u. cond (taken (branchOf (c - 3)) (signOf u)) (w i) (Go (ep i))))
+
+    by-sort : (a : Next) → given intKind (at R x) (λ u. cond (taken (branchOf y) (signOf u)) a (Go p)) ≡ given intKind (at R x) (λ u. cond (taken (branchOf (c - 3)) (signOf u)) a (Go p))
+    by-sort a = ap (λ (k : ℕ). given intKind (at R x) (λ u. cond (taken (branchOf k) (signOf u)) a (Go p))) sort
+
+    by-goal : given intKind (at R x) (λ u. Go (goalIn T j (column (signOf u)))) ≡ given intKind (at R x) (λ u. cond (taken (branchOf (c - 3)) (signOf u)) (Go (targetAt T j)) (Go p))
+    unfolding given
+    by-goal =
+        let u : ℕ = at R x .number in
+        let g : Go (goalIn T j (column (signOf u))) ≡ cond (taken (branchOf (c - 3)) (signOf u)) (Go (targetAt T j)) (Go p) =
+        ap Go (goal-is (signOf u) ∙ ap₂ (λ (k s : ℕ). cond (taken (branchOf (k - 3)) (signOf u)) (targetAt T j) s) e (sym ep)) ∙ go-either (taken (branchOf (c - 3)) (signOf u)) (targetAt T j) p in
+        ap (λ (a : Next). cond (eqb (at R x .kind) 0) a (End Stuck)) g
+
+    at-2 : getD (getD forms c halts) 2 26 ≡ 6
+    at-2 = ap (λ (r : List ℕ). getD r 2 26) rf
+
+    branch-rows : Same
+    unfolding planned baseOf baseWord wordOf nextJump given
+    branch-rows = by-kind
+        (λ k. as-form 22 (form-is c 0 e k (ap (λ (r : List ℕ). getD r 0 26) rf) refl refl) (by-sort (nextJump β l (wordOf R (plain (reg n)))) ∙ branch-at (nextJump β l (wordOf R (plain (reg n)))) (ap (nextJump β l) (word c 0 e q k))))
+        (λ k. as-form 23 (form-is c 1 e k (ap (λ (r : List ℕ). getD r 1 26) rf) refl refl) (by-sort (End Stuck) ∙ branch-at (End Stuck) (ap (nextJump β l) (word c 1 e q k))))
+        (λ k. by-label
+        (λ t m. as-form 6 (label-form c e k at-2 true t) (by-goal ∙ branch-at (Go (targetAt T j)) (to-label (last-is c e false q) m ∙ ap (nextJump β l) (word c 2 e q k))))
+        (λ t m. as-form 23 (label-form c e k at-2 false t) (by-sort (End Stuck) ∙ branch-at (End Stuck) (to-none m ∙ ap (nextJump β l) (word c 2 e q k))))
+        (last-is c e false q))
 
   -- ---- mov and jmp
   mov-at : code ≡ 9 → (b : Operand) → wordOf R b ≡ wordOf R (operandAt (operandTable os bs) v) → Register x (pair (wordOf R b)) p ≡ nextAt T σ
   unfolding chosen
   mov-at e b w =
       here ι os bs β (T .count) l σ (Register x (pair (wordOf R b)) p) h
-      (mov-is ι os bs β (T .count) l σ ep (ex ∙ column-at 0 9 e) e (pair (wordOf R b)) w refl)
+      (mov-is ι os bs β (T .count) l σ ep (column-is 9 e 0 ex refl) e (pair (wordOf R b)) w refl)
 
   mov-rows : code ≡ 9 → Same
   unfolding planned baseOf baseWord wordOf
-  mov-rows e = by-kind 9 (omega arith) e
-      (λ q. as-form 7 (form-is 9 0 e q refl) (mov-at e (plain (reg n)) (word 0 q)))
-      (λ q. as-form 8 (form-is 9 1 e q refl) (mov-at e (plain (lit n)) (word 1 q)))
-      (λ q. as-form 9 (form-is 9 2 e q refl) (mov-at e (plain (lab n)) (word 2 q)))
+  mov-rows e = by-kind
+      (λ q. as-form 7 (form-is 9 0 e q refl refl refl) (mov-at e (plain (reg n)) (word 9 0 e refl q)))
+      (λ q. as-form 8 (form-is 9 1 e q refl refl refl) (mov-at e (plain (lit n)) (word 9 1 e refl q)))
+      (λ q. as-form 9 (form-is 9 2 e q refl refl refl) (mov-at e (plain (lab n)) (word 9 2 e refl q)))
 
   jmp-at : code ≡ 21 → (w : Word) → w ≡ wordOf R (operandAt (operandTable os bs) v) → nextJump β l w ≡ nextAt T σ
   jmp-at e w q = jmp-is ι os bs β (T .count) l σ (nextJump β l w) h e (pair w) q refl refl
 
   jmp-rows : code ≡ 21 → Same
-  unfolding planned chosen baseOf baseWord wordOf
-  jmp-rows e = by-kind 21 (omega arith) e
-      (λ q. as-form 11 (form-is 21 0 e q refl) (jmp-at e (wordOf R (plain (reg n))) (word 0 q)))
-      (λ q. left-out (form-is 21 1 e q refl))
-      (λ q. as-form 10 (form-is 21 2 e q refl) (leads q (ez ∙ column-at 2 21 e) ∙ jmp-at e (wordOf R (operandAt (operandTable os bs) v)) refl))
+  unfolding planned baseOf baseWord wordOf nextJump given
+  jmp-rows e = by-kind
+      (λ q. as-form 11 (form-is 21 0 e q refl refl refl) (jmp-at e (wordOf R (plain (reg n))) (word 21 0 e refl q)))
+      (λ q. as-form 26 (form-is 21 1 e q refl refl refl) (jmp-at e (wordOf R (plain (lit n))) (word 21 1 e refl q)))
+      (λ q. by-label
+      (λ t m. as-form 10 (label-form 21 e q refl true t) (to-label (last-is 21 e false refl) m ∙ jmp-at e (label n) (word 21 2 e refl q)))
+      (λ t m. as-form 26 (label-form 21 e q refl false t) (to-none m ∙ jmp-at e (label n) (word 21 2 e refl q)))
+      (last-is 21 e false refl))
 
   -- ---- the others, by their codes
-  module _ (c : ℕ) (e : code ≡ c) where
-    column-is : (i : ℕ) {r k : ℕ} → r ≡ columnAt T j i → getD (getD columns c []) i 0 ≡ k → r ≡ chosen k (cell 8 ι j 1) (cell 8 ι j 2) (cell 8 ι j 3) (cell 2 β (numberAt T j) 1)
-    column-is i q g = q ∙ column-at i c e ∙ ap (λ (k : ℕ). chosen k (cell 8 ι j 1) (cell 8 ι j 2) (cell 8 ι j 3) (cell 2 β (numberAt T j) 1)) g
-
-    plain-form : (k : ℕ) → getD forms c [] ≡ k ∷ k ∷ k ∷ [] → f ≡ k
-    plain-form k g = same3 k kind f (form-at c e ∙ ap (λ (r : List ℕ). getD r kind 22) g) small
-
   ld-row : code ≡ 10 → Same
   unfolding planned chosen
-  ld-row e = as-form 12 (plain-form 10 e 12 refl) (here ι os bs β (T .count) l σ (nextLoad R (σ .heap) p x y z) h
+  ld-row e = as-form 12 (plain-form 10 12 e refl refl refl) (here ι os bs β (T .count) l σ (nextLoad R (σ .heap) p x y z) h
       (ld-is ι os bs β (T .count) l σ ep (column-is 10 e 0 ex refl) (nextLoad R (σ .heap) p x y z) (column-is 10 e 1 ey refl) (column-is 10 e 2 ez refl) e refl))
 
   st-row : code ≡ 11 → Same
   unfolding planned chosen
-  st-row e = as-form 13 (plain-form 11 e 13 refl) (here ι os bs β (T .count) l σ (nextStore R (σ .heap) p x z y) h
+  st-row e = as-form 13 (plain-form 11 13 e refl refl refl) (here ι os bs β (T .count) l σ (nextStore R (σ .heap) p x z y) h
       (st-is ι os bs β (T .count) l σ ep (column-is 11 e 0 ex refl) (nextStore R (σ .heap) p x z y) (column-is 11 e 2 ez refl) (column-is 11 e 1 ey refl) e refl))
 
   getsp-row : code ≡ 13 → Same
   unfolding planned chosen
-  getsp-row e = as-form 14 (plain-form 13 e 14 refl) (here ι os bs β (T .count) l σ (Register x (pair (height (σ .depth))) p) h
+  getsp-row e = as-form 14 (plain-form 13 14 e refl refl refl) (here ι os bs β (T .count) l σ (Register x (pair (height (σ .depth))) p) h
       (getsp-is ι os bs β (T .count) l σ ep (column-is 13 e 0 ex refl) e))
 
   setsp-row : code ≡ 14 → Same
   unfolding planned chosen
-  setsp-row e = as-form 15 (plain-form 14 e 15 refl) (here ι os bs β (T .count) l σ (nextCut R (σ .depth) p x) h
+  setsp-row e = as-form 15 (plain-form 14 15 e refl refl refl) (here ι os bs β (T .count) l σ (nextCut R (σ .depth) p x) h
       (setsp-is ι os bs β (T .count) l σ ep (column-is 14 e 0 ex refl) (nextCut R (σ .depth) p x) e refl))
 
   salloc-row : code ≡ 15 → Same
   unfolding planned chosen
-  salloc-row e = as-form 16 (plain-form 15 e 16 refl) (here ι os bs β (T .count) l σ (nextPush (σ .depth) p z) h
+  salloc-row e = as-form 16 (plain-form 15 16 e refl refl refl) (here ι os bs β (T .count) l σ (nextPush (σ .depth) p z) h
       (salloc-is ι os bs β (T .count) l σ ep (column-is 15 e 2 ez refl) (nextPush (σ .depth) p z) e refl))
 
   sfree-row : code ≡ 16 → Same
   unfolding planned chosen
-  sfree-row e = as-form 17 (plain-form 16 e 17 refl) (here ι os bs β (T .count) l σ (nextPop (σ .depth) p z) h
+  sfree-row e = as-form 17 (plain-form 16 17 e refl refl refl) (here ι os bs β (T .count) l σ (nextPop (σ .depth) p z) h
       (sfree-is ι os bs β (T .count) l σ ep (column-is 16 e 2 ez refl) (nextPop (σ .depth) p z) e refl))
 
   sld-row : code ≡ 17 → Same
   unfolding planned chosen
-  sld-row e = as-form 18 (plain-form 17 e 18 refl) (here ι os bs β (T .count) l σ (nextRead (σ .stack) (σ .depth) p x z) h
+  sld-row e = as-form 18 (plain-form 17 18 e refl refl refl) (here ι os bs β (T .count) l σ (nextRead (σ .stack) (σ .depth) p x z) h
       (sld-is ι os bs β (T .count) l σ ep (column-is 17 e 0 ex refl) (nextRead (σ .stack) (σ .depth) p x z) (column-is 17 e 2 ez refl) refl e refl))
 
   sst-row : code ≡ 18 → Same
   unfolding planned chosen
-  sst-row e = as-form 19 (plain-form 18 e 19 refl) (here ι os bs β (T .count) l σ (nextWrite R (σ .depth) p z y) h
+  sst-row e = as-form 19 (plain-form 18 19 e refl refl refl) (here ι os bs β (T .count) l σ (nextWrite R (σ .depth) p z y) h
       (sst-is ι os bs β (T .count) l σ ep (column-is 18 e 2 ez refl) (nextWrite R (σ .depth) p z y) (column-is 18 e 1 ey refl) refl e refl))
 
   slp-row : code ≡ 19 → Same
   unfolding planned chosen
-  slp-row e = as-form 20 (plain-form 19 e 20 refl) (here ι os bs β (T .count) l σ (nextReadThrough R (σ .stack) (σ .depth) p x y z) h
+  slp-row e = as-form 20 (plain-form 19 20 e refl refl refl) (here ι os bs β (T .count) l σ (nextReadThrough R (σ .stack) (σ .depth) p x y z) h
       (slp-is ι os bs β (T .count) l σ ep (column-is 19 e 0 ex refl) (nextReadThrough R (σ .stack) (σ .depth) p x y z) (column-is 19 e 1 ey refl) refl (column-is 19 e 2 ez refl) e refl))
 
   ssp-row : code ≡ 20 → Same
   unfolding planned chosen
-  ssp-row e = as-form 21 (plain-form 20 e 21 refl) (here ι os bs β (T .count) l σ (nextWriteThrough R (σ .depth) p x z y) h
+  ssp-row e = as-form 21 (plain-form 20 21 e refl refl refl) (here ι os bs β (T .count) l σ (nextWriteThrough R (σ .depth) p x z y) h
       (ssp-is ι os bs β (T .count) l σ ep (column-is 20 e 0 ex refl) (nextWriteThrough R (σ .depth) p x z y) (column-is 20 e 2 ez refl) refl (column-is 20 e 1 ey refl) e refl))
 
-  equal : (k : ℕ) → (code ≡ k → Same) → k ≤ code → (suc k ≤ code → Same) → Same
-  equal k a m b = pick (decLt k code)
+  malloc-row : code ≡ 12 → Same
+  unfolding planned chosen
+  malloc-row e = as-form 24 (plain-form 12 24 e refl refl refl) (here ι os bs β (T .count) l σ (nextTuple (σ .used) p x z n) h
+      (malloc-is ι os bs β (T .count) l σ ep (column-is 12 e 0 ex refl) (nextTuple (σ .used) p x z n) e (column-is 12 e 2 ez refl) (last-is 12 e true refl) refl))
+
+  halt-form : 22 ≤ code → f ≡ 25
+  halt-form m = pick (decLt 22 code)
     where
-      pick : Dec (k < code) → Same
+      pick : Dec (22 < code) → f ≡ 25
+      pick (yes q) = form-at code refl 25 (sym (past-form code kind q kind-low)) ∙ other-is there 25 refl refl
+      pick (no q) = let e : code ≡ 22 = omega arith in plain-form 22 25 e refl refl refl
+
+  halt-row : 22 ≤ code → Same
+  unfolding planned
+  halt-row m = as-form 25 (halt-form m) (halt-is ι os bs β (T .count) l σ h m)
+
+  equal : {X : Type 0} (k : ℕ) → (code ≡ k → X) → k ≤ code → (suc k ≤ code → X) → X
+  equal {X} k a m b = pick (decLt k code)
+    where
+      pick : Dec (k < code) → X
       pick (yes q) = b q
       pick (no q) = a (omega arith)
 
-  pub row-does : does f ≡ nextAt T σ
+  pub row-does : Same
   row-does =
       equal 0 (λ e. arith-rows 0 (omega arith) e) (omega arith) λ l1.
       equal 1 (λ e. arith-rows 1 (omega arith) e) l1 λ l2.
       equal 2 (λ e. arith-rows 2 (omega arith) e) l2 λ l3.
-      equal 3 (λ e. branch-rows 3 (omega arith) (omega arith) e refl refl) l3 λ l4.
-      equal 4 (λ e. branch-rows 4 (omega arith) (omega arith) e refl refl) l4 λ l5.
-      equal 5 (λ e. branch-rows 5 (omega arith) (omega arith) e refl refl) l5 λ l6.
-      equal 6 (λ e. branch-rows 6 (omega arith) (omega arith) e refl refl) l6 λ l7.
-      equal 7 (λ e. branch-rows 7 (omega arith) (omega arith) e refl refl) l7 λ l8.
-      equal 8 (λ e. branch-rows 8 (omega arith) (omega arith) e refl refl) l8 λ l9.
+      equal 3 (λ e. branch-rows 3 (omega arith) (omega arith) e refl refl refl) l3 λ l4.
+      equal 4 (λ e. branch-rows 4 (omega arith) (omega arith) e refl refl refl) l4 λ l5.
+      equal 5 (λ e. branch-rows 5 (omega arith) (omega arith) e refl refl refl) l5 λ l6.
+      equal 6 (λ e. branch-rows 6 (omega arith) (omega arith) e refl refl refl) l6 λ l7.
+      equal 7 (λ e. branch-rows 7 (omega arith) (omega arith) e refl refl refl) l7 λ l8.
+      equal 8 (λ e. branch-rows 8 (omega arith) (omega arith) e refl refl refl) l8 λ l9.
       equal 9 (λ e. mov-rows e) l9 λ l10.
       equal 10 (λ e. ld-row e) l10 λ l11.
       equal 11 (λ e. st-row e) l11 λ l12.
-      equal 12 (λ e. left-out (plain-form 12 e 22 refl)) l12 λ l13.
+      equal 12 (λ e. malloc-row e) l12 λ l13.
       equal 13 (λ e. getsp-row e) l13 λ l14.
       equal 14 (λ e. setsp-row e) l14 λ l15.
       equal 15 (λ e. salloc-row e) l15 λ l16.
@@ -345,48 +436,301 @@ module _ (T : Tables) (σ : State) (h : σ .position < T .count) {f x y z n p : 
       equal 19 (λ e. slp-row e) l19 λ l20.
       equal 20 (λ e. ssp-row e) l20 λ l21.
       equal 21 (λ e. jmp-rows e) l21 λ l22.
-      absurd (high-code code kind f l22 (all .1) small)
+      halt-row l22
 
   -- ---- what a row says of registers
-  pub first-low : x < 8
-  first-low = let m : columnAt T j 0 < 8 = ltb-true (columnAt T j 0) 8 (checks .0) in omega arith
+  abbrev Low : Type 0
+  Low = (x < 8) × (y < 8) × (readsOperand f ≡ true → n < 8)
 
-  pub second-low : y < 8
-  second-low = let m : columnAt T j 1 < 8 = ltb-true (columnAt T j 1) 8 (checks .1) in omega arith
+  module _ (fit : Fit T) where
+    abbrev names : (i : Instr) → instrAt ι (operandsOf T) j ≡ i → Registered i
+    names i e = subst Registered e (fit .registers j h)
 
-  pub operand-low : readsOperand f ≡ true → n < 8
-  unfolding operandFits
-  operand-low r =
-      let k : kind ≡ 0 = reads-kind code kind f (all .1) r in
-      let q : operandFits l 0 (numberAt T j) ≡ true = ap (λ (i : ℕ). operandFits l i (numberAt T j)) (sym k) ∙ checks .2 in
-      let m : numberAt T j < 8 = ltb-true (numberAt T j) 8 q in
-      omega arith
+    none-read : (r : ℕ) → f ≡ r → readsOperand r ≡ false → readsOperand f ≡ true → n < 8
+    none-read r e q g = none-true (sym q ∙ ap readsOperand (sym e) ∙ g)
+
+    -- an operand that is read is a register
+    operand-read : (c : ℕ) → code ≡ c → eqb c 12 ≡ false → LowOperand (operandAt (operandTable os bs) v) → readsOperand (getD (getD forms c halts) 1 26) ≡ false → readsOperand (getD (getD forms c halts) 2 26) ≡ false → readsOperand f ≡ true → n < 8
+    unfolding kindAt
+    operand-read c e q lo r1 r2 g = by-kind
+        (λ k. let b : LowBase (baseOf (cond (ltb (cell 4 os v 0) 2) (cell 4 os v 0) 2) number) = subst LowBase (sym (same-base (cell 4 os v 0) number)) (low-at (operandTable os bs) v lo) in
+        let m : number < 8 = low-register (cond (ltb (cell 4 os v 0) 2) (cell 4 os v 0) 2) number k b in
+        let w : n ≡ number = last-is c e false q in
+        omega arith)
+        (λ k. let m = getD (getD forms c halts) 1 26 in none-true (sym (not-read there (eqb m 6) (eqb m 10) m r1) ∙ ap readsOperand (sym (form-at c e m (at-kind c 1 k refl))) ∙ g))
+        (λ k. let m = getD (getD forms c halts) 2 26 in none-true (sym (not-read there (eqb m 6) (eqb m 10) m r2) ∙ ap readsOperand (sym (form-at c e m (at-kind c 2 k refl))) ∙ g))
+
+    low : (i k : ℕ) → i ≡ k → k < 8 → i < 8
+    low i k e m = omega arith
+
+    zero-low : (i : ℕ) → i ≡ 0 → i < 8
+    zero-low i e = omega arith
+
+    arith-low : (c : ℕ) → c < 3 → code ≡ c → eqb c 12 ≡ false → getD columns c [] ≡ 1 ∷ 2 ∷ 0 ∷ [] → readsOperand (getD (getD forms c halts) 1 26) ≡ false → readsOperand (getD (getD forms c halts) 2 26) ≡ false → Low
+    arith-low c hc e q rc r1 r2 =
+        let m = names _ (is-arith ι (operandsOf T) j c e hc) in
+        (low x (cell 8 ι j 1) (first c hc e q rc) (m .0), low y (cell 8 ι j 2) (second c hc e q rc) (m .1), operand-read c e q (m .2) r1 r2)
+
+    branch-low : (c : ℕ) → 3 ≤ c → c < 9 → code ≡ c → eqb c 12 ≡ false → getD forms c halts ≡ 22 ∷ 23 ∷ 6 ∷ [] → getD columns c [] ≡ 1 ∷ 6 ∷ 0 ∷ [] → readsOperand (getD (getD forms c halts) 1 26) ≡ false → readsOperand (getD (getD forms c halts) 2 26) ≡ false → Low
+    branch-low c l3 l9 e q rf rc r1 r2 =
+        let k : ℕ = c - 3 in
+        let ek : code ≡ 3 + k = omega arith in
+        let lk : k < 6 = omega arith in
+        let m = names _ (is-branch ι (operandsOf T) j k ek lk) in
+        let s : y ≡ c - 3 = sort c l3 l9 e q rf rc in
+        (low x (cell 8 ι j 1) (tested c l3 l9 e q rf rc) (m .0), omega arith, operand-read c e q (m .1) r1 r2)
+
+    ld-low : code ≡ 10 → Low
+    unfolding chosen readsOperand
+    ld-low e =
+        let m = names _ (is-ld ι (operandsOf T) j e) in
+        (low x (cell 8 ι j 1) (column-is 10 e 0 ex refl) (m .0), low y (cell 8 ι j 2) (column-is 10 e 1 ey refl) (m .1), none-read 12 (plain-form 10 12 e refl refl refl) refl)
+
+    st-low : code ≡ 11 → Low
+    unfolding chosen readsOperand
+    st-low e =
+        let m = names _ (is-st ι (operandsOf T) j e) in
+        (low x (cell 8 ι j 1) (column-is 11 e 0 ex refl) (m .0), low y (cell 8 ι j 3) (column-is 11 e 1 ey refl) (m .1), none-read 13 (plain-form 11 13 e refl refl refl) refl)
+
+    malloc-low : code ≡ 12 → Low
+    unfolding chosen readsOperand
+    malloc-low e =
+        let m = names _ (is-malloc ι (operandsOf T) j e) in
+        (low x (cell 8 ι j 1) (column-is 12 e 0 ex refl) m, zero-low y (column-is 12 e 1 ey refl), none-read 24 (plain-form 12 24 e refl refl refl) refl)
+
+    getsp-low : code ≡ 13 → Low
+    unfolding chosen readsOperand
+    getsp-low e =
+        let m = names _ (is-getsp ι (operandsOf T) j e) in
+        (low x (cell 8 ι j 1) (column-is 13 e 0 ex refl) m, zero-low y (column-is 13 e 1 ey refl), none-read 14 (plain-form 13 14 e refl refl refl) refl)
+
+    setsp-low : code ≡ 14 → Low
+    unfolding chosen readsOperand
+    setsp-low e =
+        let m = names _ (is-setsp ι (operandsOf T) j e) in
+        (low x (cell 8 ι j 1) (column-is 14 e 0 ex refl) m, zero-low y (column-is 14 e 1 ey refl), none-read 15 (plain-form 14 15 e refl refl refl) refl)
+
+    salloc-low : code ≡ 15 → Low
+    unfolding chosen readsOperand
+    salloc-low e =
+        (zero-low x (column-is 15 e 0 ex refl), zero-low y (column-is 15 e 1 ey refl), none-read 16 (plain-form 15 16 e refl refl refl) refl)
+
+    sfree-low : code ≡ 16 → Low
+    unfolding chosen readsOperand
+    sfree-low e =
+        (zero-low x (column-is 16 e 0 ex refl), zero-low y (column-is 16 e 1 ey refl), none-read 17 (plain-form 16 17 e refl refl refl) refl)
+
+    sld-low : code ≡ 17 → Low
+    unfolding chosen readsOperand
+    sld-low e =
+        let m = names _ (is-sld ι (operandsOf T) j e) in
+        (low x (cell 8 ι j 1) (column-is 17 e 0 ex refl) m, zero-low y (column-is 17 e 1 ey refl), none-read 18 (plain-form 17 18 e refl refl refl) refl)
+
+    sst-low : code ≡ 18 → Low
+    unfolding chosen readsOperand
+    sst-low e =
+        let m = names _ (is-sst ι (operandsOf T) j e) in
+        (zero-low x (column-is 18 e 0 ex refl), low y (cell 8 ι j 2) (column-is 18 e 1 ey refl) m, none-read 19 (plain-form 18 19 e refl refl refl) refl)
+
+    slp-low : code ≡ 19 → Low
+    unfolding chosen readsOperand
+    slp-low e =
+        let m = names _ (is-slp ι (operandsOf T) j e) in
+        (low x (cell 8 ι j 1) (column-is 19 e 0 ex refl) (m .0), low y (cell 8 ι j 2) (column-is 19 e 1 ey refl) (m .1), none-read 20 (plain-form 19 20 e refl refl refl) refl)
+
+    ssp-low : code ≡ 20 → Low
+    unfolding chosen readsOperand
+    ssp-low e =
+        let m = names _ (is-ssp ι (operandsOf T) j e) in
+        (low x (cell 8 ι j 1) (column-is 20 e 0 ex refl) (m .0), low y (cell 8 ι j 3) (column-is 20 e 1 ey refl) (m .1), none-read 21 (plain-form 20 21 e refl refl refl) refl)
+
+    mov-low : code ≡ 9 → Low
+    unfolding chosen readsOperand
+    mov-low e =
+        let m = names _ (is-mov ι (operandsOf T) j e) in
+        (low x (cell 8 ι j 1) (column-is 9 e 0 ex refl) (m .0), zero-low y (column-is 9 e 1 ey refl), operand-read 9 e refl (m .1) refl refl)
+
+    jmp-low : code ≡ 21 → Low
+    unfolding chosen readsOperand
+    jmp-low e =
+        let m = names _ (is-jmp ι (operandsOf T) j e) in
+        (zero-low x (column-is 21 e 0 ex refl), zero-low y (column-is 21 e 1 ey refl), operand-read 21 e refl m refl refl)
+
+    halt-column : (i : ℕ) {r : ℕ} → 22 ≤ code → r ≡ columnAt T j i → i < 3 → r ≡ 0
+    unfolding columnAt chosen
+    halt-column i {r} m e hi = pick (decLt 22 code)
+      where
+        none : (k : ℕ) → k ≡ 0 → chosen k (cell 8 ι j 1) (cell 8 ι j 2) (cell 8 ι j 3) (targetAt T j) (operandIn T j) (code - 3) ≡ 0
+        none k q = rw q
+
+        zeros : (i : ℕ) → i < 3 → _≡_ {A = ℕ} (getD (0 ∷ 0 ∷ 0 ∷ []) i 0) 0
+        zeros zero q = refl
+        zeros (suc zero) q = refl
+        zeros (suc (suc zero)) q = refl
+        zeros (suc (suc (suc k))) q = absurd (omega arith)
+
+        pick : Dec (22 < code) → r ≡ 0
+        pick (yes q) = e ∙ none (getD (getD columns code []) i 0) (ap (λ (r : List ℕ). getD r i 0) (List·getD-eq-default columns [] q))
+        pick (no q) =
+            let c : code ≡ 22 = omega arith in
+            e ∙ none (getD (getD columns code []) i 0) (ap (λ (k : ℕ). getD (getD columns k []) i 0) c ∙ zeros i hi)
+
+    halt-low : 22 ≤ code → Low
+    unfolding readsOperand
+    halt-low m = (zero-low x (halt-column 0 m ex (omega arith)), zero-low y (halt-column 1 m ey (omega arith)), none-read 25 (halt-form m) refl)
+
+    pub row-low : Low
+    unfolding readsOperand
+    row-low =
+        equal 0 (λ e. arith-low 0 (omega arith) e refl refl refl refl) (omega arith) λ l1.
+        equal 1 (λ e. arith-low 1 (omega arith) e refl refl refl refl) l1 λ l2.
+        equal 2 (λ e. arith-low 2 (omega arith) e refl refl refl refl) l2 λ l3.
+        equal 3 (λ e. branch-low 3 (omega arith) (omega arith) e refl refl refl refl refl) l3 λ l4.
+        equal 4 (λ e. branch-low 4 (omega arith) (omega arith) e refl refl refl refl refl) l4 λ l5.
+        equal 5 (λ e. branch-low 5 (omega arith) (omega arith) e refl refl refl refl refl) l5 λ l6.
+        equal 6 (λ e. branch-low 6 (omega arith) (omega arith) e refl refl refl refl refl) l6 λ l7.
+        equal 7 (λ e. branch-low 7 (omega arith) (omega arith) e refl refl refl refl refl) l7 λ l8.
+        equal 8 (λ e. branch-low 8 (omega arith) (omega arith) e refl refl refl refl refl) l8 λ l9.
+        equal 9 (λ e. mov-low e) l9 λ l10.
+        equal 10 (λ e. ld-low e) l10 λ l11.
+        equal 11 (λ e. st-low e) l11 λ l12.
+        equal 12 (λ e. malloc-low e) l12 λ l13.
+        equal 13 (λ e. getsp-low e) l13 λ l14.
+        equal 14 (λ e. setsp-low e) l14 λ l15.
+        equal 15 (λ e. salloc-low e) l15 λ l16.
+        equal 16 (λ e. sfree-low e) l16 λ l17.
+        equal 17 (λ e. sld-low e) l17 λ l18.
+        equal 18 (λ e. sst-low e) l18 λ l19.
+        equal 19 (λ e. slp-low e) l19 λ l20.
+        equal 20 (λ e. ssp-low e) l20 λ l21.
+        equal 21 (λ e. jmp-low e) l21 λ l22.
+        halt-low l22
+
+  -- ---- where a row leads
+  branch-there : f ≡ 6 → number < l
+  unfolding formAt formFor
+  branch-there e = ltb-true number l (was-branch there (eqb (formFor T j) 6) (eqb (formFor T j) 10) (formFor T j) refl (sym ef ∙ e) .0)
+
+  jump-there : f ≡ 10 → number < l
+  unfolding formAt formFor
+  jump-there e = ltb-true number l (was-jump there (eqb (formFor T j) 6) (eqb (formFor T j) 10) (formFor T j) refl (sym ef ∙ e) .0)
+
+  pub jump-place : f ≡ 10 → z ≡ 8 * targetAt T j
+  unfolding formAt formFor chosen
+  jump-place e =
+      let q : formFor T j ≡ 10 = was-jump there (eqb (formFor T j) 6) (eqb (formFor T j) 10) (formFor T j) refl (sym ef ∙ e) .1 in
+      column-is 21 (jump-code code kind kind-low q) 2 ez refl
+
+  pub jump-within : Fit T → f ≡ 10 → targetAt T j ≤ T .count
+  jump-within fit e = let m : targetAt T j < T .count = fit .starts number (jump-there e) in omega arith
+
+  either : (b : Bool) (s t m : ℕ) → s ≤ m → t ≤ m → cond b s t ≤ m
+  either true s t m hs ht = hs
+  either false s t m hs ht = ht
+
+  pub branch-within : Fit T → f ≡ 6 → (i : ℕ) → goalIn T j i ≤ T .count
+  unfolding goalIn goalAt
+  branch-within fit e i =
+      let a : targetAt T j < T .count = fit .starts number (branch-there e) in
+      let s : targetAt T j ≤ T .count = omega arith in
+      let t : j + 1 ≤ T .count = omega arith in
+      let g : (x : ℕ) → cond (taken (branchOf (code - 3)) (signOf x)) (targetAt T j) (j + 1) ≤ T .count = λ x. either (taken (branchOf (code - 3)) (signOf x)) (targetAt T j) (j + 1) (T .count) s t in
+      either (eqb i 0) _ _ (T .count) (g 2147483648) (either (eqb i 1) _ _ (T .count) (g 0) (g 1))
 
 -- ---- a row of the table
-module _ (T : Tables) (φ : List ℕ) (pl : Plan T φ) (σ : State) {m l : ℕ} {β : List ℕ} (em : T .count ≡ m) (el : T .labels ≡ l) (eβ : T .blocks ≡ β) (h : σ .position < m) {f x y z n p : ℕ} (ef : f ≡ cell 8 φ (σ .position) 0) (ex : x ≡ cell 8 φ (σ .position) 1) (ey : y ≡ cell 8 φ (σ .position) 2) (ez : z ≡ cell 8 φ (σ .position) 3) (en : n ≡ cell 8 φ (σ .position) 4) (ep : p ≡ σ .position + 1) (small : f < 22) where
+module _ (T : Tables) (φ : List ℕ) (pl : Plan T φ) (σ : State) (h : σ .position ≤ T .count) where
   abbrev i : ℕ
   i = σ .position
 
-  within : i < T .count
-  within = omega (arith, em)
+  -- an instruction's row, or the one behind
+  by-row : {X : Type 0} → (i < T .count → X) → (i ≡ T .count → X) → X
+  by-row {X} a b = pick (decLt i (T .count))
+    where
+      pick : Dec (i < T .count) → X
+      pick (yes q) = a q
+      pick (no q) = b (omega arith)
 
-  entry : (k : ℕ) → k < 8 → cell 8 φ i k ≡ getD (rowOf T i) k 0
-  entry k q = pl .rows i k within q
+  entry : i < T .count → (k : ℕ) → k < 8 → cell 8 φ i k ≡ getD (rowOf T i) k 0
+  entry m k q = pl .rows i k m q
 
-  pub next-is : planned β l (λ s. cell 8 φ (σ .position) (5 + s)) f x y z n p (σ .registers) (σ .stack) (σ .heap) (σ .depth) ≡ nextAt T σ
-  unfolding rowOf
-  next-is =
-      ap₂ (λ (b : List ℕ) (k : ℕ). planned b k (λ s. cell 8 φ (σ .position) (5 + s)) f x y z n p (σ .registers) (σ .stack) (σ .heap) (σ .depth)) (sym eβ) (sym el)
-      ∙ row-does T σ within (λ s. cell 8 φ (σ .position) (5 + s)) (ef ∙ entry 0 (omega arith)) (ex ∙ entry 1 (omega arith)) (ey ∙ entry 2 (omega arith)) (ez ∙ entry 3 (omega arith)) (en ∙ entry 4 (omega arith)) (entry 5 (omega arith)) (entry 6 (omega arith)) (entry 7 (omega arith)) ep small
+  behind : i ≡ T .count → (k : ℕ) → k < 8 → cell 8 φ i k ≡ getD stuckRow k 0
+  behind e k q = ap (λ (j : ℕ). cell 8 φ j k) e ∙ pl .last k q
 
-  pub low-first : x < 8
-  unfolding rowOf
-  low-first = first-low T σ within (λ s. cell 8 φ (σ .position) (5 + s)) (ef ∙ entry 0 (omega arith)) (ex ∙ entry 1 (omega arith)) (ey ∙ entry 2 (omega arith)) (ez ∙ entry 3 (omega arith)) (en ∙ entry 4 (omega arith)) (entry 5 (omega arith)) (entry 6 (omega arith)) (entry 7 (omega arith)) ep small
+  module _ (m : i < T .count) where
+    form-cell : cell 8 φ i 0 ≡ formAt T i
+    unfolding rowOf
+    form-cell = entry m 0 (omega arith)
 
-  pub low-second : y < 8
-  unfolding rowOf
-  low-second = second-low T σ within (λ s. cell 8 φ (σ .position) (5 + s)) (ef ∙ entry 0 (omega arith)) (ex ∙ entry 1 (omega arith)) (ey ∙ entry 2 (omega arith)) (ez ∙ entry 3 (omega arith)) (en ∙ entry 4 (omega arith)) (entry 5 (omega arith)) (entry 6 (omega arith)) (entry 7 (omega arith)) ep small
+    cell-1 : cell 8 φ i 1 ≡ columnAt T i 0
+    unfolding rowOf
+    cell-1 = entry m 1 (omega arith)
 
-  pub low-operand : readsOperand f ≡ true → n < 8
-  unfolding rowOf
-  low-operand = operand-low T σ within (λ s. cell 8 φ (σ .position) (5 + s)) (ef ∙ entry 0 (omega arith)) (ex ∙ entry 1 (omega arith)) (ey ∙ entry 2 (omega arith)) (ez ∙ entry 3 (omega arith)) (en ∙ entry 4 (omega arith)) (entry 5 (omega arith)) (entry 6 (omega arith)) (entry 7 (omega arith)) ep small
+    cell-2 : cell 8 φ i 2 ≡ columnAt T i 1
+    unfolding rowOf
+    cell-2 = entry m 2 (omega arith)
+
+    cell-3 : cell 8 φ i 3 ≡ columnAt T i 2
+    unfolding rowOf
+    cell-3 = entry m 3 (omega arith)
+
+    cell-4 : cell 8 φ i 4 ≡ lastAt T i
+    unfolding rowOf
+    cell-4 = entry m 4 (omega arith)
+
+    goal-cells : (k : ℕ) → k < 3 → cell 8 φ i (5 + k) ≡ 8 * goalIn T i k
+    unfolding rowOf
+    goal-cells zero q = entry m 5 (omega arith)
+    goal-cells (suc zero) q = entry m 6 (omega arith)
+    goal-cells (suc (suc zero)) q = entry m 7 (omega arith)
+    goal-cells (suc (suc (suc k))) q = absurd (omega arith)
+
+  stuck : (f : ℕ) → f ≡ 26 → planned (T .blocks) (T .labels) (targetAt T i) (goalIn T i) f (cell 8 φ i 1) (cell 8 φ i 2) (cell 8 φ i 3) (cell 8 φ i 4) (i + 1) (σ .registers) (σ .stack) (σ .heap) (σ .depth) (σ .used) ≡ End Stuck
+  unfolding planned
+  stuck f e = rw e
+
+  pub next-is : {l : ℕ} {β : List ℕ} → T .labels ≡ l → T .blocks ≡ β → planned β l (targetAt T (σ .position)) (goalIn T (σ .position)) (cell 8 φ (σ .position) 0) (cell 8 φ (σ .position) 1) (cell 8 φ (σ .position) 2) (cell 8 φ (σ .position) 3) (cell 8 φ (σ .position) 4) (σ .position + 1) (σ .registers) (σ .stack) (σ .heap) (σ .depth) (σ .used) ≡ nextAt T σ
+  next-is {l} {β} el eβ =
+      ap₂ (λ (b : List ℕ) (k : ℕ). planned b k (targetAt T i) (goalIn T i) (cell 8 φ i 0) (cell 8 φ i 1) (cell 8 φ i 2) (cell 8 φ i 3) (cell 8 φ i 4) (i + 1) (σ .registers) (σ .stack) (σ .heap) (σ .depth) (σ .used)) (sym eβ) (sym el)
+      ∙ by-row
+      (λ m. row-does T σ m (form-cell m) (cell-1 m) (cell-2 m) (cell-3 m) (cell-4 m) refl)
+      (λ e. stuck (cell 8 φ i 0) (behind e 0 (omega arith)) ∙ nowhere (T .instrs) (T .operands) (T .bases) (T .blocks) (T .count) (T .labels) σ (End Stuck) (omega arith) refl)
+
+  pub before-last : cell 8 φ (σ .position) 0 < 26 → σ .position < T .count
+  before-last q = by-row (λ m. m) (λ e. let w : cell 8 φ i 0 ≡ 26 = behind e 0 (omega arith) in absurd (omega arith))
+
+  pub goal-cell : (k : ℕ) → k < 3 → cell 8 φ (σ .position) 0 ≡ 6 → cell 8 φ (σ .position) (5 + k) ≡ 8 * goalIn T (σ .position) k
+  goal-cell k q e = let w : cell 8 φ i 0 < 26 = omega arith in goal-cells (before-last w) k q
+
+  pub jump-cell : cell 8 φ (σ .position) 0 ≡ 10 → cell 8 φ (σ .position) 3 ≡ 8 * targetAt T (σ .position)
+  jump-cell e =
+      let w : cell 8 φ i 0 < 26 = omega arith in
+      let m : i < T .count = before-last w in
+      jump-place T σ m (form-cell m) (cell-1 m) (cell-2 m) (cell-3 m) (cell-4 m) refl e
+
+  module _ (fit : Fit T) where
+    pub goal-in : cell 8 φ (σ .position) 0 ≡ 6 → (k : ℕ) → goalIn T (σ .position) k ≤ T .count
+    goal-in e k =
+        let w : cell 8 φ i 0 < 26 = omega arith in
+        let m : i < T .count = before-last w in
+        branch-within T σ m (form-cell m) (cell-1 m) (cell-2 m) (cell-3 m) (cell-4 m) refl fit e k
+
+    pub jump-in : cell 8 φ (σ .position) 0 ≡ 10 → targetAt T (σ .position) ≤ T .count
+    jump-in e =
+        let w : cell 8 φ i 0 < 26 = omega arith in
+        let m : i < T .count = before-last w in
+        jump-within T σ m (form-cell m) (cell-1 m) (cell-2 m) (cell-3 m) (cell-4 m) refl fit e
+
+    pub low-first : cell 8 φ (σ .position) 1 < 8
+    low-first = by-row
+        (λ m. row-low T σ m (form-cell m) (cell-1 m) (cell-2 m) (cell-3 m) (cell-4 m) refl fit .0)
+        (λ e. let w : cell 8 φ i 1 ≡ 0 = behind e 1 (omega arith) in omega arith)
+
+    pub low-second : cell 8 φ (σ .position) 2 < 8
+    low-second = by-row
+        (λ m. row-low T σ m (form-cell m) (cell-1 m) (cell-2 m) (cell-3 m) (cell-4 m) refl fit .1)
+        (λ e. let w : cell 8 φ i 2 ≡ 0 = behind e 2 (omega arith) in omega arith)
+
+    pub low-operand : readsOperand (cell 8 φ (σ .position) 0) ≡ true → cell 8 φ (σ .position) 4 < 8
+    low-operand r = by-row
+        (λ m. row-low T σ m (form-cell m) (cell-1 m) (cell-2 m) (cell-3 m) (cell-4 m) refl fit .2 r)
+        (λ e. let w : cell 8 φ i 4 ≡ 0 = behind e 4 (omega arith) in omega arith)

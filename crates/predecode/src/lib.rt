@@ -1,30 +1,32 @@
-// The machine's own table of a program, made once for a run: a row of eight numbers for each instruction, its operand resolved.
-// `predecode` promises each row, as `rowOf` has it (specs/Plan.antt), or no row if there is no room. What a row does is what the
-// instruction does (proofs/Rows.antt: `next-is`); a row of form 22 is left to the general step.
+// The machine's own table of a program, made once for a run: a row of eight numbers for each instruction, its operand and its goals
+// resolved, and behind them a row that is stuck. `predecode` promises each row, as `rowOf` has it (specs/Plan.antt). What a row does
+// is what the instruction does (proofs/Rows.antt: `next-is`).
 ghost use mathlib.Core.Path.{_≡_};
-ghost use mathlib.Core.Bool.{_&&_, cond};
+ghost use mathlib.Core.Bool.{cond};
 ghost use mathlib.Core.List.{[], _∷_};
-ghost use Prim.Native.Nat.{ℕ, _+_, _*_, _<_, _≤_};
-ghost use lib.Dec.{ltb};
+ghost use Prim.Native.Nat.{ℕ, _+_, _-_, _*_, _<_, _≤_};
+ghost use lib.Dec.{ltb, eqb};
 ghost use lib.ListN.{length, getD, set};
+ghost use Rattle.exec.specs.Machine.{signOf, taken};
+ghost use Rattle.arith.specs.Codes.{branchOf};
 ghost use Rattle.machine.specs.Step.{tables};
-ghost use Rattle.predecode.specs.Plan.{forms, columns, chosen, operandFits, bit, putRow, rowOf, Plan};
+ghost use Rattle.predecode.specs.Plan.{forms, halts, columns, chosen, putRow, rowOf, Plan};
 
 // The form of an instruction, by its code and the kind of its operand: register, integer, label.
 const FORMS: [[u8; 3]; 23] = [
-    [0, 1, 22],
-    [2, 3, 22],
-    [4, 5, 22],
-    [22, 22, 6],
-    [22, 22, 6],
-    [22, 22, 6],
-    [22, 22, 6],
-    [22, 22, 6],
-    [22, 22, 6],
+    [0, 1, 26],
+    [2, 3, 26],
+    [4, 5, 26],
+    [22, 23, 6],
+    [22, 23, 6],
+    [22, 23, 6],
+    [22, 23, 6],
+    [22, 23, 6],
+    [22, 23, 6],
     [7, 8, 9],
     [12, 12, 12],
     [13, 13, 13],
-    [22, 22, 22],
+    [24, 24, 24],
     [14, 14, 14],
     [15, 15, 15],
     [16, 16, 16],
@@ -33,26 +35,26 @@ const FORMS: [[u8; 3]; 23] = [
     [19, 19, 19],
     [20, 20, 20],
     [21, 21, 21],
-    [11, 22, 10],
-    [22, 22, 22],
+    [11, 26, 10],
+    [25, 25, 25],
 ];
 
 // Which number stands in a row's columns 1 to 3, two registers and one number more: 0 for none, else the instruction's first, second
-// or third number, or 4 for the position that its operand leads to.
+// or third number, 4 for the row that its label leads to, 5 for its first operand, 6 for the kind of a branch.
 const COLUMNS: [[u8; 3]; 23] = [
-    [1, 2, 4],
-    [1, 2, 4],
-    [1, 2, 4],
-    [1, 0, 4],
-    [1, 0, 4],
-    [1, 0, 4],
-    [1, 0, 4],
-    [1, 0, 4],
-    [1, 0, 4],
-    [1, 0, 4],
+    [1, 2, 0],
+    [1, 2, 0],
+    [1, 2, 0],
+    [1, 6, 0],
+    [1, 6, 0],
+    [1, 6, 0],
+    [1, 6, 0],
+    [1, 6, 0],
+    [1, 6, 0],
+    [1, 0, 0],
     [1, 2, 3],
     [1, 3, 2],
-    [0, 0, 0],
+    [1, 0, 5],
     [1, 0, 0],
     [1, 0, 0],
     [0, 0, 1],
@@ -72,21 +74,38 @@ fn wide(x: u8) -> usize
 }
 
 fn narrow(x: usize) -> u32
-    requires { ⌜ x < 65536 ⌝ }
+    requires { ⌜ x < 4294967296 ⌝ }
     ensures { λ r. ⌜ r ≡ x ⌝ }
 {
     x as u32
 }
 
+// A kind past that of labels is that of labels.
+fn kind_of(k: usize) -> usize
+    ensures { λ r. ⌜ (r ≡ cond (ltb k 2) k 2) × (r < 3) ⌝ }
+{
+    if k < 2 { k } else { 2 }
+}
+
+// A branch's kind, counted from code 3 on.
+fn branch_kind(code: usize) -> usize
+    ensures { λ r. ⌜ r ≡ code - 3 ⌝ }
+{
+    if code < 3 {
+        return 0;
+    }
+    code - 3
+}
+
+// The form; a code past the table is that of `halt`.
 fn form(code: usize, kind: usize) -> usize
-    ensures { λ r. ⌜ (r ≡ getD (getD forms code []) kind 22) × (r < 256) ⌝ }
+    requires { ⌜ kind < 3 ⌝ }
+    ensures { λ r. ⌜ (r ≡ getD (getD forms code halts) kind 26) × (r < 256) ⌝ }
 {
     if code < 23 {
-        if kind < 3 {
-            return wide(FORMS[code][kind]);
-        }
+        return wide(FORMS[code][kind]);
     }
-    22
+    25
 }
 
 fn column(code: usize, i: usize) -> usize
@@ -99,30 +118,19 @@ fn column(code: usize, i: usize) -> usize
     0
 }
 
-fn choose(k: usize, a: usize, b: usize, c: usize, t: usize) -> usize
-    requires { ⌜ (a < 65536) × (b < 65536) × (c < 65536) × (t < 65536) ⌝ }
-    ensures { λ r. ⌜ (r ≡ chosen k a b c t) × (r < 65536) ⌝ }
+fn choose(k: usize, a: usize, b: usize, c: usize, t: usize, v: usize, o: usize) -> usize
+    requires { ⌜ (a < 65536) × (b < 65536) × (c < 65536) × (t < 65536) × (v < 65536) × (o < 65536) ⌝ }
+    ensures { λ r. ⌜ (r ≡ chosen k a b c t v o) × (r < 4294967296) ⌝ }
 {
     match k {
         1 => a,
         2 => b,
         3 => c,
-        4 => t,
+        4 => 8 * t,
+        5 => v,
+        6 => o,
         _ => 0,
     }
-}
-
-// Whether an operand's number is that of a register or of an existing label.
-fn fits(labels: usize, kind: usize, n: usize) -> bool
-    ensures { λ r. ⌜ r ≡ operandFits labels kind n ⌝ }
-{
-    if kind == 0 {
-        return n < 8;
-    }
-    if kind == 1 {
-        return true;
-    }
-    n < labels
 }
 
 fn number_at(numbers: &[u32], i: usize) -> u32
@@ -131,14 +139,38 @@ fn number_at(numbers: &[u32], i: usize) -> u32
     if i < numbers.len() { numbers[i] } else { 0 }
 }
 
-// Whether a branch is taken on x, as a number.
-fn test(code: usize, x: u32) -> u32
-    ensures { λ r. ⌜ r ≡ bit code x ⌝ }
+// The form f, unless it goes to a label that is not there.
+fn checked(f: usize, label: usize, labels: usize) -> usize
+    requires { ⌜ f < 256 ⌝ }
+    ensures { λ r. ⌜ (r ≡ cond (ltb label labels) f (cond (eqb f 6) 23 (cond (eqb f 10) 26 f))) × (r < 256) ⌝ }
 {
-    if code < 3 {
-        return 0;
+    if label < labels {
+        return f;
     }
-    if arith::branches(code - 3, x) { 1 } else { 0 }
+    match f {
+        6 => 23,
+        10 => 26,
+        _ => f,
+    }
+}
+
+// How many operands `malloc` has, else the operand's number.
+fn last(code: usize, operands: usize, number: u32) -> u32
+    requires { ⌜ operands < 65536 ⌝ }
+    ensures { λ r. ⌜ r ≡ cond (eqb code 12) operands number ⌝ }
+{
+    if code == 12 { operands as u32 } else { number }
+}
+
+// The row where a branch of that kind on x leads: that of position t, or the one after j.
+fn goal(kind: usize, x: u32, t: usize, j: usize) -> u32
+    requires { ⌜ (t < 65536) × (j < 1024) ⌝ }
+    ensures { λ r. ⌜ r ≡ 8 * cond (taken (branchOf kind) (signOf x)) t (j + 1) ⌝ }
+{
+    if arith::branches(kind, x) {
+        return (8 * t) as u32;
+    }
+    (8 * (j + 1)) as u32
 }
 
 fn put(plan: &mut [u32], p: usize, v: u32)
@@ -173,21 +205,6 @@ fn put_row(
     put(plan, p + 7, positive);
 }
 
-// A row's form: 22 unless what it names as registers and labels are such.
-fn checked(form: usize, x: usize, y: usize, fits: bool) -> usize
-    requires { ⌜ form < 256 ⌝ }
-    ensures { λ r. ⌜ (r ≡ cond (ltb x 8 && ltb y 8 && fits) form 22) × (r < 256) ⌝ }
-{
-    if x < 8 {
-        if y < 8 {
-            if fits {
-                return form;
-            }
-        }
-    }
-    22
-}
-
 // The row of instruction j.
 fn make_row(
     instrs: &[u16],
@@ -198,7 +215,7 @@ fn make_row(
     j: usize,
     plan: &mut [u32],
 )
-    requires { ⌜ 8 * j + 8 ≤ length (now plan) ⌝ }
+    requires { ⌜ (8 * j + 8 ≤ length (now plan)) × (j < 1024) ⌝ }
     ensures { λ _. ⌜ ((n : ℕ) → now (plan .exit) ≡ putRow (now (plan .entry)) (8 * j) (rowOf (tables (now (instrs .entry)) (now (operands .entry)) (now (bases .entry)) (now (blocks .entry)) n labels) j)) ⌝ }
 {
     let p = 8 * j;
@@ -207,14 +224,16 @@ fn make_row(
     let b = memory::entry(instrs, 8, j, 2);
     let c = memory::entry(instrs, 8, j, 3);
     let v = memory::entry(instrs, 8, j, 5);
-    let kind = memory::entry(operands, 4, v, 0);
+    let m = memory::entry(instrs, 8, j, 6);
+    let kind = kind_of(memory::entry(operands, 4, v, 0));
     let n = number_at(bases, v);
     let label = memory::wide(n);
     let t = memory::entry(blocks, 2, label, 1);
-    let x = choose(column(code, 0), a, b, c, t);
-    let y = choose(column(code, 1), a, b, c, t);
-    let z = choose(column(code, 2), a, b, c, t);
-    let f = checked(form(code, kind), x, y, fits(labels, kind, label));
+    let o = branch_kind(code);
+    let x = choose(column(code, 0), a, b, c, t, v, o);
+    let y = choose(column(code, 1), a, b, c, t, v, o);
+    let z = choose(column(code, 2), a, b, c, t, v, o);
+    let f = checked(form(code, kind), label, labels);
     put_row(
         plan,
         p,
@@ -222,34 +241,14 @@ fn make_row(
         narrow(x),
         narrow(y),
         narrow(z),
-        n,
-        test(code, 2147483648),
-        test(code, 0),
-        test(code, 1),
+        last(code, m, n),
+        goal(o, 2147483648, t, j),
+        goal(o, 0, t, j),
+        goal(o, 1, t, j),
     );
 }
 
-// The rows of all instructions, in a table that has room for them.
-fn fill(
-    instrs: &[u16],
-    operands: &[u16],
-    bases: &[u32],
-    blocks: &[u16],
-    count: usize,
-    labels: usize,
-    plan: &mut [u32],
-)
-    requires { ⌜ 8 * count ≤ length (now plan) ⌝ }
-    ensures { λ _. ⌜ Plan (tables (now (instrs .entry)) (now (operands .entry)) (now (bases .entry)) (now (blocks .entry)) count labels) (now (plan .exit)) ⌝ }
-{
-    let mut j = 0;
-    while j < count {
-        make_row(instrs, operands, bases, blocks, labels, j, plan);
-        j += 1;
-    }
-}
-
-// The rows of all instructions, and how many they are; none if the table has no room for them.
+// The rows of all instructions, and behind them one that is stuck.
 pub fn predecode(
     instrs: &[u16],
     operands: &[u16],
@@ -258,12 +257,14 @@ pub fn predecode(
     count: usize,
     labels: usize,
     plan: &mut [u32],
-) -> usize
-    ensures { λ r. ⌜ (8 * r ≤ length (now (plan .exit))) × (0 < r → r ≡ count) × (0 < r → Plan (tables (now (instrs .entry)) (now (operands .entry)) (now (bases .entry)) (now (blocks .entry)) count labels) (now (plan .exit))) ⌝ }
+)
+    requires { ⌜ (8 * count + 8 ≤ length (now plan)) × (count ≤ 1024) ⌝ }
+    ensures { λ _. ⌜ Plan (tables (now (instrs .entry)) (now (operands .entry)) (now (bases .entry)) (now (blocks .entry)) count labels) (now (plan .exit)) ⌝ }
 {
-    if plan.len() / 8 < count {
-        return 0;
+    let mut j = 0;
+    while j < count {
+        make_row(instrs, operands, bases, blocks, labels, j, plan);
+        j += 1;
     }
-    fill(instrs, operands, bases, blocks, count, labels, plan);
-    count
+    put_row(plan, 8 * count, 26, 0, 0, 0, 0, 0, 0, 0);
 }

@@ -30,6 +30,7 @@ use Rattle.ready.specs.declared.Ready.{Ready}
 use Rattle.ready.specs.Ready.{barredAt, refusalOf, Startable, ReadyIs}
 use Rattle.ready.proofs.Bodies.{represents-is}
 use Rattle.ready.proofs.Few.{few-samples}
+use Rattle.ready.proofs.Registers.{registers-low}
 
 -- ---- lines
 or-assoc : (x y z : Option Refusal) → orElse x (orElse y z) ≡ orElse (orElse x y) z
@@ -203,5 +204,10 @@ module _ (text : List ℕ) (σ : Store) (uses tops : List ℕ) (r : Loaded) (l :
               represents = represents-is (σ .instrs) (σ .operands) (σ .numbers) (σ .args) (σ .blocks) (r .instrs) (r .blocks) (programOf text) T _ blocks-are refl h (loaded .first h) (loaded .rising) (loaded .within);
               samples = wanted-is s h es;
               few = subst (λ (x : ℕ). x ≤ 16) (sym (es [])) few;
+              fit = record {
+                few = loaded .few-instrs;
+                registers = registers-low text (σ .blocks) (σ .instrs) (σ .operands) (σ .numbers) (σ .args) (r .instrs) (r .blocks) (loaded .blocks) h (loaded .first h);
+                starts = loaded .within;
+              };
             };
           })

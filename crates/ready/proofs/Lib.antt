@@ -1,3 +1,4 @@
 pub mod Bodies
 pub mod Few
+pub mod Registers
 pub mod Laws

@@ -9,7 +9,7 @@ use Rattle.syntax.specs.Fault.{Refusal}
 use Rattle.valid.specs.Program.{Program, programOf}
 use Rattle.exec.specs.Run.{bodies, wanted, barred}
 use Rattle.machine.specs.Step.{tables}
-use Rattle.machine.specs.Represents.{Represents}
+use Rattle.machine.specs.Represents.{Represents, Fit}
 use Rattle.ready.specs.declared.Ready.{Ready}
 
 -- a text that cannot be started: fault and line
@@ -20,13 +20,15 @@ barredAt n line = record { fault = n; line = line; blocks = 0; instrs = 0; sampl
 abbrev pub refusalOf : Ready → Option Refusal
 refusalOf r = cond (eqb (r .fault) 0) none (some (record { number = r .fault; line = r .line; items = [] }))
 
--- the machine's tables are those of P, with some type arguments, and the samples are counted
+-- the machine's tables are those of P, with some type arguments, the samples are counted, and the tables fit the machine
 pub record Startable (P : Program) (instrs operands numbers blocks : List ℕ) (r : Ready) : Type 0 where
   pub args : List ℕ
   pub represents : Represents (tables instrs operands numbers blocks (r .instrs) (r .blocks)) args (bodies P)
   pub samples : r .samples ≡ wanted (P .blocks)
   pub few : r .samples ≤ 16
+  pub fit : Fit (tables instrs operands numbers blocks (r .instrs) (r .blocks))
 
+-- r names what bars the text from starting; where nothing does, the tables are those of its program
 pub record ReadyIs (text instrs operands numbers blocks : List ℕ) (r : Ready) : Type 0 where
   pub fault : refusalOf r ≡ barred text
   pub startable : r .fault ≡ 0 → Startable (programOf text) instrs operands numbers blocks r

@@ -1,6 +1,6 @@
 // A text that may be run: loaded (crate load), and with no fault on block 0's line (crate entry). Promised: what bars the program from
-// starting, as `barred` of crate exec has it, or else that the tables represent the program to the machine, and how many samples it
-// wants. Asked: room in the tables.
+// starting, as `barred` of crate exec has it, or else that the tables represent the program to the machine and fit it (`Fit` of crate
+// machine: few instructions, registers r1 to r8), and how many samples it wants. Asked: room in the tables.
 ghost use mathlib.Core.Path.{_≡_};
 ghost use mathlib.Core.Bool.{true, cond};
 ghost use mathlib.Core.List.{List};

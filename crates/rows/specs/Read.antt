@@ -30,6 +30,7 @@ abbrev pub lower : ℕ → ℕ → ℕ
 lower h x = cond (ltb (suc x) h) (suc x) 0
 
 -- ---- a row's form; f says what a variable is
+-- the value row of kind k with the numbers a and b, as row h
 unfoldable pub valueWith : (ℕ → Val) → ℕ → ℕ → ℕ → ℕ → Val
 valueWith f h k a b =
     cond (eqb k 0) Int
@@ -38,6 +39,7 @@ valueWith f h k a b =
     (cond (eqb k 4) (Pointer (lower h a))
     (cond (eqb k 5) (Code (lower h a) b) Junk))))
 
+-- the stack row
 unfoldable pub stackWith : (ℕ → Stk) → ℕ → ℕ → ℕ → ℕ → Stk
 stackWith f h k a b =
     cond (ltb k 7) Nil
@@ -65,14 +67,17 @@ slotAt true h zero = Gap
 slotAt true h (suc t) = Known (lower h t)
 
 -- ---- what a row means, v and s being what lower rows mean
+-- a part on top of the list a
 abbrev pub onSlot : (ℕ → Ty value) → Slot → Ty stack → Ty stack
 onSlot v Gap a = gap a
 onSlot v (Known t) a = push (v t) a
 
+-- the n parts from p on, registers if `file`
 unfoldable pub partsOf : (ℕ → Ty value) → List ℕ → Bool → ℕ → ℕ → ℕ → Ty stack
 partsOf v ps file h p zero = nil
 partsOf v ps file h p (suc n) = onSlot v (slotAt file h (getD ps p 0)) (partsOf v ps file h (suc p) n)
 
+-- the type of a value row, by the types of lower rows
 abbrev pub buildV : (ℕ → Ty value) → (ℕ → Ty stack) → List ℕ → ℕ → Val → Ty value
 buildV v s ps h Int = int
 buildV v s ps h Junk = junk
@@ -92,10 +97,12 @@ buildS v s (Join x y) = join (s x) (s y)
 
 -- the first argument bounds the depth
 unfoldable mutual
+  -- row h as a value type
   pub valueTo : ℕ → RowTable → ℕ → Ty value
   valueTo zero τ h = junk
   valueTo (suc n) τ h = buildV (λ x. valueTo n τ x) (λ x. stackTo n τ x) (τ .parts) h (valueAt (τ .rows) ValVar h)
 
+  -- row h as a stack type
   pub stackTo : ℕ → RowTable → ℕ → Ty stack
   stackTo zero τ h = nil
   stackTo (suc n) τ h = buildS (λ x. valueTo n τ x) (λ x. stackTo n τ x) (stackAt (τ .rows) StkVar h)
@@ -104,22 +111,27 @@ unfoldable mutual
 unfoldable pub meanV : RowTable → ℕ → Ty value
 meanV τ h = valueTo (suc h) τ h
 
+-- the same of a stack row
 unfoldable pub meanS : RowTable → ℕ → Ty stack
 meanS τ h = stackTo (suc h) τ h
 
+-- by kind
 abbrev pub mean : RowTable → (κ : Kind) → ℕ → Ty κ
 mean τ value h = meanV τ h
 mean τ stack h = meanS τ h
 
 -- ---- a row in a context: the first variables past d are filled by A, raised by d; later ones come down by the number of A and go up by `by`
+-- the variable j places past d
 unfoldable pub placed : (κ : Kind) → ℕ → ℕ → List Arg → ℕ → Ty κ
 placed κ by d [] j = variable κ (j + (by + d))
 placed κ by d (a ∷ A) zero = raise d (ofKind κ a)
 placed κ by d (a ∷ A) (suc j) = placed κ by d A j
 
+-- what a context does to a variable
 unfoldable pub acting : List Arg → ℕ → Act
 acting A by d κ k = below d k (variable κ k) (placed κ by d A)
 
+-- the type of value row h in its context
 unfoldable pub valueUnder : RowTable → List Arg → ℕ → ℕ → ℕ → Ty value
 valueUnder τ A by d h = walk (acting A by) d (meanV τ h)
 
@@ -135,6 +147,7 @@ partsUnder τ A by d file h p n = walk (acting A by) d (partsOf (meanV τ) (τ .
 unfoldable pub codeOf : RowTable → ℕ → ℕ → ℕ → Ty value
 codeOf τ h x p = code (lettersAt (τ .parts) p) (meanS τ x) (partsOf (meanV τ) (τ .parts) true h p 8)
 
+-- the code type of row h in its context
 unfoldable pub codeUnder : RowTable → List Arg → ℕ → ℕ → ℕ → ℕ → ℕ → Ty value
 codeUnder τ A by d h x p = walk (acting A by) d (codeOf τ h x p)
 
@@ -142,6 +155,7 @@ codeUnder τ A by d h x p = walk (acting A by) d (codeOf τ h x p)
 unfoldable pub argOf : RowTable → ℕ → Arg
 argOf τ a = cond (isStackAt (τ .rows) a) (arg stack (meanS τ (suc a))) (arg value (meanV τ (suc a)))
 
+-- the first m rows of args as arguments
 unfoldable pub argsOf : RowTable → List ℕ → ℕ → List Arg
 argsOf τ args m = map (argOf τ) (span args 0 m)
 
@@ -149,10 +163,12 @@ argsOf τ args m = map (argOf τ) (span args 0 m)
 abbrev pub placeV : ℕ → ℕ → ℕ → ℕ → Val
 placeV m by d k = cond (ltb k d) (ValVar k) (cond (ltb (k - d) m) (ValFill (k - d)) (ValVar (((k - d) - m) + (by + d))))
 
+-- the same of a stack variable
 abbrev pub placeS : ℕ → ℕ → ℕ → ℕ → Stk
 placeS m by d k = cond (ltb k d) (StkVar k) (cond (ltb (k - d) m) (StkFill (k - d)) (StkVar (((k - d) - m) + (by + d))))
 
 -- ---- what the code relies on: links fall, an argument is one of m, starts and counts are small
+-- of a value row
 abbrev pub OkV : ℕ → ℕ → Val → Type 0
 OkV m h Int = Unit
 OkV m h Junk = Unit
@@ -162,6 +178,7 @@ OkV m h (Tuple p n) = (p ≤ 65535) × (n ≤ 65535) × (0 < h)
 OkV m h (Pointer x) = x < h
 OkV m h (Code x p) = (x < h) × (p ≤ 65535)
 
+-- of a stack row
 abbrev pub OkS : ℕ → ℕ → Stk → Type 0
 OkS m h Nil = Unit
 OkS m h (StkVar k) = Unit
@@ -175,6 +192,7 @@ OkSlot h Gap = Unit
 OkSlot h (Known t) = t < h
 
 -- ---- stacks by position
+-- the stack without its first n items
 unfoldable pub dropS : ℕ → Ty stack → Ty stack
 dropS zero a = a
 dropS (suc n) nil = nil
@@ -182,6 +200,7 @@ dropS (suc n) (push t a) = dropS n a
 dropS (suc n) (svar k a) = dropS n a
 dropS (suc n) (gap a) = dropS n a
 
+-- its first n items
 unfoldable pub takeS : ℕ → Ty stack → Ty stack
 takeS zero a = nil
 takeS (suc n) nil = nil
@@ -219,6 +238,7 @@ pub record Narrowed (τ : RowTable) (r j n x i : ℕ) : Type 0 where
   pub rest : items (meanS τ x) - i ≤ items (meanS τ r) - j
   pub stays : downOf (τ .rows) (stackAt (τ .rows) StkVar x) i n ≡ Stay
 
+-- the first item of a stack row of this form
 abbrev pub headOf : Stk → Item
 headOf Nil = NoItem
 headOf (StkVar k) = VarItem k

@@ -1,98 +1,34 @@
--- From one turn of the loop to the run.
+-- From one step by the table's rows to the run.
 use mathlib.Core.Path.{_≡_, refl, ap, sym, _∙_, subst}
 use mathlib.Core.Bool.{Bool, true, false}
 use mathlib.Core.List.{List}
-use Prim.Native.Nat.{ℕ, zero, suc, _+_, _-_, _<_, _≤_, min}
-use native.Mathlib.Nat.{zero-add, add-zero, add-suc, sub-zero, add-assoc, not-suc-le-zero, min-le-left, min-le-right}
+use Prim.Native.Nat.{ℕ, zero, suc, _+_, _-_, _*_, _/_, _<_, _≤_}
+use native.Mathlib.Nat.{zero-add, add-zero}
 use native.Mathlib.Omega.{arith}
-use lib.Dec.{leb, ltb}
-use lib.ListN.{length}
-use borrow.Author.Tests.{ltb-true, ltb-false, leb-true}
-use Rattle.exec.specs.Machine.{State, Bodies, Stop, Result, go, stop, step}
-use Rattle.exec.specs.Run.{End, Ran, paused, stopped, ended, oneMore, after, run, longEnough}
-use Rattle.tables.specs.Tables.{OperandTable}
+use lib.Dec.{ltb}
+use lib.ListN.{length, getD}
+use borrow.Author.Tests.{ltb-true, ltb-false}
+use Rattle.exec.specs.Machine.{Memory, State, Bodies, Stop, Result, go, stop, step}
+use Rattle.exec.specs.Run.{Ran, paused, stopped, ended, oneMore, after, run}
+use Rattle.tables.specs.Tables.{cell}
+use Rattle.memory.specs.Lent.{lent}
 use Rattle.machine.specs.declared.Place.{Place}
-use Rattle.machine.specs.Step.{Tables, operandsOf, stateOf, nextAt, resultOf, stepAt}
-use Rattle.predecode.specs.Plan.{Plan}
-use Rattle.predecode.proofs.Rows.{and3}
-use Rattle.machine.specs.declared.Next.{Next}
-use Rattle.quick.specs.declared.Moved.{Moved}
-use Rattle.quick.specs.declared.Moved.the-variants.{To, Left}
-use Rattle.quick.specs.Made.{Made, Checked}
-use Rattle.quick.proofs.Laws.{plan-checked}
-use Rattle.machine.specs.Represents.{Represents}
+use Rattle.machine.specs.declared.Stop.{Stop as Reason}
+use Rattle.machine.specs.Step.{Tables, stopIs, stateOf, stepAt}
+use Rattle.machine.specs.Represents.{Represents, Fit}
 use Rattle.machine.proofs.Exec.{step-is}
-use Rattle.runner.specs.Runs.{later}
-use Rattle.effect.specs.Turn.{Turn, turn}
-use Rattle.effect.specs.Turn as turns
-
--- ---- what a turn says of the step
-abbrev number : Turn → ℕ
-number (turns.went σ) = 0
-number (turns.paused σ) = 1
-number (turns.ended s σ) = 2
-
-abbrev stateIn : Turn → State
-stateIn (turns.went σ) = σ
-stateIn (turns.paused σ) = σ
-stateIn (turns.ended s σ) = σ
-
-abbrev stopIn : Stop → Turn → Stop
-stopIn d (turns.went σ) = d
-stopIn d (turns.paused σ) = d
-stopIn d (turns.ended s σ) = s
-
-zero-one : _≡_ {A = ℕ} 0 1 → ⊥
-zero-one h = omega arith
-
-zero-two : _≡_ {A = ℕ} 0 2 → ⊥
-zero-two h = omega arith
-
-one-two : _≡_ {A = ℕ} 1 2 → ⊥
-one-two h = omega arith
-
-module _ (σ τ : State) where
-  went-more : (more : Bool) (r : Result State) → turns.went τ ≡ turn more σ r → more ≡ true
-  unfolding turn
-  went-more true r e = refl
-  went-more false (go σ′) e = absurd (zero-one (ap number e))
-  went-more false (stop s) e = absurd (zero-two (ap number e))
-
-  went-is : (more : Bool) (r : Result State) → turns.went τ ≡ turn more σ r → r ≡ go τ
-  unfolding turn
-  went-is true (go σ′) e = ap (λ (t : Turn). go (stateIn t)) (sym e)
-  went-is false (go σ′) e = absurd (zero-one (ap number e))
-  went-is more (stop s) e = absurd (zero-two (ap number e))
-
-  -- a pause: no budget, the instruction could go on, and nothing is changed
-  pub record Waits (more : Bool) (r : Result State) : Type 0 where
-    pub none : more ≡ false
-    pub same : τ ≡ σ
-    pub next : State
-    pub goes : r ≡ go next
-
-  waits-is : (more : Bool) (r : Result State) → turns.paused τ ≡ turn more σ r → Waits more r
-  unfolding turn
-  waits-is false (go σ′) e = record { none = refl; same = ap stateIn e; next = σ′; goes = refl }
-  waits-is true (go σ′) e = absurd (zero-one (sym (ap number e)))
-  waits-is more (stop s) e = absurd (one-two (ap number e))
-
-  pub record Ends (s : Stop) (r : Result State) : Type 0 where
-    pub same : τ ≡ σ
-    pub stops : r ≡ stop s
-
-  ends-is : (s : Stop) (more : Bool) (r : Result State) → turns.ended s τ ≡ turn more σ r → Ends s r
-  unfolding turn
-  ends-is s more (stop s′) e = record { same = ap stateIn e; stops = ap (λ (t : Turn). stop (stopIn s t)) (sym e) }
-  ends-is s true (go σ′) e = absurd (zero-two (sym (ap number e)))
-  ends-is s false (go σ′) e = absurd (one-two (sym (ap number e)))
+use Rattle.predecode.specs.Plan.{readsOperand, Plan}
+use Rattle.predecode.proofs.Rows.{low-first, low-second, low-operand}
+use Rattle.step.specs.declared.Moved.{Moved}
+use Rattle.step.specs.declared.Moved.the-variants as moved
+use Rattle.step.specs.Stepped.{held, Still, Stepped, Low}
+use Rattle.runner.specs.declared.Outcome.{Outcome}
+use Rattle.runner.specs.declared.Outcome.the-variants.{Paused, Ended}
+use Rattle.runner.specs.Runs.{ranIs, later}
 
 -- ---- runs
 none-before : (r : Ran) → later 0 r ≡ r
 none-before r = λ i. record { end = r .end; steps = zero-add (r .steps) i; state = r .state }
-
-pub at-first : (P : Bodies) (b : ℕ) (σ : State) → later 0 (run P (b - 0) σ) ≡ run P b σ
-at-first P b σ = none-before (run P (b - 0) σ) ∙ ap (λ (n : ℕ). run P n σ) (sub-zero b)
 
 module _ (P : Bodies) (σ τ : State) where
   one-step : (n : ℕ) → step P σ ≡ go τ → run P (suc n) σ ≡ oneMore (run P n τ)
@@ -108,88 +44,124 @@ unfolding run after
 at-stop P σ s zero e = ap (λ (r : Result State). after σ r (λ σ′. ended paused σ)) e
 at-stop P σ s (suc n) e = ap (λ (r : Result State). after σ r (λ σ′. oneMore (run P n σ′))) e
 
--- ---- a turn of the loop: k steps of b are made, and what `advance` answers is told of the step by tables
-module _ (T : Tables) (σ : State) (b k : ℕ) where
-  abbrev more : Bool
-  more = ltb k b
+-- ---- one turn: n steps of b are left
+module _ (T : Tables) (args : List ℕ) (P : Bodies) (rep : Represents T args P) (σ : State) (b n : ℕ) where
+  turn-to : (τ : State) → n ≤ b → 0 < n → stepAt T σ ≡ go τ → later (b - (n - 1)) (run P (n - 1) τ) ≡ later (b - n) (run P n σ)
+  turn-to τ l h e =
+      let m : ℕ = n - 1 in
+      let q : suc m ≡ n = omega arith in
+      let r : Ran = run P m τ in
+      let k : b - m + r .steps ≡ b - n + suc (r .steps) = omega arith in
+      (λ i. record { end = r .end; steps = k i; state = r .state })
+      ∙ ap (later (b - n)) (sym (one-step P σ τ m (sym (step-is T args P rep σ) ∙ e)) ∙ ap (λ (m : ℕ). run P m σ) q)
 
-  -- what is told of `advance`
-  abbrev pub Told : Turn → Type 0
-  Told t = t ≡ turn more σ (stepAt T σ)
+  turn-waits : (τ : State) → n ≡ 0 → stepAt T σ ≡ go τ → _≡_ {A = Ran} (record { end = paused; steps = b - n; state = σ }) (later (b - n) (run P n σ))
+  turn-waits τ q e =
+      (λ i. record { end = paused; steps = sym (add-zero (b - n)) i; state = σ })
+      ∙ ap (later (b - n)) (sym (no-budget P σ τ (sym (step-is T args P rep σ) ∙ e)) ∙ ap (λ (m : ℕ). run P m σ) (sym q))
 
-  pub budget-left : (τ : State) → Told (turns.went τ) → k < b
-  budget-left τ h = ltb-true k b (went-more σ τ more (stepAt T σ) h)
+  turn-stops : (s : Stop) → stepAt T σ ≡ stop s → _≡_ {A = Ran} (record { end = stopped s; steps = b - n; state = σ }) (later (b - n) (run P n σ))
+  turn-stops s e =
+      (λ i. record { end = stopped s; steps = sym (add-zero (b - n)) i; state = σ })
+      ∙ ap (later (b - n)) (sym (at-stop P σ s n (sym (step-is T args P rep σ) ∙ e)))
 
-  module _ (args : List ℕ) (P : Bodies) (rep : Represents T args P) where
-    pub goes : (τ : State) → Told (turns.went τ) → later (k + 1) (run P (b - (k + 1)) τ) ≡ later k (run P (b - k) σ)
-    goes τ h =
-        let l : k < b = budget-left τ h in
-        let n : ℕ = b - (k + 1) in
-        let e : suc n ≡ b - k = omega arith in
-        let s : step P σ ≡ go τ = sym (step-is T args P rep σ) ∙ went-is σ τ more (stepAt T σ) h in
-        let r : Ran = run P n τ in
-        let q : k + 1 + r .steps ≡ k + suc (r .steps) = omega arith in
-        (λ i. record { end = r .end; steps = q i; state = r .state })
-        ∙ ap (later k) (sym (one-step P σ τ n s) ∙ ap (λ (m : ℕ). run P m σ) e)
+-- ---- the loop: n steps of b are left at the row at `at`, and the rest of the run from there is the rest of the run from σ₀
+pub record Running (T : Tables) (b : ℕ) (σ₀ : State) (R S H : Memory) (n at h u : ℕ) : Type 0 where
+  pub position : ℕ
+  pub place : at ≡ 8 * position
+  pub within : position ≤ T .count
+  pub depth : h ≤ 256
+  pub used : u ≤ 2048
+  pub left : n ≤ b
+  pub ran : (args : List ℕ) (P : Bodies) → Represents T args P → later (b - n) (run P n (held R S H h u position)) ≡ run P b σ₀
 
-    pub waits : (τ : State) → k ≤ b → Told (turns.paused τ) → _≡_ {A = Ran} (record { end = paused; steps = k; state = τ }) (later k (run P (b - k) σ))
-    waits τ l h =
-        let w : Waits σ τ more (stepAt T σ) = waits-is σ τ more (stepAt T σ) h in
-        let o : b ≤ k = ltb-false k b (w .none) in
-        let e : b - k ≡ 0 = omega arith in
-        let s : step P σ ≡ go (w .next) = sym (step-is T args P rep σ) ∙ w .goes in
-        (λ i. record { end = paused; steps = sym (add-zero k) i; state = w .same i })
-        ∙ ap (later k) (sym (no-budget P σ (w .next) s) ∙ ap (λ (m : ℕ). run P m σ) (sym e))
+module _ (T : Tables) (b : ℕ) where
+  -- the place's row, and the position from it
+  abbrev pub start : List ℕ → List ℕ → List ℕ → List ℕ → List ℕ → List ℕ → ℕ → ℕ → ℕ → State
+  start rk rn sk sn hk hn at h u = held (lent rk rn) (lent sk sn) (lent hk hn) h u (at / 8)
 
-    pub stops : (τ : State) (s : Stop) → Told (turns.ended s τ) → _≡_ {A = Ran} (record { end = stopped s; steps = k; state = τ }) (later k (run P (b - k) σ))
-    stops τ s h =
-        let w : Ends σ τ s (stepAt T σ) = ends-is σ τ s more (stepAt T σ) h in
-        (λ i. record { end = stopped s; steps = sym (add-zero k) i; state = w .same i })
-        ∙ ap (later k) (sym (at-stop P σ s (b - k) (sym (step-is T args P rep σ) ∙ w .stops)))
+  pub at-first : (rk rn sk sn hk hn : List ℕ) (j h u : ℕ) → h ≤ 256 → u ≤ 2048 → j ≤ T .count → Running T b (start rk rn sk sn hk hn (8 * j) h u) (lent rk rn) (lent sk sn) (lent hk hn) b (8 * j) h u
+  at-first rk rn sk sn hk hn j h u hd hu hp =
+      let z : b - b ≡ 0 = omega arith in
+      let q : j ≡ 8 * j / 8 = omega arith in
+      let e : (args : List ℕ) (P : Bodies) → Represents T args P → later (b - b) (run P b (held (lent rk rn) (lent sk sn) (lent hk hn) h u j)) ≡ run P b (start rk rn sk sn hk hn (8 * j) h u) =
+      λ args P rep. ap (λ (k : ℕ). later k (run P b (held (lent rk rn) (lent sk sn) (lent hk hn) h u j))) z ∙ none-before (run P b (held (lent rk rn) (lent sk sn) (lent hk hn) h u j)) ∙ ap (λ (k : ℕ). run P b (held (lent rk rn) (lent sk sn) (lent hk hn) h u k)) q in
+      record { position = j; place = refl; within = hp; depth = hd; used = hu; left = omega arith; ran = e }
 
--- ---- a step made at once
-module _ (T : Tables) (σ τ : State) (b k : ℕ) (args : List ℕ) (P : Bodies) (rep : Represents T args P) where
-  pub stepped : k < b → ((ω : OperandTable) → resultOf ω σ (nextAt T σ) ≡ go τ) → later (k + 1) (run P (b - (k + 1)) τ) ≡ later k (run P (b - k) σ)
-  unfolding stepAt
-  stepped l h =
-      let n : ℕ = b - (k + 1) in
-      let e : suc n ≡ b - k = omega arith in
-      let s : step P σ ≡ go τ = sym (step-is T args P rep σ) ∙ h (operandsOf T) in
-      let r : Ran = run P n τ in
-      let q : k + 1 + r .steps ≡ k + suc (r .steps) = omega arith in
-      (λ i. record { end = r .end; steps = q i; state = r .state })
-      ∙ ap (later k) (sym (one-step P σ τ n s) ∙ ap (λ (m : ℕ). run P m σ) e)
+  pub from-start : (P : Bodies) (rk rn sk sn hk hn : List ℕ) (p : Place) → run P b (start rk rn sk sn hk hn (8 * p .position) (p .depth) (p .used)) ≡ run P b (stateOf rk rn sk sn hk hn p)
+  from-start P rk rn sk sn hk hn p =
+      let q : 8 * p .position / 8 ≡ p .position = omega arith in
+      ap (λ (k : ℕ). run P b (held (lent rk rn) (lent sk sn) (lent hk hn) (p .depth) (p .used) k)) q
 
--- steps k, then m of what is left
-pub both : (P : Bodies) (σ τ : State) (b k m : ℕ) → k ≤ b → m ≤ b - k → later m (run P (b - k - m) τ) ≡ run P (b - k) σ → later (k + m) (run P (b - (k + m)) τ) ≡ later k (run P (b - k) σ)
-both P σ τ b k m l j h =
-    let e : b - (k + m) ≡ b - k - m = omega arith in
-    ap (λ (n : ℕ). later (k + m) (run P n τ)) e
-    ∙ (λ i. record { end = run P (b - k - m) τ .end; steps = add-assoc k m (run P (b - k - m) τ .steps) i; state = run P (b - k - m) τ .state })
-    ∙ ap (later k) h
+  module _ (σ₀ : State) (R S H : Memory) (n at h u : ℕ) (g : Running T b σ₀ R S H n at h u) (more : Bool) (em : more ≡ ltb 0 n) where
+    abbrev σ : State
+    σ = held R S H h u (g .position)
 
--- ---- lent memory as long as the limits
-pub long : (rk rn sk sn hk hn : List ℕ) (p : Place) → longEnough (stateOf rk rn sk sn hk hn p) ≡ true → (8 ≤ length rk) × (8 ≤ length rn) × (256 ≤ length sk) × (256 ≤ length sn) × (2048 ≤ length hk) × (2048 ≤ length hn)
-unfolding longEnough
-long rk rn sk sn hk hn p e =
-    let a = and3 (leb 8 (min (length rk) (length rn))) (leb 256 (min (length sk) (length sn))) (leb 2048 (min (length hk) (length hn))) e in
-    let r : 8 ≤ min (length rk) (length rn) = leb-true 8 (min (length rk) (length rn)) (a .0) in
-    let s : 256 ≤ min (length sk) (length sn) = leb-true 256 (min (length sk) (length sn)) (a .1) in
-    let h : 2048 ≤ min (length hk) (length hn) = leb-true 2048 (min (length hk) (length hn)) (a .2) in
-    (omega (arith, min-le-left (length rk) (length rn)), omega (arith, min-le-right (length rk) (length rn)), omega (arith, min-le-left (length sk) (length sn)), omega (arith, min-le-right (length sk) (length sn)), omega (arith, min-le-left (length hk) (length hn)), omega (arith, min-le-right (length hk) (length hn)))
+    -- what is told of `step`
+    abbrev pub Told : Moved → Memory → Memory → Memory → Type 0
+    Told r R′ S′ H′ = Stepped T more σ r R′ S′ H′
 
--- ---- rows that are there
-pub rows-checked : (T : Tables) (φ : List ℕ) (n : ℕ) → (0 < n → n ≡ T .count) → (0 < n → Plan T φ) → Checked φ n
-rows-checked T φ zero e h = record { low = λ j l s. absurd (not-suc-le-zero l) }
-rows-checked T φ (suc n) e h = let k : 0 < suc n = omega arith in subst (λ (m : ℕ). Checked φ m) (sym (e k)) (plan-checked T φ (h k))
+    module _ (r : Moved) (R′ S′ H′ : Memory) (t : Told r R′ S′ H′) where
+      pub budget-left : (to d w : ℕ) → r ≡ moved.To to d w → 0 < n
+      budget-left to d w e = ltb-true 0 n (sym em ∙ subst (λ (m : Moved). Told m R′ S′ H′) e t .budget)
 
-pub positive : (n : ℕ) → (n ≡ 0 → ⊥) → 0 < n
-positive zero h = absurd (h refl)
-positive (suc n) h = omega arith
+      pub goes : (to d w : ℕ) → r ≡ moved.To to d w → Running T b σ₀ R′ S′ H′ (n - 1) to d w
+      goes to d w e =
+          let m = subst (λ (m : Moved). Told m R′ S′ H′) e t in
+          let l : 0 < n = budget-left to d w e in
+          let q : n ≤ b = g .left in
+          let v : n - 1 ≤ b = omega arith in
+          record {
+            position = m .position;
+            place = m .place;
+            within = m .within;
+            depth = m .depth;
+            used = m .used;
+            left = v;
+            ran = λ args P rep. turn-to T args P rep σ b n (held R′ S′ H′ d w (m .position)) q l (m .result) ∙ g .ran args P rep;
+          }
 
--- ---- what is told of a step made at once
-pub made-to : (x : Next) (σ τ : State) (r : Moved) (to : Place) → r ≡ To to → Made x σ r τ → Made x σ (To to) τ
-made-to x σ τ r to e h = subst (λ (m : Moved). Made x σ m τ) e h
+      still : Still σ R′ S′ H′ → (p : Place) → p ≡ record { depth = h; used = u; position = g .position } → _≡_ {A = State} (record { registers = R′; stack = S′; heap = H′; depth = p .depth; used = p .used; position = p .position }) σ
+      still s p e = λ i. record { registers = s .registers i; stack = s .stack i; heap = s .heap i; depth = e i .depth; used = e i .used; position = e i .position }
 
-pub made-left : (x : Next) (σ τ : State) (r : Moved) → r ≡ Left → Made x σ r τ → τ ≡ σ
-made-left x σ τ r e h = subst (λ (m : Moved). Made x σ m τ) e h
+      module _ (args : List ℕ) (P : Bodies) (rep : Represents T args P) (k : ℕ) (ek : k ≡ b - n) (p : Place) (ep : (j : ℕ) → at ≡ 8 * j → p ≡ record { depth = h; used = u; position = j }) where
+        pub waits : r ≡ moved.Paused → _≡_ {A = Ran} (record { end = paused; steps = k; state = record { registers = R′; stack = S′; heap = H′; depth = p .depth; used = p .used; position = p .position } }) (run P b σ₀)
+        waits e =
+            let m = subst (λ (m : Moved). Told m R′ S′ H′) e t in
+            let z : n ≤ 0 = ltb-false 0 n (sym em ∙ m .budget) in
+            let q : n ≡ 0 = omega arith in
+            (λ i. record { end = paused; steps = ek i; state = still (m .still) p (ep (g .position) (g .place)) i })
+            ∙ turn-waits T args P rep σ b n (m .next) q (m .result) ∙ g .ran args P rep
+
+        pub stops : (s : Reason) → r ≡ moved.Ended s → _≡_ {A = Ran} (record { end = stopped (stopIs s); steps = k; state = record { registers = R′; stack = S′; heap = H′; depth = p .depth; used = p .used; position = p .position } }) (run P b σ₀)
+        stops s e =
+            let m = subst (λ (m : Moved). Told m R′ S′ H′) e t in
+            (λ i. record { end = stopped (stopIs s); steps = ek i; state = still (m .still) p (ep (g .position) (g .place)) i })
+            ∙ turn-stops T args P rep σ b n (stopIs s) (m .result) ∙ g .ran args P rep
+
+-- ---- the row at `at`
+module _ (T : Tables) (φ : List ℕ) (pl : Plan T φ) (fit : Fit T) (j at : ℕ) (e : at ≡ 8 * j) (h : j ≤ T .count) (σ : State) (ej : σ .position ≡ j) where
+  within : σ .position ≤ T .count
+  within = omega arith
+
+  entry : (k : ℕ) → cell 8 φ (σ .position) k ≡ getD φ (at + k) 0
+  entry k = let q : 8 * σ .position + k ≡ at + k = omega arith in ap (λ (i : ℕ). getD φ i 0) q
+
+  form : cell 8 φ (σ .position) 0 ≡ getD φ at 0
+  form = let q : 8 * σ .position + 0 ≡ at = omega arith in ap (λ (i : ℕ). getD φ i 0) q
+
+  low-row : Low φ at
+  low-row = record {
+    first = subst (λ (i : ℕ). i < 8) (entry 1) (low-first T φ pl σ within fit);
+    second = subst (λ (i : ℕ). i < 8) (entry 2) (low-second T φ pl σ within fit);
+    operand = λ r. subst (λ (i : ℕ). i < 8) (entry 4) (low-operand T φ pl σ within fit (ap readsOperand form ∙ r));
+  }
+
+pub row-low : (T : Tables) (φ : List ℕ) → Plan T φ → Fit T → (b : ℕ) (σ₀ : State) (R S H : Memory) (n at h u : ℕ) → Running T b σ₀ R S H n at h u → Low φ at
+row-low T φ pl fit b σ₀ R S H n at h u g = low-row T φ pl fit (g .position) at (g .place) (g .within) (held R S H h u (g .position)) refl
+
+pub row-in : (T : Tables) (m b : ℕ) (σ₀ : State) (R S H : Memory) (n at h u : ℕ) → 8 * T .count + 8 ≤ m → Running T b σ₀ R S H n at h u → at + 8 ≤ m
+row-in T m b σ₀ R S H n at h u l g = omega (arith, g .place, g .within)
+
+pub place-at : (at h u j : ℕ) → at ≡ 8 * j → _≡_ {A = Place} (record { depth = h; used = u; position = at / 8 }) (record { depth = h; used = u; position = j })
+place-at at h u j e = let q : at / 8 ≡ j = omega arith in ap (λ (i : ℕ). record { depth = h; used = u; position = i }) q

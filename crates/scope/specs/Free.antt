@@ -11,9 +11,11 @@ use Rattle.types.specs.Types.{Ty, int, junk, var, tuple, pointer, code, nil, pu
 use Rattle.valid.specs.PassThree.{isStack, isFile}
 
 -- ---- how a variable is used: 0 not at all, 1 as a value variable, 2 as a stack variable, 3 as both
+-- used as u says and as w says
 unfoldable pub both : ℕ → ℕ → ℕ
 both u w = cond (eqb u 0) w (cond (eqb w 0) u (cond (eqb u w) u 3))
 
+-- used as a variable of this kind
 unfoldable pub useOf : Kind → ℕ
 useOf value = 1
 useOf stack = 2
@@ -74,11 +76,14 @@ proper u (svar j a) = isStack u && proper u a
 proper u (gap a) = isFile u && proper u a
 
 -- ---- at a type's own kind
+-- how variable k is free in a type of either kind
 unfoldable pub freeIn : ℕ → Arg → ℕ
 freeIn k (arg κ t) = freeAs k t
 
+-- each variable that is bound inside a type of either kind is of its letter
 unfoldable pub respectedIn : Arg → Bool
 respectedIn (arg κ t) = respected t
 
+-- a type of either kind is proper where a stack may stand
 unfoldable pub properIn : Arg → Bool
 properIn (arg κ t) = proper aStack t

@@ -22,10 +22,12 @@ partsAt ps p n off = map (λ x. knownOf (x + off)) (span ps p n)
 unfoldable pub useAt : List ℕ → ℕ → ℕ → ℕ
 useAt uses k t = cond (ltb k 64) (getD uses (64 * t + k) 0) 0
 
+-- how variable k is free in a part; in none it is not
 unfoldable pub partUse : List ℕ → ℕ → Option ℕ → ℕ
 partUse uses k none = 0
 partUse uses k (some t) = useAt uses k t
 
+-- how variable k is free in parts
 unfoldable pub partsUse : List ℕ → ℕ → List (Option ℕ) → ℕ
 partsUse uses k [] = 0
 partsUse uses k (o ∷ os) = both (partUse uses k o) (partsUse uses k os)
@@ -34,6 +36,7 @@ partsUse uses k (o ∷ os) = both (partUse uses k o) (partsUse uses k os)
 unfoldable pub codeUse : List ℕ → ℕ → List (Option ℕ) → ℕ → ℕ
 codeUse uses s rs k = both (useAt uses k s) (partsUse uses k rs)
 
+-- how variable k is free in a row; inside a C row it is the variable k past the letters
 unfoldable pub rowUse : List ℕ → ℕ → Row → ℕ
 rowUse uses k rowI = 0
 rowUse uses k rowN = 0
@@ -50,10 +53,12 @@ rowUse uses k (rowA s₁ s₂) = both (useAt uses k s₁) (useAt uses k s₂)
 unfoldable pub respectedAt : List ℕ → ℕ → Bool
 respectedAt tops t = not (eqb (getD tops t 0) 255)
 
+-- each variable that is bound inside a part is of its letter
 unfoldable pub partRespected : List ℕ → Option ℕ → Bool
 partRespected tops none = true
 partRespected tops (some t) = respectedAt tops t
 
+-- each variable that is bound inside any of the parts is of its letter
 unfoldable pub partsRespected : List ℕ → List (Option ℕ) → Bool
 partsRespected tops [] = true
 partsRespected tops (o ∷ os) = partRespected tops o && partsRespected tops os
@@ -100,6 +105,7 @@ pub record Scoped (τ : RowTable) (n : ℕ) (uses tops : List ℕ) : Type 0 wher
   pub top : (r : ℕ) → r < n → getD tops r 0 ≡ topIn (rowType τ r)
 
 -- ---- what passes one and two have seen of a row: its variable is at most 63, and it names lower rows of the sort needed
+-- the row's variable, if it is one, is at most 63
 abbrev pub SmallVariable : Row → Type 0
 SmallVariable rowI = Unit
 SmallVariable rowN = Unit

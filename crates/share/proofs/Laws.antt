@@ -3,7 +3,8 @@ use Prim.Native.Nat.{ℕ, zero, suc, _+_, _-_, _*_, _/_, _^_, _<_, _≤_}
 use native.Mathlib.Nat.{le-of-lt, lt-of-le-of-lt, mul-le-mul-left, mul-lt-mul-of-pos-right}
 use native.Mathlib.Omega.{arith}
 use mathlib.Core.Path.{_≡_, refl, ap, ap₂, sym, subst⁻¹, _∙_}
-use mathlib.Core.Bool.{Bool, true, false, cond}
+use mathlib.Core.Bool.{Bool, true, false, cond, not}
+use mathlib.Core.Logic.{inl, inr}
 use mathlib.Core.List.{List}
 use lib.Dec.{eqb, leb, ltb}
 use lib.Pow.{pow-pos, pow-add}
@@ -19,7 +20,7 @@ use Rattle.types.proofs.Meaning.{typeIn, as-kind}
 use Rattle.tables.specs.Tables.{RowTable, cell, rowsIn}
 use Rattle.rows.specs.Read.{tab, isStackAt, meanV, meanS, argOf}
 use Rattle.rows.proofs.Bridge.{arg-at}
-use Rattle.share.specs.Shared.{firstOf, Firsts, newA, newB, newSlot, newPart, entryAt, partAt, FilledRows, FilledParts, FilledRow}
+use Rattle.share.specs.Shared.{firstOf, Firsts, newA, newB, newSlot, newPart, entryAt, partAt, HasParts, FilledRow, FilledIf}
 
 -- the product of two numbers of k bits has at most k + k
 pub below : (k : ℕ) {a b : ℕ} → a < 2 ^ k → b < 2 ^ k → a * b < 2 ^ (k + k)
@@ -104,36 +105,6 @@ module _ (first : List ℕ) where
   unfolding partAt
   part-is rows ps r j k a b o e f g h = rw (← e, ← f, ← g) h
 
--- ---- tables filled entry by entry, w entries a record
-module _ (w : ℕ) (g : ℕ → ℕ → ℕ) (top : ℕ) (before : List ℕ) where
-  abbrev pub Filling : List ℕ → ℕ → Type 0
-  Filling l i = (i ≤ top) × (length l ≡ length before) × ((j : ℕ) → j < i → getD l j 0 ≡ g (j / w) (j - w * (j / w)))
-
-  pub filling-first : Filling before 0
-  filling-first = (omega arith, refl, λ j h. absurd (omega arith))
-
-  pub filling-next : (l : List ℕ) (i x y : ℕ) → i < top → top ≤ length before → x ≡ g (i / w) (i - w * (i / w)) → y ≡ x → Filling l i → Filling (set l i y) (i + 1)
-  filling-next l i x y h room e f F =
-      let s = length-set l i y in
-      let q = F .1 in
-      (omega arith, s ∙ F .1, λ j m. go j m (eqb j i) refl)
-    where
-      go : (j : ℕ) → j < i + 1 → (b : Bool) → eqb j i ≡ b → getD (set l i y) j 0 ≡ g (j / w) (j - w * (j / w))
-      go j m true t =
-          let q = F .1 in
-          let z : j ≡ i = eqb-true j i t in
-          rw z (getD-set-same l i y 0 (omega arith) ∙ f ∙ e)
-      go j m false t =
-          let z : j ≡ i → ⊥ = eqb-false j i t in
-          getD-set-other l i j y 0 z ∙ F .2 j (omega (arith, z))
-
-module _ (g : ℕ → ℕ → ℕ) (before l : List ℕ) (m i : ℕ) where
-  pub filled-rows : Filling 4 g (4 * m) before l i → 4 * m ≤ i → (r e : ℕ) → r < m → e < 4 → getD l (4 * r + e) 0 ≡ g r e
-  filled-rows F h r e p q =
-      let d : (4 * r + e) / 4 ≡ r = omega arith in
-      let k : 4 * r + e - 4 * r ≡ e = omega arith in
-      F .2 (4 * r + e) (omega arith) ∙ rw (d, k) refl
-
 -- ---- a table filled record by record
 module _ (base : ℕ) (g : ℕ → ℕ) (before : List ℕ) where
   pub row-first : FilledRow base 0 g before before
@@ -150,15 +121,69 @@ module _ (base : ℕ) (g : ℕ → ℕ) (before : List ℕ) where
           let z : i ≡ j → ⊥ = eqb-false i j t in
           getD-set-other l (base + j) (base + i) y 0 (λ q. z (omega arith)) ∙ F .0 i (omega (arith, z))
 
-pub parts-next : (g : ℕ → ℕ → ℕ) (before l : List ℕ) (r : ℕ) → ((s j : ℕ) → s < r → j < 17 → getD before (17 * s + j) 0 ≡ g s j) → FilledRow (17 * r) 17 (g r) before l → (s j : ℕ) → s < r + 1 → j < 17 → getD l (17 * s + j) 0 ≡ g s j
-parts-next g before l r h F s j m k = go (eqb s r) refl
+-- the four entries of a row
+module _ (first rows before : List ℕ) (r : ℕ) (room : 4 * r + 4 ≤ length before) where
+  pub four : (k x a y b c k′ a′ b′ c′ : ℕ) → k ≡ cell 4 rows r 0 → x ≡ cell 4 rows r 1 → a ≡ newA first r k x → y ≡ cell 4 rows r 2 → b ≡ newB first r k y → c ≡ cell 4 rows r 3 → k′ ≡ k → a′ ≡ a → b′ ≡ b → c′ ≡ c
+      → FilledRow (4 * r) 4 (entryAt first rows r) before (set (set (set (set before (4 * r) k′) (4 * r + 1) a′) (4 * r + 2) b′) (4 * r + 3) c′)
+  four k x a y b c k′ a′ b′ c′ ek ex ea ey eb ec fk fa fb fc =
+      let g : ℕ → ℕ = entryAt first rows r in
+      let l1 : List ℕ = set before (4 * r) k′ in
+      let l2 : List ℕ = set l1 (4 * r + 1) a′ in
+      let l3 : List ℕ = set l2 (4 * r + 2) b′ in
+      let n1 : length l1 ≡ length before = length-set before (4 * r) k′ in
+      let n2 : length l2 ≡ length before = length-set l1 (4 * r + 1) a′ ∙ n1 in
+      let n3 : length l3 ≡ length before = length-set l2 (4 * r + 2) b′ ∙ n2 in
+      let z : 4 * r + 0 ≡ 4 * r = omega arith in
+      let F1 : FilledRow (4 * r) 1 g before (set before (4 * r + 0) k′) = row-next (4 * r) g before before 0 k k′ (omega arith) (entry-rest first rows r 0 k k ek ek (λ q. absurd (omega arith)) (λ q. absurd (omega arith))) fk (row-first (4 * r) g before) in
+      let G1 : FilledRow (4 * r) 1 g before l1 = rw z at F1 in
+      let G2 : FilledRow (4 * r) 2 g before l2 = row-next (4 * r) g before l1 1 a a′ (omega arith) (entry-a first rows r 1 k x ek ex a refl ea) fa G1 in
+      let G3 : FilledRow (4 * r) 3 g before l3 = row-next (4 * r) g before l2 2 b b′ (omega arith) (entry-b first rows r 2 k y ek ey b refl eb) fb G2 in
+      row-next (4 * r) g before l3 3 c c′ (omega arith) (entry-rest first rows r 3 k c ek ec (λ q. absurd (omega arith)) (λ q. absurd (omega arith))) fc G3
+
+pub rows-next : (g : ℕ → ℕ → ℕ) (before l : List ℕ) (r : ℕ) → ((s e : ℕ) → s < r → e < 4 → getD before (4 * s + e) 0 ≡ g s e) → FilledRow (4 * r) 4 (g r) before l → (s e : ℕ) → s < r + 1 → e < 4 → getD l (4 * s + e) 0 ≡ g s e
+rows-next g before l r h F s e m k = go (eqb s r) refl
   where
-    go : (b : Bool) → eqb s r ≡ b → getD l (17 * s + j) 0 ≡ g s j
-    go true t = let z : s ≡ r = eqb-true s r t in rw z (F .0 j k)
+    go : (b : Bool) → eqb s r ≡ b → getD l (4 * s + e) 0 ≡ g s e
+    go true t = let z : s ≡ r = eqb-true s r t in rw z (F .0 e k)
     go false t =
         let z : s ≡ r → ⊥ = eqb-false s r t in
         let q : s < r = omega (arith, z) in
-        F .1 (17 * s + j) (omega arith) ∙ h s j q k
+        F .1 (4 * s + e) (omega arith) ∙ h s e q k
+
+pub parts-next : (kind : ℕ → ℕ) (g : ℕ → ℕ → ℕ) (before l : List ℕ) (r : ℕ) → ((s j : ℕ) → s < r → HasParts (kind s) → j < 17 → getD before (17 * s + j) 0 ≡ g s j) → FilledIf (kind r) (17 * r) 17 (g r) before l → (s j : ℕ) → s < r + 1 → HasParts (kind s) → j < 17 → getD l (17 * s + j) 0 ≡ g s j
+parts-next kind g before l r h F s j m p k = go (eqb s r) refl
+  where
+    go : (b : Bool) → eqb s r ≡ b → getD l (17 * s + j) 0 ≡ g s j
+    go true t = let z : s ≡ r = eqb-true s r t in rw z (F .0 (rw z at p) j k)
+    go false t =
+        let z : s ≡ r → ⊥ = eqb-false s r t in
+        let q : s < r = omega (arith, z) in
+        F .1 (17 * s + j) (omega arith) ∙ h s j q p k
+
+pub parts-code : (k : ℕ) → (k ≡ 3 → ⊥) → HasParts k → eqb k 5 ≡ true
+parts-code k n (inl e) = absurd (n e)
+parts-code k n (inr e) = eq-eqb k 5 e
+
+-- what holds of the first j and of the next
+pub all-next : (f g : ℕ → ℕ) (j : ℕ) → f j ≡ g j → ((i : ℕ) → i < j → f i ≡ g i) → (i : ℕ) → i < j + 1 → f i ≡ g i
+all-next f g j e h i m = go (eqb i j) refl
+  where
+    go : (b : Bool) → eqb i j ≡ b → f i ≡ g i
+    go true t = let z : i ≡ j = eqb-true i j t in rw z e
+    go false t =
+        let z : i ≡ j → ⊥ = eqb-false i j t in
+        h i (omega (arith, z))
+
+-- a row without parts
+pub no-parts : (k k′ : ℕ) {o : Bool} (base n : ℕ) (g : ℕ → ℕ) (l : List ℕ) → k ≡ k′ → (HasParts k → o ≡ true) → not o ≡ true → FilledIf k′ base n g l l
+no-parts k k′ {o} base n g l e f h = (λ p. none-true (sym (go o h) ∙ f (rw (sym e) at p)), λ x m. refl)
+  where
+    go : (o : Bool) → not o ≡ true → o ≡ false
+    go true q = sym q
+    go false q = refl
+
+pub some-parts : (k base n : ℕ) (g : ℕ → ℕ) (before after : List ℕ) → FilledRow base n g before after → FilledIf k base n g before after
+some-parts k base n g before after F = (λ p. F .0, F .1)
 
 -- ---- rows of the same type
 module _ (τ : RowTable) (m c r : ℕ) (hc : c < m) (hr : r < m) where

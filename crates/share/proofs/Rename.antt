@@ -4,6 +4,7 @@ use native.Mathlib.Nat.{add-zero, zero-add, suc-add, add-suc, not-suc-le-zero}
 use native.Mathlib.Omega.{arith}
 use mathlib.Core.Path.{_≡_, refl, ap, ap₂, sym, subst, _∙_}
 use mathlib.Core.Bool.{Bool, true, false, cond}
+use mathlib.Core.Logic.{inl, inr}
 use mathlib.Core.Option.{Option, none, some}
 use mathlib.Core.List.{List, [], _∷_, _++_, map, reverse}
 use lib.Dec.{eqb, leb, ltb}
@@ -14,36 +15,20 @@ use Rattle.syntax.specs.Fault.{Clear}
 use Rattle.types.specs.Types.{junk, tuple, pointer, code, push, gap, join, items, Arg, arg, ofKind}
 use Rattle.types.specs.Rows.{typeAt, components, registers, meaning, meanings, typesOf, isValue, isCode, Ref, knownRefs, rowRefs, allBelow, rowsFaults}
 use Rattle.types.proofs.Equal.{and-inv}
-use Rattle.types.proofs.Meaning.{named, typeIn, types-snoc, rows-clear}
+use Rattle.types.proofs.Meaning.{named, typeIn, types-snoc, type-is, rows-clear}
 use Rattle.tables.specs.Tables.{RowTable, cell, span, letterOf, knownOf, lettersAt, codeRowAt, rowFrom, rowAt, rowsFrom, rowsIn}
 use Rattle.tables.proofs.Spans.{span-length}
 use Rattle.tables.proofs.Steps.{length-rows}
 use Rattle.rows.specs.Read.{tab, mean, Counted}
 use Rattle.rows.proofs.Laws.{value-is, stack-is}
-use Rattle.rows.proofs.Bridge.{rows-snoc, type-in}
+use Rattle.rows.proofs.Bridge.{rows-snoc, row-nine, type-in}
 use Rattle.scope.specs.Free.{freeIn}
 use Rattle.scope.specs.Scoped.{rowType, topIn, Scoped}
 use Rattle.scope.proofs.Rows.{row-getD, row-type}
 use Rattle.premises.specs.Bounds.{SmallRow}
-use Rattle.share.specs.Shared.{firstOf, Firsts, newA, newB, newSlot, newPart, entryAt, partAt, FilledRows, FilledParts, Shared}
+use Rattle.share.specs.Shared.{firstOf, Firsts, renamedOption, renamed, Alike, Lower, newA, newB, newSlot, newPart, entryAt, partAt, FilledRows, FilledParts, HasParts, Shared}
 
 -- ---- renaming
-abbrev pub renamedOption : (ℕ → ℕ) → Option ℕ → Option ℕ
-renamedOption f none = none
-renamedOption f (some x) = some (f x)
-
-unfoldable pub renamed : (ℕ → ℕ) → Row → Row
-renamed f rowI = rowI
-renamed f rowN = rowN
-renamed f (rowV k) = rowV k
-renamed f (rowU ts) = rowU (map f ts)
-renamed f (rowP s) = rowP (f s)
-renamed f (rowC q s rs) = rowC q (f s) (map (renamedOption f) rs)
-renamed f rowE = rowE
-renamed f (rowX k) = rowX k
-renamed f (rowK t s) = rowK (f t) (f s)
-renamed f (rowA s₁ s₂) = rowA (f s₁) (f s₂)
-
 module _ (f : ℕ → ℕ) where
   pub renamed-value : (x : Row) → isValue (renamed f x) ≡ isValue x
   unfolding renamed isValue
@@ -221,18 +206,137 @@ module _ (first : List ℕ) where
         )
         refl
 
-    form : (k a b : ℕ) → Parts k a b → SmallRow (rowFrom ps k a b) → rowFrom p k (newA first r k a) (newB first r k b) ≡ renamed (firstOf first) (rowFrom ps k a b)
+    form : (k a b : ℕ) → (HasParts k → Parts k a b) → SmallRow (rowFrom ps k a b) → rowFrom p k (newA first r k a) (newB first r k b) ≡ renamed (firstOf first) (rowFrom ps k a b)
     unfolding rowFrom codeRowAt newA newB renamed
     form zero a b h s = refl
     form (suc zero) a b h s = refl
     form (suc (suc zero)) a b h s = refl
-    form (suc (suc (suc zero))) a b h s = ap rowU (tuple-form a b h s)
+    form (suc (suc (suc zero))) a b h s = ap rowU (tuple-form a b (h (inl refl)) s)
     form (suc (suc (suc (suc zero)))) a b h s = refl
-    form (suc (suc (suc (suc (suc zero))))) a b h s = ap₂ (λ q rs. rowC (reverse q) (firstOf first a) rs) (letters-form a b h (s .0)) (slots-form a b h)
+    form (suc (suc (suc (suc (suc zero))))) a b h s = ap₂ (λ q rs. rowC (reverse q) (firstOf first a) rs) (letters-form a b (h (inr refl)) (s .0)) (slots-form a b (h (inr refl)))
     form (suc (suc (suc (suc (suc (suc zero)))))) a b h s = refl
     form (suc (suc (suc (suc (suc (suc (suc zero))))))) a b h s = refl
     form (suc (suc (suc (suc (suc (suc (suc (suc zero)))))))) a b h s = refl
     form (suc (suc (suc (suc (suc (suc (suc (suc (suc k))))))))) a b h s = high-form (suc (suc (suc (suc (suc (suc (suc (suc (suc k))))))))) a b (omega arith)
+
+-- ---- rows that are the same once the rows that they name are replaced
+span-alike : (g : ℕ → ℕ) (ps : List ℕ) (a x n : ℕ) → ((j : ℕ) → j < n → g (getD ps (a + j) 0) ≡ g (getD ps (x + j) 0)) → map g (span ps a n) ≡ map g (span ps x n)
+unfolding span
+span-alike g ps a x zero h = refl
+span-alike g ps a x (suc n) h = ap₂ _∷_ head (span-alike g ps (suc a) (suc x) n tail)
+  where
+    head : g (getD ps a 0) ≡ g (getD ps x 0)
+    head =
+        let q : a + 0 ≡ a = omega arith in
+        let w : x + 0 ≡ x = omega arith in
+        sym (ap (λ (z : ℕ). g (getD ps z 0)) q) ∙ h 0 (omega arith) ∙ ap (λ (z : ℕ). g (getD ps z 0)) w
+
+    tail : (j : ℕ) → j < n → g (getD ps (suc a + j) 0) ≡ g (getD ps (suc x + j) 0)
+    tail j l =
+        let q : suc a + j ≡ a + suc j = omega arith in
+        let w : x + suc j ≡ suc x + j = omega arith in
+        ap (λ (z : ℕ). g (getD ps z 0)) q ∙ h (suc j) (omega arith) ∙ ap (λ (z : ℕ). g (getD ps z 0)) w
+
+module _ (first ps : List ℕ) (a b x y : ℕ) where
+  abbrev PartsAlike : ℕ → ℕ → Type 0
+  PartsAlike k n = (j : ℕ) → j < n → newPart first ps k a b j ≡ newPart first ps k x y j
+
+  tuple-alike : b ≡ y → PartsAlike 3 b → Alike first ps 3 a b x y
+  unfolding rowFrom renamed newPart
+  tuple-alike e h = ap rowU (span-alike (firstOf first) ps a x b h ∙ ap (λ (n : ℕ). map (firstOf first) (span ps x n)) e)
+
+  slots-alike : PartsAlike 5 8 → map (renamedOption (firstOf first)) (map knownOf (span ps b 8)) ≡ map (renamedOption (firstOf first)) (map knownOf (span ps y 8))
+  slots-alike h =
+      sym (known-slots first (span ps b 8))
+      ∙ ap (map knownOf) (span-alike (newSlot first) ps b y 8 (λ j l. sym (slot-part first [] ps 0 a b j l) ∙ h j l ∙ slot-part first [] ps 0 x y j l))
+      ∙ known-slots first (span ps y 8)
+
+  letters-alike : (q : ℕ) → q ≡ getD ps (b + 8) 0 → PartsAlike 5 (9 + q) → lettersAt ps b ≡ lettersAt ps y
+  unfolding lettersAt
+  letters-alike q e h =
+      let c : getD ps (b + 8) 0 ≡ getD ps (y + 8) 0 = sym (rest-part first [] ps 0 a b 8 (omega arith)) ∙ h 8 (omega arith) ∙ rest-part first [] ps 0 x y 8 (omega arith) in
+      let s : map letterOf (span ps (b + 9) q) ≡ map letterOf (span ps (y + 9) q) = span-letters (b + 9) (y + 9) q rest in
+      ap (λ (n : ℕ). map letterOf (span ps (b + 9) n)) (sym e) ∙ s ∙ ap (λ (n : ℕ). map letterOf (span ps (y + 9) n)) (e ∙ c)
+    where
+      rest : (j : ℕ) → j < q → getD ps (b + 9 + j) 0 ≡ getD ps (y + 9 + j) 0
+      rest j l =
+          let u : b + 9 + j ≡ b + (9 + j) = omega arith in
+          let w : y + (9 + j) ≡ y + 9 + j = omega arith in
+          ap (λ (z : ℕ). getD ps z 0) u ∙ sym (rest-part first [] ps 0 a b (9 + j) (omega arith)) ∙ h (9 + j) (omega arith) ∙ rest-part first [] ps 0 x y (9 + j) (omega arith) ∙ ap (λ (z : ℕ). getD ps z 0) w
+
+      span-letters : (i j n : ℕ) → ((k : ℕ) → k < n → getD ps (i + k) 0 ≡ getD ps (j + k) 0) → map letterOf (span ps i n) ≡ map letterOf (span ps j n)
+      span-letters i j n k = ap (map letterOf) (span-same ps ps i j n k)
+
+  code-alike : (q : ℕ) → q ≡ getD ps (b + 8) 0 → firstOf first a ≡ firstOf first x → PartsAlike 5 (9 + q) → Alike first ps 5 a b x y
+  unfolding rowFrom codeRowAt renamed
+  code-alike q e f h =
+      ap₂ (λ l rs. rowC (reverse l) (firstOf first a) rs) (letters-alike q e h) (slots-alike (λ j l. h j (omega arith)))
+      ∙ ap (λ (s : ℕ). rowC (reverse (lettersAt ps y)) s (map (renamedOption (firstOf first)) (map knownOf (span ps y 8)))) f
+
+  module _ (k : ℕ) where
+    pub alike-tuple : k ≡ 3 → b ≡ y → PartsAlike k b → Alike first ps k a b x y
+    alike-tuple e f h = rw e (tuple-alike f (rw e at h))
+
+    pub alike-code : (q : ℕ) → k ≡ 5 → q ≡ getD ps (b + 8) 0 → firstOf first a ≡ firstOf first x → PartsAlike k (9 + q) → Alike first ps k a b x y
+    alike-code q e f g h = rw e (code-alike q f g (rw e at h))
+
+    pub alike-value : k ≡ 2 → a ≡ x → Alike first ps k a b x y
+    unfolding rowFrom renamed
+    alike-value e f = rw (e, f) refl
+
+    pub alike-stack : k ≡ 7 → a ≡ x → Alike first ps k a b x y
+    unfolding rowFrom renamed
+    alike-stack e f = rw (e, f) refl
+
+  high-alike : (k : ℕ) → 9 ≤ k → firstOf first a ≡ firstOf first x → firstOf first b ≡ firstOf first y → Alike first ps k a b x y
+  unfolding renamed
+  high-alike k h f g = ap (renamed (firstOf first)) (row-nine ps k a b h) ∙ ap₂ rowA f g ∙ sym (ap (renamed (firstOf first)) (row-nine ps k x y h))
+
+  pub alike-rest : (k : ℕ) → (k ≡ 3 → ⊥) → (k ≡ 2 → ⊥) → (k ≡ 7 → ⊥) → (k ≡ 5 → ⊥) → firstOf first a ≡ firstOf first x → firstOf first b ≡ firstOf first y → Alike first ps k a b x y
+  unfolding rowFrom renamed
+  alike-rest zero h i j l f g = refl
+  alike-rest (suc zero) h i j l f g = refl
+  alike-rest (suc (suc zero)) h i j l f g = absurd (i refl)
+  alike-rest (suc (suc (suc zero))) h i j l f g = absurd (h refl)
+  alike-rest (suc (suc (suc (suc zero)))) h i j l f g = ap rowP f
+  alike-rest (suc (suc (suc (suc (suc zero))))) h i j l f g = absurd (l refl)
+  alike-rest (suc (suc (suc (suc (suc (suc zero)))))) h i j l f g = refl
+  alike-rest (suc (suc (suc (suc (suc (suc (suc zero))))))) h i j l f g = absurd (j refl)
+  alike-rest (suc (suc (suc (suc (suc (suc (suc (suc zero)))))))) h i j l f g = ap₂ rowK f g
+  alike-rest (suc (suc (suc (suc (suc (suc (suc (suc (suc k))))))))) h i j l f g = high-alike (suc (suc (suc (suc (suc (suc (suc (suc (suc k))))))))) (omega arith) f g
+
+-- rows that are alike have the same type
+module _ (τ : RowTable) (m : ℕ) (first : List ℕ) (c r : ℕ) (h : c ≤ r) (k : r < m) (hf : Firsts τ m first r) (low : Lower τ (r + 1)) where
+  first-same : (t : ℕ) → t < r → typeIn (typesOf (rowsIn τ m)) (firstOf first t) ≡ typeIn (typesOf (rowsIn τ m)) t
+  unfolding firstOf
+  first-same t l = go (leb (getD first t 0) t)
+    where
+      go : (b : Bool) → typeIn (typesOf (rowsIn τ m)) (cond b (getD first t 0) t) ≡ typeIn (typesOf (rowsIn τ m)) t
+      go true = hf t l
+      go false = refl
+
+  type-of : (x : ℕ) → x ≤ r → typeIn (typesOf (rowsIn τ m)) x ≡ meaning (typesOf (rowsIn τ m)) (renamed (firstOf first) (rowAt τ x))
+  type-of x l =
+      let g = length-rows τ m in
+      let w : x < m = omega arith in
+      let e = row-getD τ m x rowI w in
+      let z : allBelow x (named (getD (rowsIn τ m) x rowI)) ≡ true = ap (λ (y : Row). allBelow x (named y)) e ∙ low x (omega arith) in
+      type-is (rowsIn τ m) x rowI (omega arith) z ∙ ap (meaning (typesOf (rowsIn τ m))) e ∙ sym (meaning-renamed x (firstOf first) (typesOf (rowsIn τ m)) (λ t i. first-same t (omega arith)) (rowAt τ x) (low x (omega arith)))
+
+  row-is : (j x p q : ℕ) → j ≡ cell 4 (τ .rows) x 0 → p ≡ cell 4 (τ .rows) x 1 → q ≡ cell 4 (τ .rows) x 2 → rowAt τ x ≡ rowFrom (τ .parts) j p q
+  unfolding rowAt
+  row-is j x p q e f g = rw (← e, ← f, ← g) refl
+
+  pub alike-types : (j p q s t : ℕ) → j ≡ cell 4 (τ .rows) c 0 → j ≡ cell 4 (τ .rows) r 0 → p ≡ cell 4 (τ .rows) c 1 → q ≡ cell 4 (τ .rows) c 2 → s ≡ cell 4 (τ .rows) r 1 → t ≡ cell 4 (τ .rows) r 2 → Alike first (τ .parts) j p q s t
+      → typeIn (typesOf (rowsIn τ m)) c ≡ typeIn (typesOf (rowsIn τ m)) r
+  alike-types j p q s t ec er ep eq es et a = type-of c h ∙ ap (meaning (typesOf (rowsIn τ m))) (ap (renamed (firstOf first)) (row-is j c p q ec ep eq) ∙ a ∙ sym (ap (renamed (firstOf first)) (row-is j r s t er es et))) ∙ sym (type-of r (omega arith))
+
+-- rows that pass two has found no fault in name lower rows only
+pub lower-rows : (τ : RowTable) (n : ℕ) → Clear (rowsFaults [] [] (rowsIn τ n)) → Lower τ n
+lower-rows τ n c r h =
+    let g = length-rows τ n in
+    let q = rows-clear (rowsIn τ n) c r rowI (omega arith) in
+    rw (row-getD τ n r rowI h) at (q .0)
 
 -- ---- the shared table
 types-step : (τ : RowTable) (m : ℕ) → typesOf (rowsIn τ (suc m)) ≡ typesOf (rowsIn τ m) ++ meaning (typesOf (rowsIn τ m)) (rowAt τ m) ∷ []
@@ -252,7 +356,7 @@ module _ (rows parts first l p : List ℕ) (n : ℕ) (hr : FilledRows first rows
       let a : cell 4 l r 1 ≡ newA first r (cell 4 rows r 0) (cell 4 rows r 1) = hr r 1 (omega arith) (omega arith) ∙ unfold entryAt in refl in
       let b : cell 4 l r 2 ≡ newB first r (cell 4 rows r 0) (cell 4 rows r 2) = hr r 2 (omega arith) (omega arith) ∙ unfold entryAt in refl in
       ap₂ (λ (x y : ℕ). rowFrom p x y (cell 4 l r 2)) k a ∙ ap (rowFrom p (cell 4 rows r 0) (newA first r (cell 4 rows r 0) (cell 4 rows r 1))) b
-      ∙ form first p parts r (cell 4 rows r 0) (cell 4 rows r 1) (cell 4 rows r 2) (λ j m. hp r j h m ∙ unfold partAt in refl) s
+      ∙ form first p parts r (cell 4 rows r 0) (cell 4 rows r 1) (cell 4 rows r 2) (λ q j m. hp r j h q m ∙ unfold partAt in refl) s
 
   count-shared : (r : ℕ) → r < n + 2 → cell 4 l r 3 ≡ cell 4 rows r 3
   count-shared r h = hr r 3 h (omega arith) ∙ unfold entryAt in refl
@@ -271,11 +375,8 @@ module _ (rows parts first l p : List ℕ) (n : ℕ) (hr : FilledRows first rows
             row-type τ m (getD first x 0) (omega arith) ∙ sym (row-type τ (n + 2) (getD first x 0) (omega arith)) ∙ hf x (omega arith) ∙ row-type τ (n + 2) x (omega arith) ∙ sym (row-type τ m x k)
         go false e = refl
 
-    low : (r : ℕ) → r < n → allBelow r (named (rowAt τ r)) ≡ true
-    low r h =
-        let g = length-rows τ n in
-        let q = rows-clear (rowsIn τ n) c r rowI (omega arith) in
-        rw (row-getD τ n r rowI h) at (q .0)
+    low : Lower τ n
+    low = lower-rows τ n c
 
     means : (m : ℕ) → m < n → meaning (typesOf (rowsIn τ m)) (rowAt σ m) ≡ meaning (typesOf (rowsIn τ m)) (rowAt τ m)
     means m h = ap (meaning (typesOf (rowsIn τ m))) (row-shared m h (s m h)) ∙ meaning-renamed m (firstOf first) (typesOf (rowsIn τ m)) (λ t k. first-type m t (omega arith) k) (rowAt τ m) (low m h)

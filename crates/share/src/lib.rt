@@ -15,7 +15,7 @@ ghost use Rattle.types.specs.Rows.{typesOf, rowsFaults};
 ghost use Rattle.tables.specs.Tables.{cell, rowAt, rowsIn};
 ghost use Rattle.rows.specs.Read.{tab, Counted};
 ghost use Rattle.premises.specs.Bounds.{SmallRow};
-ghost use Rattle.share.specs.Shared.{firstOf, Firsts, newA, newB, newSlot, newPart, entryAt, partAt, FilledRows, FilledParts, FilledRow, Shared};
+ghost use Rattle.share.specs.Shared.{firstOf, Firsts, Alike, Lower, newA, newB, newSlot, newPart, entryAt, partAt, FilledRows, FilledParts, FilledRow, HasParts, FilledIf, Shared};
 
 fn narrow(x: usize) -> u16
     requires { ⌜ x ≤ 65535 ⌝ }
@@ -92,33 +92,40 @@ fn new_part(parts: &[u16], first: &[u16], k: usize, a: usize, b: usize, j: usize
     x
 }
 
-// Entry e of row r.
-fn new_entry(rows: &[u16], first: &[u16], r: usize, e: usize) -> usize
-    requires { ⌜ (r ≤ 514) × (e ≤ 3) ⌝ }
-    ensures { λ out. ⌜ (out ≡ entryAt (now (first .entry)) (now (rows .entry)) r e) × (out ≤ 65535) ⌝ }
+// The four entries of row r.
+fn fill_entries(rows: &[u16], first: &[u16], r: usize, rows2: &mut [u16])
+    requires { ⌜ (r < 514) × (4 * r + 4 ≤ length (now rows2)) ⌝ }
+    ensures { λ _. ⌜ FilledRow (4 * r) 4 (entryAt (now (first .entry)) (now (rows .entry)) r) (now (rows2 .entry)) (now (rows2 .exit)) ⌝ }
 {
     let k = rows::entry(rows, r, 0);
-    let x = rows::entry(rows, r, e);
-    if e == 1 {
-        return new_a(first, r, k, x);
-    }
-    if e == 2 {
-        return new_b(first, r, k, x);
-    }
-    x
+    let a = new_a(first, r, k, rows::entry(rows, r, 1));
+    let b = new_b(first, r, k, rows::entry(rows, r, 2));
+    let c = rows::entry(rows, r, 3);
+    rows2[4 * r] = narrow(k);
+    rows2[4 * r + 1] = narrow(a);
+    rows2[4 * r + 2] = narrow(b);
+    rows2[4 * r + 3] = narrow(c);
 }
 
 fn fill_rows(rows: &[u16], first: &[u16], m: usize, rows2: &mut [u16])
     requires { ⌜ (m ≤ 514) × (4 * m ≤ length (now rows2)) ⌝ }
     ensures { λ _. ⌜ FilledRows (now (first .entry)) (now (rows .entry)) m (now (rows2 .exit)) ⌝ }
 {
-    let mut i = 0;
-    while i < 4 * m {
-        let r = i / 4;
-        let x = new_entry(rows, first, r, i - 4 * r);
-        rows2[i] = narrow(x);
-        i += 1;
+    let mut r = 0;
+    while r < m {
+        fill_entries(rows, first, r, rows2);
+        r += 1;
     }
+}
+
+// A row of the kind k has parts: it is a tuple or code.
+fn has_parts(k: usize) -> bool
+    ensures { λ out. ⌜ (HasParts k → out ≡ true) ⌝ }
+{
+    if k == 3 {
+        return true;
+    }
+    k == 5
 }
 
 // The 17 parts of row r.
@@ -138,13 +145,25 @@ fn fill_row(rows: &[u16], parts: &[u16], first: &[u16], r: usize, parts2: &mut [
     }
 }
 
+// The same if row r has parts.
+fn fill_if(rows: &[u16], parts: &[u16], first: &[u16], r: usize, parts2: &mut [u16])
+    requires { ⌜ (r ≤ 512) × (17 * r + 17 ≤ length (now parts2)) ⌝ }
+    ensures { λ _. ⌜ FilledIf (cell 4 (now (rows .entry)) r 0) (17 * r) 17 (partAt (now (first .entry)) (now (rows .entry)) (now (parts .entry)) r) (now (parts2 .entry)) (now (parts2 .exit)) ⌝ }
+{
+    let k = rows::entry(rows, r, 0);
+    if !has_parts(k) {
+        return;
+    }
+    fill_row(rows, parts, first, r, parts2);
+}
+
 fn fill_parts(rows: &[u16], parts: &[u16], first: &[u16], n: usize, parts2: &mut [u16])
     requires { ⌜ (n ≤ 512) × (17 * n ≤ length (now parts2)) ⌝ }
     ensures { λ _. ⌜ FilledParts (now (first .entry)) (now (rows .entry)) (now (parts .entry)) n (now (parts2 .exit)) ⌝ }
 {
     let mut r = 0;
     while r < n {
-        fill_row(rows, parts, first, r, parts2);
+        fill_if(rows, parts, first, r, parts2);
         r += 1;
     }
 }
@@ -166,6 +185,12 @@ fn word(x: usize) -> u32
 fn mul_add(a: u32, b: u32, c: u32) -> u32 {
     let x = wide(a) * wide(b) % 4294967291;
     ((x + wide(c)) % 4294967291) as u32
+}
+
+// The same modulo 2^32: of a row's parts, which are few.
+fn mix(a: u32, b: u32, c: u32) -> u32 {
+    let x = wide(a) * wide(b) % 4294967296;
+    ((x + wide(c)) % 4294967296) as u32
 }
 
 fn get(work: &[u32], i: usize) -> u32 {
@@ -201,7 +226,7 @@ fn parts_hash(
     let mut j = 0;
     while j < c {
         let x = new_part(parts, first, k, a, b, j);
-        h = mul_add(h, 2246822519, word(x));
+        h = mix(h, 2246822519, word(x));
         j += 1;
     }
     h
@@ -300,6 +325,93 @@ fn same_type(rows: &[u16], parts: &[u16], m: usize, c: usize, r: usize) -> bool
     equal::equal_values(rows, parts, m, c, r)
 }
 
+// The first c parts of two rows of the kind k, with the numbers a and b and with x and y, are the same in the new table.
+fn alike_parts(
+    parts: &[u16],
+    first: &[u16],
+    k: usize,
+    a: usize,
+    b: usize,
+    x: usize,
+    y: usize,
+    c: usize,
+) -> bool
+    requires { ⌜ (a ≤ 65535) × (b ≤ 65535) × (x ≤ 65535) × (y ≤ 65535) × (c ≤ 65544) ⌝ }
+    ensures { λ out. ⌜ (out ≡ true → (j : ℕ) → j < c → newPart (now (first .entry)) (now (parts .entry)) k a b j ≡ newPart (now (first .entry)) (now (parts .entry)) k x y j) ⌝ }
+{
+    let mut j = 0;
+    while j < c {
+        if new_part(parts, first, k, a, b, j) != new_part(parts, first, k, x, y, j) {
+            return false;
+        }
+        j += 1;
+    }
+    true
+}
+
+// Two rows of the kind k, with the numbers a and b and with x and y, are the same in the new table.
+fn alike_forms(
+    parts: &[u16],
+    first: &[u16],
+    k: usize,
+    a: usize,
+    b: usize,
+    x: usize,
+    y: usize,
+) -> bool
+    requires { ⌜ (a ≤ 65535) × (b ≤ 65535) × (x ≤ 65535) × (y ≤ 65535) ⌝ }
+    ensures { λ out. ⌜ (out ≡ true → Alike (now (first .entry)) (now (parts .entry)) k a b x y) ⌝ }
+{
+    if k == 3 {
+        if b == y {
+            return alike_parts(parts, first, k, a, b, x, y, b);
+        }
+        return false;
+    }
+    if k == 2 {
+        return a == x;
+    }
+    if k == 7 {
+        return a == x;
+    }
+    if first_of(first, a) != first_of(first, x) {
+        return false;
+    }
+    if k == 5 {
+        return alike_parts(
+            parts,
+            first,
+            k,
+            a,
+            b,
+            x,
+            y,
+            9 + rows::letter_count(parts, b),
+        );
+    }
+    first_of(first, b) == first_of(first, y)
+}
+
+// Rows c and r, of m rows, name rows of the same types in the same form, as is seen from the rows that stand for those that they name.
+fn alike(rows: &[u16], parts: &[u16], m: usize, first: &[u16], c: usize, r: usize) -> bool
+    requires { ⌜ (m ≤ 514) × (c ≤ r) × (r < m) × Firsts (tab (now rows) (now parts)) m (now first) r × Lower (tab (now rows) (now parts)) (r + 1) ⌝ }
+    ensures { λ out. ⌜ (out ≡ true → getD (typesOf (rowsIn (tab (now (rows .entry)) (now (parts .entry))) m)) c (arg value junk) ≡ getD (typesOf (rowsIn (tab (now (rows .entry)) (now (parts .entry))) m)) r (arg value junk)) ⌝ }
+{
+    let k = rows::entry(rows, c, 0);
+    if k != rows::entry(rows, r, 0) {
+        return false;
+    }
+    alike_forms(
+        parts,
+        first,
+        k,
+        rows::entry(rows, c, 1),
+        rows::entry(rows, c, 2),
+        rows::entry(rows, r, 1),
+        rows::entry(rows, r, 2),
+    )
+}
+
 // Row c stands for row r: it stands for itself, their hashes are equal, and their types.
 fn stands_for(
     rows: &[u16],
@@ -310,7 +422,7 @@ fn stands_for(
     c: usize,
     r: usize,
 ) -> bool
-    requires { ⌜ (m ≤ 514) × Counted (tab (now rows) (now parts)) m × (c < m) × (r < m) ⌝ }
+    requires { ⌜ (m ≤ 514) × Counted (tab (now rows) (now parts)) m × (c ≤ r) × (r < m) × Firsts (tab (now rows) (now parts)) m (now first) r × Lower (tab (now rows) (now parts)) (r + 1) ⌝ }
     ensures { λ out. ⌜ (out ≡ true → getD (typesOf (rowsIn (tab (now (rows .entry)) (now (parts .entry))) m)) c (arg value junk) ≡ getD (typesOf (rowsIn (tab (now (rows .entry)) (now (parts .entry))) m)) r (arg value junk)) ⌝ }
 {
     if get(work, 2 * c) != get(work, 2 * r) {
@@ -318,6 +430,9 @@ fn stands_for(
     }
     if rows::at(first, c) != c {
         return false;
+    }
+    if alike(rows, parts, m, first, c, r) {
+        return true;
     }
     same_type(rows, parts, m, c, r)
 }
@@ -372,7 +487,7 @@ fn first_like(
     chains: &[u16],
     r: usize,
 ) -> usize
-    requires { ⌜ (m ≤ 514) × Counted (tab (now rows) (now parts)) m × (r < m) ⌝ }
+    requires { ⌜ (m ≤ 514) × Counted (tab (now rows) (now parts)) m × (r < m) × Firsts (tab (now rows) (now parts)) m (now first) r × Lower (tab (now rows) (now parts)) (r + 1) ⌝ }
     ensures { λ out. ⌜ (getD (typesOf (rowsIn (tab (now (rows .entry)) (now (parts .entry))) m)) out (arg value junk) ≡ getD (typesOf (rowsIn (tab (now (rows .entry)) (now (parts .entry))) m)) r (arg value junk)) × (out ≤ r) ⌝ }
 {
     let h = chain_of(work, r);
@@ -394,7 +509,7 @@ fn find_first(
     work: &mut [u32],
     chains: &mut [u16],
 )
-    requires { ⌜ (n ≤ 512) × Counted (tab (now rows) (now parts)) (n + 2) × (n ≤ length (now first)) ⌝ }
+    requires { ⌜ (n ≤ 512) × Counted (tab (now rows) (now parts)) (n + 2) × (n ≤ length (now first)) × Lower (tab (now rows) (now parts)) n ⌝ }
     ensures { λ _. ⌜ Firsts (tab (now (rows .entry)) (now (parts .entry))) (n + 2) (now (first .exit)) n ⌝ }
 {
     let mut r = 0;

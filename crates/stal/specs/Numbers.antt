@@ -19,6 +19,7 @@ use Rattle.stal.specs.declared.Reply.{Reply}
 abbrev pub verdict : ℕ → ℕ → ℕ → Verdict
 verdict c a b = record { code = c; first = a; second = b }
 
+-- the numbers of check's answer; x is the last number of a refusal
 unfoldable pub verdictOf : Said → ℕ → Verdict
 verdictOf (accept b i) x = verdict 0 b i
 verdictOf (refuse n l) x = verdict n l x
@@ -45,6 +46,7 @@ verdictBy (Unfit l i) = verdict 10 l i
 abbrev pub reply : ℕ → ℕ → ℕ → ℕ → Reply
 reply c a k n = record { code = c; first = a; kind = k; number = n }
 
+-- the numbers of an answer
 unfoldable pub replyOf : exec.Answer → Reply
 replyOf (refused n l) = reply n l 0 0
 replyOf (haltedAfter s k n) = reply 0 s k n
@@ -58,9 +60,11 @@ pub record Call : Type 0 where
   pub reply : Reply
   pub state : State
 
+-- these numbers and this state
 abbrev pub call : Reply → State → Call
 call r σ = record { reply = r; state = σ }
 
+-- an outcome's numbers and state
 unfoldable pub callOf : exec.Outcome → Call
 callOf o = call (replyOf (o .answer)) (o .state)
 

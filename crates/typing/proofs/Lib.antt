@@ -5,3 +5,4 @@ pub mod Targets
 pub mod Forms
 pub mod Stacks
 pub mod Args
+pub mod Seen

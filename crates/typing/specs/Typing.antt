@@ -21,6 +21,7 @@ use Rattle.context.specs.Context.{firstVar, onItem}
 abbrev pub typesIn : List ℕ → List ℕ → ℕ → List Arg
 typesIn rows parts n = typesOf (rowsIn (tab rows parts) (n + 2))
 
+-- what the premises rely on: rows n and n + 1 are `I` and `N`, and the counts are filled in
 pub record Ready (rows parts : List ℕ) (n : ℕ) : Type 0 where
   pub few : n ≤ 512
   pub int-row : cell 4 rows n 0 ≡ 0
@@ -60,6 +61,7 @@ SmallVars (push t a) = SmallVars a
 SmallVars (svar k a) = (k ≤ 60000) × SmallVars a
 SmallVars (gap a) = SmallVars a
 
+-- a variable's number fits an entry of sp
 abbrev pub SmallItem : Item → Type 0
 SmallItem NoItem = Unit
 SmallItem (ValItem t) = Unit
@@ -76,6 +78,7 @@ EntryIs n (VarItem k) y = (T : List Arg) (b : Ty stack) → onItem T y b ≡ sva
 unfoldable pub givenRow : ℕ → ℕ → ℕ
 givenRow n t = cond (ltb t n) t (n + 1)
 
+-- row t as an argument; one that is not there is the junk type
 abbrev pub givenArg : List ℕ → List ℕ → ℕ → ℕ → Arg
 givenArg rows parts n t = getD (typesOf (rowsIn (tab rows parts) n)) t (arg value junk)
 

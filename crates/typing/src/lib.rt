@@ -4,6 +4,7 @@
 // program's own, so that each type that the checker holds is the type of a row.
 // Promised of each: its premise's least fault, 0 if it holds, and what the premise gives, as an equation with the definition.
 use rows::Item;
+use rows::Stk;
 use rows::Val;
 ghost use mathlib.Core.Path.{_≡_};
 ghost use Prim.Native.Nat.{ℕ, _+_, _-_, _≤_, _<_};
@@ -12,7 +13,7 @@ ghost use mathlib.Core.List.{List, map, reverse};
 ghost use lib.ListN.{length, getD, take};
 ghost use Rattle.syntax.specs.Partial.{when};
 ghost use Rattle.syntax.specs.Syntax.{Kind, value, stack};
-ghost use Rattle.types.specs.Types.{junk, Arg, arg, kindOf, items};
+ghost use Rattle.types.specs.Types.{junk, nil, svar, Arg, arg, kindOf, items};
 ghost use Rattle.types.specs.Rows.{typeAt, typesOf, allBelow};
 ghost use Rattle.valid.specs.Program.{Program};
 ghost use Rattle.types.specs.Equal.{same};
@@ -194,8 +195,73 @@ fn same_item(rows: &[u16], parts: &[u16], n: usize, it: Item, y: usize) -> bool
     }
 }
 
-// The stack row of link x has the m lowest items of sp.
-pub fn same_items(rows: &[u16], parts: &[u16], n: usize, sp: &[u16], m: usize, x: usize) -> bool
+// The value row of link t is seen at once to have the type of entry y of sp.
+fn seen_item(rows: &[u16], parts: &[u16], n: usize, t: usize, y: usize) -> bool
+    requires { ⌜ Ready (now rows) (now parts) n × (t ≤ n + 2) ⌝ }
+    ensures { λ out. ⌜ (out ≡ true → (y < 1024) × (meanV (tab (now (rows .entry)) (now (parts .entry))) t ≡ typeAt value (typesIn (now (rows .entry)) (now (parts .entry)) n) y)) ⌝ }
+{
+    if 1023 < y {
+        return false;
+    }
+    let r = row_of(n, t);
+    if r == y {
+        return true;
+    }
+    both_int(rows, parts, n, r, y)
+}
+
+// The i lowest items of sp are the stack variable k alone.
+fn lone_variable(sp: &[u16], i: usize, k: usize) -> bool
+    ensures { λ out. ⌜ (out ≡ true → (T : List Arg) → spOf T (now (sp .entry)) i ≡ svar k nil) ⌝ }
+{
+    if i != 1 {
+        return false;
+    }
+    let e = rows::at(sp, 0);
+    if e < 1024 {
+        return false;
+    }
+    e - 1024 == k
+}
+
+// The stack row of link x is seen at once to have the m lowest items of sp: value rows one under the other, and no row or a variable.
+fn seen_items(rows: &[u16], parts: &[u16], n: usize, sp: &[u16], m: usize, x: usize) -> bool
+    requires { ⌜ Ready (now rows) (now parts) n × (x ≤ n + 2) ⌝ }
+    ensures { λ out. ⌜ (out ≡ true → true ≡ same (meanS (tab (now (rows .entry)) (now (parts .entry))) x) (spOf (typesIn (now (rows .entry)) (now (parts .entry)) n) (now (sp .entry)) m)) ⌝ }
+{
+    let mut y = x;
+    let mut i = m;
+    loop {
+        let s = rows::read_stack(rows, y, 0, 0, 0);
+        match s {
+            Stk::Nil => {
+                return i == 0;
+            }
+            Stk::StkVar(k) => {
+                return lone_variable(sp, i, k);
+            }
+            Stk::StkFill(_) => {
+                return false;
+            }
+            Stk::Push(t, z) => {
+                if i == 0 {
+                    return false;
+                }
+                if !seen_item(rows, parts, n, t, rows::at(sp, i - 1)) {
+                    return false;
+                }
+                y = z;
+                i -= 1;
+            }
+            Stk::Join(_, _) => {
+                return false;
+            }
+        }
+    }
+}
+
+// The stack row of link x has the m lowest items of sp, each found by its position.
+fn same_each(rows: &[u16], parts: &[u16], n: usize, sp: &[u16], m: usize, x: usize) -> bool
     requires { ⌜ Ready (now rows) (now parts) n × (x ≤ n + 2) ⌝ }
     ensures { λ out. ⌜ out ≡ same (meanS (tab (now (rows .entry)) (now (parts .entry))) x) (spOf (typesIn (now (rows .entry)) (now (parts .entry)) n) (now (sp .entry)) m) ⌝ }
 {
@@ -211,6 +277,17 @@ pub fn same_items(rows: &[u16], parts: &[u16], n: usize, sp: &[u16], m: usize, x
         i += 1;
     }
     true
+}
+
+// The stack row of link x has the m lowest items of sp.
+pub fn same_items(rows: &[u16], parts: &[u16], n: usize, sp: &[u16], m: usize, x: usize) -> bool
+    requires { ⌜ Ready (now rows) (now parts) n × (x ≤ n + 2) ⌝ }
+    ensures { λ out. ⌜ out ≡ same (meanS (tab (now (rows .entry)) (now (parts .entry))) x) (spOf (typesIn (now (rows .entry)) (now (parts .entry)) n) (now (sp .entry)) m) ⌝ }
+{
+    if seen_items(rows, parts, n, sp, m, x) {
+        return true;
+    }
+    same_each(rows, parts, n, sp, m, x)
 }
 
 // The items of the stack row of link x are a tail of sp's.

@@ -23,6 +23,7 @@ pub record Program : Type 0 where
 abbrev pub typeOf : Program → ℕ → Ty value
 typeOf P t = typeAt value (P .types) t
 
+-- the types of the rows ts as arguments, in the order of their variables
 abbrev pub argsOf : Program → List ℕ → List Arg
 argsOf P ts = reverse (map (λ t. getD (P .types) t (arg value junk)) ts)
 

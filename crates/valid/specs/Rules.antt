@@ -107,6 +107,7 @@ module _ (P : Program) (Δ : List Kind) where
 abbrev pub atStart : Block → Context
 atStart B = record { sp = B .sp; regs = B .regs }
 
+-- Γ are the types before the block's instruction i: the start's, then by one rule for each instruction
 pub data Before (P : Program) (B : Block) : ℕ → Context → Type 0 where
   start : Before P B 0 (atStart B)
   next : {i : ℕ} {Γ Γ′ : Context} {x : Instr} → Before P B i Γ → getElem? (B .body) i ≡ some x → Rule P (B .letters) Γ x Γ′ → Before P B (suc i) Γ′

@@ -1,57 +1,41 @@
-use Rattle.decode_line.proofs.FieldLaws.{plain-register, plain-row, plain-index, plain-amount}
+use mathlib.Core.Path.{_≡_, refl, ap, sym, _∙_}
+use Prim.Native.Nat.{_+_, _-_}
+use native.Mathlib.Omega.{arith}
+use borrow.Author.Tests.{not-true, not-false}
+use Rattle.text.specs.Bytes.{number}
+use Rattle.text.specs.Grammar.{register}
+use Rattle.lines.specs.Parts.{fieldIn}
+use Rattle.decode_line.specs.Fields.{plainField}
+use Rattle.decode_line.proofs.StopLaws.{scan-to, plain-register, plain-number}
 use borrow.Author.Needs.{needs}
 use Rattle.decode_line.proofs.plain_field.Statement.{statement}
 use Rattle.decode_line.proofs.plain_field.Tie as tie
 use Rattle.decode_line.proofs.plain_field.Reads as reads
 use Rattle.decode_line.proofs.plain_field.Lts as lts
-use Rattle.numbers.proofs.amount.Reads as amount-reads
-use Rattle.numbers.proofs.index.Reads as index-reads
-use Rattle.numbers.proofs.register.Reads as register-reads
-use Rattle.numbers.proofs.row_number.Reads as row-number-reads
+use Rattle.decode_line.proofs.most_of.Reads as most-of-reads
+use Rattle.numbers.proofs.number_at.Reads as number-at-reads
+use Rattle.numbers.proofs.register_at.Reads as register-at-reads
 
--- src/lib.rt:94:14
-register-requires : tie.Need-register-requires
-register-requires c κs = search needs
+-- src/lib.rt:159:9
+register-at-requires : tie.Need-register-at-requires
+register-at-requires c κs = search needs
 
--- src/lib.rt:95:14
-row-number-requires : tie.Need-row-number-requires
-row-number-requires c κs = search needs
-
--- src/lib.rt:96:14
-index-requires : tie.Need-index-requires
-index-requires c κs = search needs
-
--- src/lib.rt:97:14
-amount-requires : tie.Need-amount-requires
-amount-requires c κs = search needs
-
--- src/lib.rt:90:1
+-- src/lib.rt:159:9
 returns : tie.Need-returns
-returns c = plain-register ((c .before .before .before .args) .f .now) ((c .before .before .before .args) .kind) ((c .register) .result) ((c .before .match) .keys1) ((c .register) .ensures)
+returns c = scan-to (((c .before .before .before .args) .rest) .now) ((c .before .before .before .args) .at) (register (fieldIn (((c .before .before .before .args) .rest) .now) ((c .before .before .before .args) .at))) ((c .register-at) .result) ((c .register-at) .ensures) (plainField ((c .before .before .before .args) .kind) (fieldIn (((c .before .before .before .args) .rest) .now) ((c .before .before .before .args) .at))) (plain-register ((c .before .before .before .args) .kind) (fieldIn (((c .before .before .before .args) .rest) .now) ((c .before .before .before .args) .at)) ((c .before .if1) .taken))
 
--- src/lib.rt:90:1
+-- src/lib.rt:161:37
+most-of-requires : tie.Need-most-of-requires
+most-of-requires c κs = search needs
+
+-- src/lib.rt:161:5
+number-at-requires : tie.Need-number-at-requires
+number-at-requires c κs = search needs
+
+-- src/lib.rt:154:1
 returns-2 : tie.Need-returns-2
-returns-2 c = plain-row ((c .before .before .before .args) .f .now) ((c .before .before .before .args) .kind) ((c .row-number) .result) ((c .before .match) .keys2) ((c .row-number) .ensures)
-
--- src/lib.rt:90:1
-returns-3 : tie.Need-returns-3
-returns-3 c = plain-index ((c .before .before .before .args) .f .now) ((c .before .before .before .args) .kind) ((c .index) .result) ((c .before .match) .keys3) ((c .index) .ensures)
-
--- src/lib.rt:90:1
-returns-4 : tie.Need-returns-4
-returns-4 c =
-    let r = (c .before .match) .rest in
-    plain-amount ((c .before .before .before .args) .f .now) ((c .before .before .before .args) .kind) ((c .amount) .result) (r .0 .0 .1) (r .0 .1) (r .1) ((c .amount) .ensures)
+returns-2 c = scan-to (((c .before .before .before .before .args) .rest) .now) ((c .before .before .before .before .args) .at) (number 0 ((c .before .most-of) .result) (fieldIn (((c .before .before .before .before .args) .rest) .now) ((c .before .before .before .before .args) .at))) ((c .number-at) .result) ((c .number-at) .ensures) (plainField ((c .before .before .before .before .args) .kind) (fieldIn (((c .before .before .before .before .args) .rest) .now) ((c .before .before .before .before .args) .at))) (plain-number ((c .before .before .before .before .args) .kind) (fieldIn (((c .before .before .before .before .args) .rest) .now) ((c .before .before .before .before .args) .at)) ((c .before .most-of) .result) ((c .before .before .if1) .left) ((c .before .most-of) .ensures))
 
 pub plain-field-spec : {M : Type 1} → statement M
 plain-field-spec =
-    tie.close
-    (tie.spec
-    register-requires
-    row-number-requires
-    index-requires
-    amount-requires
-    returns
-    returns-2
-    returns-3
-    returns-4)
+    tie.close (tie.spec register-at-requires returns most-of-requires number-at-requires returns-2)

@@ -1,142 +1,117 @@
 use borrow.Author.Needs.{needs}
+use mathlib.Core.Path.{_≡_, refl, ap, sym, _∙_}
+use Prim.Native.Nat.{_+_, _-_, _*_}
 use native.Mathlib.Omega.{arith}
+use borrow.Author.Tests.{not-true, not-false}
 use lib.ListN.{length, take, drop}
-use Prim.Native.Nat.{_-_, _+_}
-use Rattle.lines.proofs.Parts.{end-within, end-from}
-use Rattle.decode_line.proofs.FieldLaws.{part-small, part-value, part-bad}
+use Rattle.lines.specs.Parts.{lineIn, fieldIn, StopAt}
+use Rattle.lines.proofs.InLine.{place-read, stop-on, stop-last, stop-behind}
+use Rattle.decode_line.specs.Fields.{partNumber}
+use Rattle.decode_line.proofs.FieldLaws.{part-small}
 use Rattle.decode_line.proofs.PartLaws.{PartsGo, parts-start, parts-end, parts-bad, parts-on, parts-many}
+use Rattle.decode_line.proofs.StopLaws.{scan-value, scan-lacks, field-here, line-over, no-end}
 use Rattle.decode_line.proofs.read_parts.Statement.{statement}
 use Rattle.decode_line.proofs.read_parts.Tie as tie
 use Rattle.decode_line.proofs.read_parts.Reads as reads
 use Rattle.decode_line.proofs.read_parts.Lts as lts
-use Rattle.decode_line.proofs.part_number.Reads as part-number-reads
-use Rattle.fields.proofs.field_end.Reads as field-end-reads
+use Rattle.decode_line.proofs.part_at.Reads as part-at-reads
 
 abbrev Inv-loop : tie.InvT-loop
-Inv-loop rest at known most parts₀ p i₀ n₀ parts i n = PartsGo rest at known most parts₀ p parts i n
+Inv-loop rest at known most parts₀ p i₀ n₀ parts i n = PartsGo (lineIn rest) (at + 1) known most parts₀ p parts (i + 1) n × StopAt rest i
 
 abbrev μ-loop : tie.MeasureT-loop
-μ-loop rest at known most parts₀ p i₀ n₀ parts i n = length rest + 1 - i
+μ-loop rest at known most parts₀ p i₀ n₀ parts i n = length rest - i
 
--- src/lib.rt:170:5
+-- src/lib.rt:272:5
 loop-holds : tie.Need-loop-holds Inv-loop μ-loop
-loop-holds c =
-    let a = (c .before .before .args) in
-    parts-start (a .rest .now) (a .at) (a .known) (a .most) (a .parts .now) (a .p)
+loop-holds c = (parts-start (lineIn (((c .before .before .args) .rest) .now)) (((c .before .before .args) .at) + 1) ((c .before .before .args) .known) ((c .before .before .args) .most) (((c .before .before .args) .parts) .now) ((c .before .before .args) .p), (c .before .before .pre) .2)
 
--- src/lib.rt:172:13
+-- src/lib.rt:272:11
+shared-slice-read-if1 : tie.Need-shared-slice-read-if1 Inv-loop μ-loop
+shared-slice-read-if1 c = place-read (((c .before .before .before .before .args) .rest) .now) ((c .before .loop) .i) ((c .before .loop) .inv .1 .place)
+
+-- src/lib.rt:274:13
 same-length : tie.Need-same-length Inv-loop μ-loop
-same-length c = (c .before .before .loop) .inv .as-long
+same-length c = (c .before .before .before .loop) .inv .0 .as-long
 
--- src/lib.rt:172:13
+-- src/lib.rt:274:13
 returns : tie.Need-returns Inv-loop μ-loop
-returns c =
-    let a = (c .before .before .before .before .before .args) in
-    let l = (c .before .before .loop) in
-    parts-many (a .rest .now) (a .at) (a .known) (a .most) (a .parts .now) (a .p) (l .parts) (l .i) (l .n) (l .inv) ((c .before .loop-test) .taken) ((c .if1) .taken)
+returns c = (parts-many (lineIn (((c .before .before .before .before .before .before .args) .rest) .now)) (((c .before .before .before .before .before .before .args) .at) + 1) ((c .before .before .before .before .before .before .args) .known) ((c .before .before .before .before .before .before .args) .most) (((c .before .before .before .before .before .before .args) .parts) .now) ((c .before .before .before .before .before .before .args) .p) ((c .before .before .before .loop) .parts) ((c .before .before .before .loop) .i + 1) ((c .before .before .before .loop) .n) ((c .before .before .before .loop) .inv .0) ((stop-on (((c .before .before .before .before .before .before .args) .rest) .now) ((c .before .before .before .loop) .i) ((c .before .before .before .loop) .inv .1) ((c .before .if1) .taken)) .within) ((c .if2) .taken) ((c .before .before .before .loop) .i), no-end (((c .before .before .before .before .before .before .args) .rest) .now) ((c .before .before .before .loop) .i))
 
--- src/lib.rt:177:13
-field-end-requires : tie.Need-field-end-requires Inv-loop μ-loop
-field-end-requires c κs = search needs
+-- src/lib.rt:280:31
+add-part-at : tie.Need-add-part-at Inv-loop μ-loop
+add-part-at c =
+    let h = place-read (((c .before .before .before .before .before .before .args) .rest) .now) ((c .before .before .before .loop) .i) ((c .before .before .before .loop) .inv .1 .place) in
+    omega arith
 
--- src/lib.rt:178:44
-sub-part-number : tie.Need-sub-part-number Inv-loop μ-loop
-sub-part-number c = search needs
+-- src/lib.rt:280:13
+part-at-requires : tie.Need-part-at-requires Inv-loop μ-loop
+part-at-requires c κs = (stop-on (((c .before .before .before .before .before .before .args) .rest) .now) ((c .before .before .before .loop) .i) ((c .before .before .before .loop) .inv .1) ((c .before .if1) .taken))
 
--- src/lib.rt:178:44
-part-part-number-start : tie.Need-part-part-number-start Inv-loop μ-loop
-part-part-number-start c = search needs
-
--- src/lib.rt:178:44
-part-part-number-end : tie.Need-part-part-number-end Inv-loop μ-loop
-part-part-number-end c = end-within 44 ((c .before .before .before .before .before .before .args) .rest .now) ((c .before .before .before .loop) .i) ((c .field-end) .result) ((c .field-end) .ensures) ((c .before .before .loop-test) .taken)
-
--- src/lib.rt:178:32
-part-number-requires : tie.Need-part-number-requires Inv-loop μ-loop
-part-number-requires c κs = search needs
-
--- src/lib.rt:178:27
-enum-known-v : tie.Need-enum-known-v Inv-loop μ-loop
-enum-known-v c = search needs
-
--- src/lib.rt:179:13
-enum-told : tie.Need-enum-told Inv-loop μ-loop
-enum-told c = search needs
-
--- src/lib.rt:179:13
+-- src/lib.rt:282:13
 same-length-2 : tie.Need-same-length-2 Inv-loop μ-loop
-same-length-2 c = (c .before .before .before .before .before .before .before .loop) .inv .as-long
+same-length-2 c = (c .before .before .before .before .before .before .loop) .inv .0 .as-long
 
--- src/lib.rt:179:13
+-- src/lib.rt:282:13
 returns-2 : tie.Need-returns-2 Inv-loop μ-loop
 returns-2 c =
-    let a = (c .before .before .before .before .before .before .before .before .before .before .args) in
-    let l = (c .before .before .before .before .before .before .before .loop) in
-    let e = (c .before .before .before .before .field-end) .result in
-    parts-bad (a .rest .now) (a .at) (a .known) (a .most) (a .parts .now) (a .p) (l .parts) (l .i) (l .n) (l .inv) ((c .before .before .before .before .before .before .loop-test) .taken) e ((c .before .before .before .before .field-end) .ensures) (part-bad (a .known) (take (e - l .i) (drop (l .i) (a .rest .now))) ((c .before .before .part-number) .result) ((c .enum-told) .given .1) ((c .before .before .part-number) .ensures))
+    let d = ((c .before .before .before .before .before .before .loop) .i + 1 + length (fieldIn (((c .before .before .before .before .before .before .before .before .before .args) .rest) .now) ((c .before .before .before .before .before .before .loop) .i + 1))) in
+    (parts-bad (lineIn (((c .before .before .before .before .before .before .before .before .before .args) .rest) .now)) (((c .before .before .before .before .before .before .before .before .before .args) .at) + 1) ((c .before .before .before .before .before .before .before .before .before .args) .known) ((c .before .before .before .before .before .before .before .before .before .args) .most) (((c .before .before .before .before .before .before .before .before .before .args) .parts) .now) ((c .before .before .before .before .before .before .before .before .before .args) .p) ((c .before .before .before .before .before .before .loop) .parts) ((c .before .before .before .before .before .before .loop) .i + 1) ((c .before .before .before .before .before .before .loop) .n) ((c .before .before .before .before .before .before .loop) .inv .0) ((stop-on (((c .before .before .before .before .before .before .before .before .before .args) .rest) .now) ((c .before .before .before .before .before .before .loop) .i) ((c .before .before .before .before .before .before .loop) .inv .1) ((c .before .before .before .before .if1) .taken)) .within) d refl (ap (partNumber ((c .before .before .before .before .before .before .before .before .before .args) .known)) (field-here (((c .before .before .before .before .before .before .before .before .before .args) .rest) .now) ((c .before .before .before .before .before .before .loop) .i + 1) d refl) ∙ scan-lacks (((c .before .before .before .before .before .before .before .before .before .args) .rest) .now) ((c .before .before .before .before .before .before .loop) .i + 1) (partNumber ((c .before .before .before .before .before .before .before .before .before .args) .known) (fieldIn (((c .before .before .before .before .before .before .before .before .before .args) .rest) .now) ((c .before .before .before .before .before .before .loop) .i + 1))) ((c .before .before .part-at) .result) ((c .before .before .part-at) .ensures) (not-true ((c .before .before .part-at) .result .ok) ((c .if3) .taken))) ((c .before .before .before .before .before .before .loop) .i), no-end (((c .before .before .before .before .before .before .before .before .before .args) .rest) .now) ((c .before .before .before .before .before .before .loop) .i))
 
--- src/lib.rt:184:23
+-- src/lib.rt:288:23
 cast-to : tie.Need-cast-to Inv-loop μ-loop
 cast-to c = search needs
 
--- src/lib.rt:184:18
+-- src/lib.rt:288:18
 add-to : tie.Need-add-to Inv-loop μ-loop
 add-to c =
-    let l = (c .before .before .before .before .before .before .before .before .loop) .inv in
+    let l = (c .before .before .before .before .before .before .loop) .inv .0 in
     omega (arith, l .few, l .as-long)
 
--- src/lib.rt:185:21
+-- src/lib.rt:289:21
 cast-parts : tie.Need-cast-parts Inv-loop μ-loop
 cast-parts c =
-    let a = (c .before .before .before .before .before .before .before .before .before .before .before .args) in
-    let l = (c .before .before .before .before .before .before .before .before .loop) in
-    let e = (c .before .before .before .before .before .field-end) .result in
-    let f = take (e - l .i) (drop (l .i) (a .rest .now)) in
-    omega (arith, part-small (a .known) f ((c .before .v) .given .0 .0) (part-value (a .known) f ((c .before .before .before .part-number) .result) ((c .before .v) .given .0 .0) ((c .before .v) .given .1) ((c .before .before .before .part-number) .ensures)))
+    let v = scan-value (((c .before .before .before .before .before .before .before .before .before .before .args) .rest) .now) ((c .before .before .before .before .before .before .before .loop) .i + 1) (partNumber ((c .before .before .before .before .before .before .before .before .before .before .args) .known) (fieldIn (((c .before .before .before .before .before .before .before .before .before .before .args) .rest) .now) ((c .before .before .before .before .before .before .before .loop) .i + 1))) ((c .before .before .before .part-at) .result) ((c .before .before .before .part-at) .ensures) (not-false ((c .before .before .before .part-at) .result .ok) ((c .before .if3) .left)) in
+    omega (arith, part-small ((c .before .before .before .before .before .before .before .before .before .before .args) .known) (fieldIn (((c .before .before .before .before .before .before .before .before .before .before .args) .rest) .now) ((c .before .before .before .before .before .before .before .loop) .i + 1)) ((c .before .before .before .part-at) .result .value) v)
 
--- src/lib.rt:185:9
+-- src/lib.rt:289:9
 mul-parts : tie.Need-mul-parts Inv-loop μ-loop
 mul-parts c = search needs
 
--- src/lib.rt:185:9
+-- src/lib.rt:289:9
 slice-write-parts : tie.Need-slice-write-parts Inv-loop μ-loop
-slice-write-parts c = search needs
+slice-write-parts c =
+    let l = (c .before .before .before .before .before .before .before .loop) .inv .0 in
+    omega (arith, l .few, l .as-long)
 
--- src/lib.rt:186:9
+-- src/lib.rt:290:9
 add-n : tie.Need-add-n Inv-loop μ-loop
-add-n c = search needs
+add-n c =
+    let l = (c .before .before .before .before .before .before .before .loop) .inv .0 in
+    omega (arith, l .few)
 
--- src/lib.rt:187:13
-add-i : tie.Need-add-i Inv-loop μ-loop
-add-i c =
-    let w = end-within 44 ((c .before .before .before .before .before .before .before .before .before .before .before .args) .rest .now) ((c .before .before .before .before .before .before .before .before .loop) .i) ((c .before .before .before .before .before .field-end) .result) ((c .before .before .before .before .before .field-end) .ensures) ((c .before .before .before .before .before .before .before .loop-test) .taken) in
-    omega arith
-
--- src/lib.rt:170:5
+-- src/lib.rt:272:5
 loop-less : tie.Need-loop-less Inv-loop μ-loop
 loop-less c =
-    let h = end-from 44 ((c .before .before .before .before .before .before .before .before .before .before .before .args) .rest .now) ((c .before .before .before .before .before .before .before .before .loop) .i) ((c .before .before .before .before .before .field-end) .result) ((c .before .before .before .before .before .field-end) .ensures) in
+    let e = (c .before .before .before .part-at) .ensures .ends (not-false ((c .before .before .before .part-at) .result .ok) ((c .before .if3) .left)) in
+    let w = stop-behind (((c .before .before .before .before .before .before .before .before .before .before .args) .rest) .now) ((c .before .before .before .before .before .before .before .loop) .i + 1) ((c .before .before .before .part-at) .result .next) (stop-on (((c .before .before .before .before .before .before .before .before .before .before .args) .rest) .now) ((c .before .before .before .before .before .before .before .loop) .i) ((c .before .before .before .before .before .before .before .loop) .inv .1) ((c .before .before .before .before .before .if1) .taken)) e in
+    let h = place-read (((c .before .before .before .before .before .before .before .before .before .before .args) .rest) .now) ((c .before .before .before .part-at) .result .next) (w .place) in
     omega arith
 
--- src/lib.rt:170:5
+-- src/lib.rt:272:5
 loop-again : tie.Need-loop-again Inv-loop μ-loop
 loop-again c =
-    let a = (c .before .before .before .before .before .before .before .before .before .before .before .args) in
-    let l = (c .before .before .before .before .before .before .before .before .loop) in
-    let e = (c .before .before .before .before .before .field-end) .result in
-    let f = take (e - l .i) (drop (l .i) (a .rest .now)) in
-    parts-on (a .rest .now) (a .at) (a .known) (a .most) (a .parts .now) (a .p) (l .parts) (l .i) (l .n) (l .inv) ((c .before .before .before .before .before .before .before .loop-test) .taken) e ((c .before .before .before .before .before .field-end) .ensures) ((c .before .v) .given .0 .0) (part-value (a .known) f ((c .before .before .before .part-number) .result) ((c .before .v) .given .0 .0) ((c .before .v) .given .1) ((c .before .before .before .part-number) .ensures)) (omega (arith, l .inv .few)) (omega (arith, l .inv .few, l .inv .as-long))
+    let e = (c .before .before .before .part-at) .ensures .ends (not-false ((c .before .before .before .part-at) .result .ok) ((c .before .if3) .left)) in
+    let v = scan-value (((c .before .before .before .before .before .before .before .before .before .before .args) .rest) .now) ((c .before .before .before .before .before .before .before .loop) .i + 1) (partNumber ((c .before .before .before .before .before .before .before .before .before .before .args) .known) (fieldIn (((c .before .before .before .before .before .before .before .before .before .before .args) .rest) .now) ((c .before .before .before .before .before .before .before .loop) .i + 1))) ((c .before .before .before .part-at) .result) ((c .before .before .before .part-at) .ensures) (not-false ((c .before .before .before .part-at) .result .ok) ((c .before .if3) .left)) in
+    (parts-on (lineIn (((c .before .before .before .before .before .before .before .before .before .before .args) .rest) .now)) (((c .before .before .before .before .before .before .before .before .before .before .args) .at) + 1) ((c .before .before .before .before .before .before .before .before .before .before .args) .known) ((c .before .before .before .before .before .before .before .before .before .before .args) .most) (((c .before .before .before .before .before .before .before .before .before .before .args) .parts) .now) ((c .before .before .before .before .before .before .before .before .before .before .args) .p) ((c .before .before .before .before .before .before .before .loop) .parts) ((c .before .before .before .before .before .before .before .loop) .i + 1) ((c .before .before .before .before .before .before .before .loop) .n) ((c .before .before .before .before .before .before .before .loop) .inv .0) ((stop-on (((c .before .before .before .before .before .before .before .before .before .before .args) .rest) .now) ((c .before .before .before .before .before .before .before .loop) .i) ((c .before .before .before .before .before .before .before .loop) .inv .1) ((c .before .before .before .before .before .if1) .taken)) .within) ((c .before .before .before .part-at) .result .next) e ((c .before .before .before .part-at) .result .value) (ap (partNumber ((c .before .before .before .before .before .before .before .before .before .before .args) .known)) (field-here (((c .before .before .before .before .before .before .before .before .before .before .args) .rest) .now) ((c .before .before .before .before .before .before .before .loop) .i + 1) ((c .before .before .before .part-at) .result .next) e) ∙ v) (let q = (c .before .before .before .before .if2) .left in omega (arith, (c .before .before .before .before .before .before .before .loop) .inv .0 .few)) (let q = (c .before .before .before .before .if2) .left in omega (arith, (c .before .before .before .before .before .before .before .loop) .inv .0 .few, (c .before .before .before .before .before .before .before .loop) .inv .0 .as-long)), stop-behind (((c .before .before .before .before .before .before .before .before .before .before .args) .rest) .now) ((c .before .before .before .before .before .before .before .loop) .i + 1) ((c .before .before .before .part-at) .result .next) (stop-on (((c .before .before .before .before .before .before .before .before .before .before .args) .rest) .now) ((c .before .before .before .before .before .before .before .loop) .i) ((c .before .before .before .before .before .before .before .loop) .inv .1) ((c .before .before .before .before .before .if1) .taken)) e)
 
--- src/lib.rt:164:1
+-- src/lib.rt:266:1
 same-length-3 : tie.Need-same-length-3 Inv-loop μ-loop
-same-length-3 c = (c .before .loop) .inv .as-long
+same-length-3 c = (c .before .before .loop) .inv .0 .as-long
 
--- src/lib.rt:164:1
+-- src/lib.rt:266:1
 returns-3 : tie.Need-returns-3 Inv-loop μ-loop
-returns-3 c =
-    let a = (c .before .before .before .before .args) in
-    let l = (c .before .loop) in
-    parts-end (a .rest .now) (a .at) (a .known) (a .most) (a .parts .now) (a .p) (l .parts) (l .i) (l .n) (l .inv) ((c .loop-test) .left)
+returns-3 c = (parts-end (lineIn (((c .before .before .before .before .before .args) .rest) .now)) (((c .before .before .before .before .before .args) .at) + 1) ((c .before .before .before .before .before .args) .known) ((c .before .before .before .before .before .args) .most) (((c .before .before .before .before .before .args) .parts) .now) ((c .before .before .before .before .before .args) .p) ((c .before .before .loop) .parts) ((c .before .before .loop) .i + 1) ((c .before .before .loop) .n) ((c .before .before .loop) .inv .0) (line-over (((c .before .before .before .before .before .args) .rest) .now) ((c .before .before .loop) .i) ((c .before .before .loop) .inv .1) ((c .if1) .left)) ((c .before .before .loop) .i), λ q. stop-last (((c .before .before .before .before .before .args) .rest) .now) ((c .before .before .loop) .i) ((c .before .before .loop) .inv .1) ((c .if1) .left))
 
 pub read-parts-spec : {M : Type 1} → statement M
 read-parts-spec =
@@ -145,15 +120,11 @@ read-parts-spec =
     Inv-loop
     μ-loop
     loop-holds
+    shared-slice-read-if1
     same-length
     returns
-    field-end-requires
-    sub-part-number
-    part-part-number-start
-    part-part-number-end
-    part-number-requires
-    enum-known-v
-    enum-told
+    add-part-at
+    part-at-requires
     same-length-2
     returns-2
     cast-to
@@ -162,7 +133,6 @@ read-parts-spec =
     mul-parts
     slice-write-parts
     add-n
-    add-i
     loop-less
     loop-again
     same-length-3

@@ -1,12 +1,16 @@
-use borrow.Author.Tests.{not-true, not-false}
+use mathlib.Core.Path.{_≡_, refl, ap, sym, _∙_}
+use Prim.Native.Nat.{_+_, _-_, _*_}
 use native.Mathlib.Omega.{arith}
-use mathlib.Core.Path.{_∙_, ap}
+use borrow.Author.Tests.{not-true, not-false}
+use lib.ListN.{length, take, drop}
+use Rattle.lines.specs.Parts.{lineIn, fieldIn, StopAt}
+use Rattle.lines.proofs.InLine.{place-read, stop-on, stop-last, stop-behind, field-read}
 use Rattle.decode_line.specs.Answers.{operandTable}
 use Rattle.decode_line.specs.Forms.{fewest}
-use Rattle.decode_line.proofs.FieldLaws.{form-slots, form-most}
 use Rattle.decode_line.specs.Fields.{fieldsFrom}
+use Rattle.decode_line.proofs.FieldLaws.{form-slots, form-most}
 use Rattle.decode_line.proofs.LineLaws.{most-few, plain-no-slots, plain-no-operands, plain-too-few, plain-is}
-use borrow.Author.Needs.{needs}
+use Rattle.decode_line.proofs.StopLaws.{entry-end}
 use borrow.Author.Needs.{needs}
 use Rattle.decode_line.proofs.read_plain.Statement.{statement}
 use Rattle.decode_line.proofs.read_plain.Tie as tie
@@ -18,100 +22,89 @@ use Rattle.decode_line.proofs.no_entry.Reads as no-entry-reads
 use Rattle.decode_line.proofs.read_operands.Reads as read-operands-reads
 use Rattle.decode_line.proofs.read_slots.Reads as read-slots-reads
 
--- src/lib.rt:315:9
+-- src/lib.rt:379:9
 form-at-requires : tie.Need-form-at-requires
 form-at-requires c κs = search needs
 
--- src/lib.rt:316:9
+-- src/lib.rt:380:9
 read-slots-requires : tie.Need-read-slots-requires
-read-slots-requires c κs = search needs
+read-slots-requires c κs = (c .before .before .before .before .before .pre) .4
 
--- src/lib.rt:318:9
+-- src/lib.rt:382:9
 no-entry-requires : tie.Need-no-entry-requires
 no-entry-requires c κs = search needs
 
--- src/lib.rt:318:9
+-- src/lib.rt:382:9
 returns : tie.Need-returns
-returns c =
-    let a = (c .before .before .before .before .before .before .before .before .before .args) in
-    plain-no-slots (a .code) (a .rest .now) (a .at) (a .v) ((c .before .before .before .before .before .before .before .before .before .pre) .0) ((c .before .before .before .before .before .before .before .before .before .pre) .1) ((c .before .before .before .before .before .before .before .before .before .pre) .2) (operandTable (a .operands .now) (a .numbers .now) (a .args .now)) ((c .before .before .before .read-slots) .result) ((c .before .before .before .read-slots) .ensures ∙ form-slots (a .code) ((c .before .before .before .before .form-at) .result) (fieldsFrom (a .rest .now) (a .at)) ((c .before .before .before .before .form-at) .ensures)) ((c .no-entry) .result) ((c .no-entry) .ensures) (not-true ((c .before .before .before .read-slots) .result .ok) ((c .before .if1) .taken))
+returns c = (plain-no-slots ((c .before .before .before .before .before .before .before .before .before .args) .code) (lineIn (((c .before .before .before .before .before .before .before .before .before .args) .rest) .now)) (((c .before .before .before .before .before .before .before .before .before .args) .at) + 1) ((c .before .before .before .before .before .before .before .before .before .args) .v) ((c .before .before .before .before .before .before .before .before .before .pre) .0) ((c .before .before .before .before .before .before .before .before .before .pre) .1) ((c .before .before .before .before .before .before .before .before .before .pre) .2) (operandTable (((c .before .before .before .before .before .before .before .before .before .args) .operands) .now) (((c .before .before .before .before .before .before .before .before .before .args) .numbers) .now) (((c .before .before .before .before .before .before .before .before .before .args) .args) .now)) ((c .before .before .before .read-slots) .result) ((c .before .before .before .read-slots) .ensures .says ∙ form-slots ((c .before .before .before .before .before .before .before .before .before .args) .code) ((c .before .before .before .before .form-at) .result) (fieldsFrom (lineIn (((c .before .before .before .before .before .before .before .before .before .args) .rest) .now)) (((c .before .before .before .before .before .before .before .before .before .args) .at) + 1)) ((c .before .before .before .before .form-at) .ensures)) ((c .no-entry) .result) ((c .no-entry) .ensures) (not-true ((c .before .before .before .read-slots) .result .ok) ((c .before .if1) .taken)), entry-end (((c .before .before .before .before .before .before .before .before .before .args) .rest) .now) ((c .no-entry) .result) ((c .no-entry) .ensures))
 
--- src/lib.rt:321:9
+-- src/lib.rt:385:9
 read-operands-requires : tie.Need-read-operands-requires
 read-operands-requires c κs =
     let m = most-few ((c .before .before .before .before .before .before .before .before .before .before .before .args) .code) in
     let w = form-most ((c .before .before .before .before .before .before .before .before .before .before .before .args) .code) ((c .before .before .before .before .before .before .form-at) .result) ((c .before .before .before .before .before .before .form-at) .ensures) in
     let r = (c .before .before .before .before .before .before .before .before .before .before .before .pre) .3 in
-    (record { kinds = omega (arith, r .kinds); bases = omega (arith, r .bases); rows = omega (arith, r .rows) }, omega arith)
+    (record { kinds = omega (arith, r .kinds); bases = omega (arith, r .bases); rows = omega (arith, r .rows) }, omega arith, (c .before .before .before .before .before .read-slots) .ensures .stop)
 
--- src/lib.rt:323:9
+-- src/lib.rt:387:9
 no-entry-requires-2 : tie.Need-no-entry-requires-2
 no-entry-requires-2 c κs = search needs
 
--- src/lib.rt:323:9
+-- src/lib.rt:387:9
 same-length : tie.Need-same-length
 same-length c = search needs
 
--- src/lib.rt:323:9
+-- src/lib.rt:387:9
 same-length-2 : tie.Need-same-length-2
 same-length-2 c = search needs
 
--- src/lib.rt:323:9
+-- src/lib.rt:387:9
 same-length-3 : tie.Need-same-length-3
 same-length-3 c = search needs
 
--- src/lib.rt:323:9
+-- src/lib.rt:387:9
 returns-2 : tie.Need-returns-2
-returns-2 c =
-    let a = (c .before .before .before .before .before .before .before .before .before .before .before .before .before .before .before .before .before .before .before .before .before .args) in
-    let l = (c .before .before .before .before .before .before .before .before .before .read-operands) .last in
-    plain-no-operands (a .code) (a .rest .now) (a .at) (a .v) ((c .before .before .before .before .before .before .before .before .before .before .before .before .before .before .before .before .before .before .before .before .before .pre) .0) ((c .before .before .before .before .before .before .before .before .before .before .before .before .before .before .before .before .before .before .before .before .before .pre) .1) ((c .before .before .before .before .before .before .before .before .before .before .before .before .before .before .before .before .before .before .before .before .before .pre) .2) (operandTable (a .operands .now) (a .numbers .now) (a .args .now)) ((c .before .before .before .before .before .before .before .before .before .before .before .before .before .before .before .read-slots) .result) ((c .before .before .before .before .before .before .before .before .before .before .before .before .before .before .before .read-slots) .ensures ∙ form-slots (a .code) ((c .before .before .before .before .before .before .before .before .before .before .before .before .before .before .before .before .form-at) .result) (fieldsFrom (a .rest .now) (a .at)) ((c .before .before .before .before .before .before .before .before .before .before .before .before .before .before .before .before .form-at) .ensures)) (not-false ((c .before .before .before .before .before .before .before .before .before .before .before .before .before .before .before .read-slots) .result .ok) ((c .before .before .before .before .before .before .before .before .before .before .before .before .before .if1) .left)) ((c .before .before .before .before .before .before .before .before .before .before .before .before .before .before .before .before .form-at) .result .most) (form-most (a .code) ((c .before .before .before .before .before .before .before .before .before .before .before .before .before .before .before .before .form-at) .result) ((c .before .before .before .before .before .before .before .before .before .before .before .before .before .before .before .before .form-at) .ensures)) (operandTable (l .1 .1 .1 .0) (l .1 .1 .1 .1 .0) (l .1 .1 .1 .1 .1 .0)) ((c .before .before .before .before .before .before .before .before .before .read-operands) .result) ((c .before .before .before .before .before .before .before .before .before .read-operands) .ensures) ((c .no-entry2) .result) ((c .no-entry2) .ensures) (not-true ((c .before .before .before .before .before .before .before .before .before .read-operands) .result .ok) ((c .before .if2) .taken))
+returns-2 c = (plain-no-operands ((c .before .before .before .before .before .before .before .before .before .before .before .before .before .before .before .before .before .before .before .before .before .args) .code) (lineIn (((c .before .before .before .before .before .before .before .before .before .before .before .before .before .before .before .before .before .before .before .before .before .args) .rest) .now)) (((c .before .before .before .before .before .before .before .before .before .before .before .before .before .before .before .before .before .before .before .before .before .args) .at) + 1) ((c .before .before .before .before .before .before .before .before .before .before .before .before .before .before .before .before .before .before .before .before .before .args) .v) ((c .before .before .before .before .before .before .before .before .before .before .before .before .before .before .before .before .before .before .before .before .before .pre) .0) ((c .before .before .before .before .before .before .before .before .before .before .before .before .before .before .before .before .before .before .before .before .before .pre) .1) ((c .before .before .before .before .before .before .before .before .before .before .before .before .before .before .before .before .before .before .before .before .before .pre) .2) (operandTable (((c .before .before .before .before .before .before .before .before .before .before .before .before .before .before .before .before .before .before .before .before .before .args) .operands) .now) (((c .before .before .before .before .before .before .before .before .before .before .before .before .before .before .before .before .before .before .before .before .before .args) .numbers) .now) (((c .before .before .before .before .before .before .before .before .before .before .before .before .before .before .before .before .before .before .before .before .before .args) .args) .now)) ((c .before .before .before .before .before .before .before .before .before .before .before .before .before .before .before .read-slots) .result) ((c .before .before .before .before .before .before .before .before .before .before .before .before .before .before .before .read-slots) .ensures .says ∙ form-slots ((c .before .before .before .before .before .before .before .before .before .before .before .before .before .before .before .before .before .before .before .before .before .args) .code) ((c .before .before .before .before .before .before .before .before .before .before .before .before .before .before .before .before .form-at) .result) (fieldsFrom (lineIn (((c .before .before .before .before .before .before .before .before .before .before .before .before .before .before .before .before .before .before .before .before .before .args) .rest) .now)) (((c .before .before .before .before .before .before .before .before .before .before .before .before .before .before .before .before .before .before .before .before .before .args) .at) + 1)) ((c .before .before .before .before .before .before .before .before .before .before .before .before .before .before .before .before .form-at) .ensures)) (not-false ((c .before .before .before .before .before .before .before .before .before .before .before .before .before .before .before .read-slots) .result .ok) ((c .before .before .before .before .before .before .before .before .before .before .before .before .before .if1) .left)) ((c .before .before .before .before .before .before .before .before .before .before .before .before .before .before .before .before .form-at) .result .most) (form-most ((c .before .before .before .before .before .before .before .before .before .before .before .before .before .before .before .before .before .before .before .before .before .args) .code) ((c .before .before .before .before .before .before .before .before .before .before .before .before .before .before .before .before .form-at) .result) ((c .before .before .before .before .before .before .before .before .before .before .before .before .before .before .before .before .form-at) .ensures)) (operandTable ((c .before .before .before .before .before .before .before .before .before .read-operands) .last .1 .1 .1 .0) ((c .before .before .before .before .before .before .before .before .before .read-operands) .last .1 .1 .1 .1 .0) ((c .before .before .before .before .before .before .before .before .before .read-operands) .last .1 .1 .1 .1 .1 .0)) ((c .before .before .before .before .before .before .before .before .before .read-operands) .result) ((c .before .before .before .before .before .before .before .before .before .read-operands) .ensures .0) ((c .no-entry2) .result) ((c .no-entry2) .ensures) (not-true ((c .before .before .before .before .before .before .before .before .before .read-operands) .result .ok) ((c .before .if2) .taken)), entry-end (((c .before .before .before .before .before .before .before .before .before .before .before .before .before .before .before .before .before .before .before .before .before .args) .rest) .now) ((c .no-entry2) .result) ((c .no-entry2) .ensures))
 
--- src/lib.rt:325:18
+-- src/lib.rt:389:18
 fewest-requires : tie.Need-fewest-requires
 fewest-requires c κs = search needs
 
--- src/lib.rt:326:9
+-- src/lib.rt:390:9
 no-entry-requires-3 : tie.Need-no-entry-requires-3
 no-entry-requires-3 c κs = search needs
 
--- src/lib.rt:326:9
+-- src/lib.rt:390:9
 same-length-4 : tie.Need-same-length-4
 same-length-4 c = search needs
 
--- src/lib.rt:326:9
+-- src/lib.rt:390:9
 same-length-5 : tie.Need-same-length-5
 same-length-5 c = search needs
 
--- src/lib.rt:326:9
+-- src/lib.rt:390:9
 same-length-6 : tie.Need-same-length-6
 same-length-6 c = search needs
 
--- src/lib.rt:326:9
+-- src/lib.rt:390:9
 returns-3 : tie.Need-returns-3
-returns-3 c =
-    let a = (c .before .before .before .before .before .before .before .before .before .before .before .before .before .before .before .before .before .before .before .before .before .before .before .before .args) in
-    let l = (c .before .before .before .before .before .before .before .before .before .before .before .before .read-operands) .last in
-    plain-too-few (a .code) (a .rest .now) (a .at) (a .v) ((c .before .before .before .before .before .before .before .before .before .before .before .before .before .before .before .before .before .before .before .before .before .before .before .before .pre) .0) ((c .before .before .before .before .before .before .before .before .before .before .before .before .before .before .before .before .before .before .before .before .before .before .before .before .pre) .1) ((c .before .before .before .before .before .before .before .before .before .before .before .before .before .before .before .before .before .before .before .before .before .before .before .before .pre) .2) (operandTable (a .operands .now) (a .numbers .now) (a .args .now)) ((c .before .before .before .before .before .before .before .before .before .before .before .before .before .before .before .before .before .before .read-slots) .result) ((c .before .before .before .before .before .before .before .before .before .before .before .before .before .before .before .before .before .before .read-slots) .ensures ∙ form-slots (a .code) ((c .before .before .before .before .before .before .before .before .before .before .before .before .before .before .before .before .before .before .before .form-at) .result) (fieldsFrom (a .rest .now) (a .at)) ((c .before .before .before .before .before .before .before .before .before .before .before .before .before .before .before .before .before .before .before .form-at) .ensures)) (not-false ((c .before .before .before .before .before .before .before .before .before .before .before .before .before .before .before .before .before .before .read-slots) .result .ok) ((c .before .before .before .before .before .before .before .before .before .before .before .before .before .before .before .before .if1) .left)) ((c .before .before .before .before .before .before .before .before .before .before .before .before .before .before .before .before .before .before .before .form-at) .result .most) (form-most (a .code) ((c .before .before .before .before .before .before .before .before .before .before .before .before .before .before .before .before .before .before .before .form-at) .result) ((c .before .before .before .before .before .before .before .before .before .before .before .before .before .before .before .before .before .before .before .form-at) .ensures)) (operandTable (l .1 .1 .1 .0) (l .1 .1 .1 .1 .0) (l .1 .1 .1 .1 .1 .0)) ((c .before .before .before .before .before .before .before .before .before .before .before .before .read-operands) .result) ((c .before .before .before .before .before .before .before .before .before .before .before .before .read-operands) .ensures) (not-false ((c .before .before .before .before .before .before .before .before .before .before .before .before .read-operands) .result .ok) ((c .before .before .before .before .if2) .left)) ((c .no-entry3) .result) ((c .no-entry3) .ensures) ((c .before .before .before .fewest) .result) ((c .before .before .before .fewest) .ensures) ((c .before .if3) .taken)
+returns-3 c = (plain-too-few ((c .before .before .before .before .before .before .before .before .before .before .before .before .before .before .before .before .before .before .before .before .before .before .before .before .args) .code) (lineIn (((c .before .before .before .before .before .before .before .before .before .before .before .before .before .before .before .before .before .before .before .before .before .before .before .before .args) .rest) .now)) (((c .before .before .before .before .before .before .before .before .before .before .before .before .before .before .before .before .before .before .before .before .before .before .before .before .args) .at) + 1) ((c .before .before .before .before .before .before .before .before .before .before .before .before .before .before .before .before .before .before .before .before .before .before .before .before .args) .v) ((c .before .before .before .before .before .before .before .before .before .before .before .before .before .before .before .before .before .before .before .before .before .before .before .before .pre) .0) ((c .before .before .before .before .before .before .before .before .before .before .before .before .before .before .before .before .before .before .before .before .before .before .before .before .pre) .1) ((c .before .before .before .before .before .before .before .before .before .before .before .before .before .before .before .before .before .before .before .before .before .before .before .before .pre) .2) (operandTable (((c .before .before .before .before .before .before .before .before .before .before .before .before .before .before .before .before .before .before .before .before .before .before .before .before .args) .operands) .now) (((c .before .before .before .before .before .before .before .before .before .before .before .before .before .before .before .before .before .before .before .before .before .before .before .before .args) .numbers) .now) (((c .before .before .before .before .before .before .before .before .before .before .before .before .before .before .before .before .before .before .before .before .before .before .before .before .args) .args) .now)) ((c .before .before .before .before .before .before .before .before .before .before .before .before .before .before .before .before .before .before .read-slots) .result) ((c .before .before .before .before .before .before .before .before .before .before .before .before .before .before .before .before .before .before .read-slots) .ensures .says ∙ form-slots ((c .before .before .before .before .before .before .before .before .before .before .before .before .before .before .before .before .before .before .before .before .before .before .before .before .args) .code) ((c .before .before .before .before .before .before .before .before .before .before .before .before .before .before .before .before .before .before .before .form-at) .result) (fieldsFrom (lineIn (((c .before .before .before .before .before .before .before .before .before .before .before .before .before .before .before .before .before .before .before .before .before .before .before .before .args) .rest) .now)) (((c .before .before .before .before .before .before .before .before .before .before .before .before .before .before .before .before .before .before .before .before .before .before .before .before .args) .at) + 1)) ((c .before .before .before .before .before .before .before .before .before .before .before .before .before .before .before .before .before .before .before .form-at) .ensures)) (not-false ((c .before .before .before .before .before .before .before .before .before .before .before .before .before .before .before .before .before .before .read-slots) .result .ok) ((c .before .before .before .before .before .before .before .before .before .before .before .before .before .before .before .before .if1) .left)) ((c .before .before .before .before .before .before .before .before .before .before .before .before .before .before .before .before .before .before .before .form-at) .result .most) (form-most ((c .before .before .before .before .before .before .before .before .before .before .before .before .before .before .before .before .before .before .before .before .before .before .before .before .args) .code) ((c .before .before .before .before .before .before .before .before .before .before .before .before .before .before .before .before .before .before .before .form-at) .result) ((c .before .before .before .before .before .before .before .before .before .before .before .before .before .before .before .before .before .before .before .form-at) .ensures)) (operandTable ((c .before .before .before .before .before .before .before .before .before .before .before .before .read-operands) .last .1 .1 .1 .0) ((c .before .before .before .before .before .before .before .before .before .before .before .before .read-operands) .last .1 .1 .1 .1 .0) ((c .before .before .before .before .before .before .before .before .before .before .before .before .read-operands) .last .1 .1 .1 .1 .1 .0)) ((c .before .before .before .before .before .before .before .before .before .before .before .before .read-operands) .result) ((c .before .before .before .before .before .before .before .before .before .before .before .before .read-operands) .ensures .0) (not-false ((c .before .before .before .before .before .before .before .before .before .before .before .before .read-operands) .result .ok) ((c .before .before .before .before .if2) .left)) ((c .no-entry3) .result) ((c .no-entry3) .ensures) ((c .before .before .before .fewest) .result) ((c .before .before .before .fewest) .ensures) ((c .before .if3) .taken), entry-end (((c .before .before .before .before .before .before .before .before .before .before .before .before .before .before .before .before .before .before .before .before .before .before .before .before .args) .rest) .now) ((c .no-entry3) .result) ((c .no-entry3) .ensures))
 
--- src/lib.rt:303:1
+-- src/lib.rt:367:1
 same-length-7 : tie.Need-same-length-7
 same-length-7 c = search needs
 
--- src/lib.rt:303:1
+-- src/lib.rt:367:1
 same-length-8 : tie.Need-same-length-8
 same-length-8 c = search needs
 
--- src/lib.rt:303:1
+-- src/lib.rt:367:1
 same-length-9 : tie.Need-same-length-9
 same-length-9 c = search needs
 
--- src/lib.rt:303:1
+-- src/lib.rt:367:1
 returns-4 : tie.Need-returns-4
-returns-4 c =
-    let a = (c .before .before .before .before .before .before .before .before .before .before .before .before .before .before .before .before .before .before .before .before .before .before .before .args) in
-    let l = (c .before .before .before .before .before .before .before .before .before .before .before .read-operands) .last in
-    plain-is (a .code) (a .rest .now) (a .at) (a .v) ((c .before .before .before .before .before .before .before .before .before .before .before .before .before .before .before .before .before .before .before .before .before .before .before .pre) .0) ((c .before .before .before .before .before .before .before .before .before .before .before .before .before .before .before .before .before .before .before .before .before .before .before .pre) .1) ((c .before .before .before .before .before .before .before .before .before .before .before .before .before .before .before .before .before .before .before .before .before .before .before .pre) .2) (operandTable (a .operands .now) (a .numbers .now) (a .args .now)) ((c .before .before .before .before .before .before .before .before .before .before .before .before .before .before .before .before .before .read-slots) .result) ((c .before .before .before .before .before .before .before .before .before .before .before .before .before .before .before .before .before .read-slots) .ensures ∙ form-slots (a .code) ((c .before .before .before .before .before .before .before .before .before .before .before .before .before .before .before .before .before .before .form-at) .result) (fieldsFrom (a .rest .now) (a .at)) ((c .before .before .before .before .before .before .before .before .before .before .before .before .before .before .before .before .before .before .form-at) .ensures)) (not-false ((c .before .before .before .before .before .before .before .before .before .before .before .before .before .before .before .before .before .read-slots) .result .ok) ((c .before .before .before .before .before .before .before .before .before .before .before .before .before .before .before .if1) .left)) ((c .before .before .before .before .before .before .before .before .before .before .before .before .before .before .before .before .before .before .form-at) .result .most) (form-most (a .code) ((c .before .before .before .before .before .before .before .before .before .before .before .before .before .before .before .before .before .before .form-at) .result) ((c .before .before .before .before .before .before .before .before .before .before .before .before .before .before .before .before .before .before .form-at) .ensures)) (operandTable (l .1 .1 .1 .0) (l .1 .1 .1 .1 .0) (l .1 .1 .1 .1 .1 .0)) ((c .before .before .before .before .before .before .before .before .before .before .before .read-operands) .result) ((c .before .before .before .before .before .before .before .before .before .before .before .read-operands) .ensures) (not-false ((c .before .before .before .before .before .before .before .before .before .before .before .read-operands) .result .ok) ((c .before .before .before .if2) .left)) ((c .before .before .fewest) .result) ((c .before .before .fewest) .ensures) ((c .if3) .left)
+returns-4 c = (plain-is ((c .before .before .before .before .before .before .before .before .before .before .before .before .before .before .before .before .before .before .before .before .before .before .before .args) .code) (lineIn (((c .before .before .before .before .before .before .before .before .before .before .before .before .before .before .before .before .before .before .before .before .before .before .before .args) .rest) .now)) (((c .before .before .before .before .before .before .before .before .before .before .before .before .before .before .before .before .before .before .before .before .before .before .before .args) .at) + 1) ((c .before .before .before .before .before .before .before .before .before .before .before .before .before .before .before .before .before .before .before .before .before .before .before .args) .v) ((c .before .before .before .before .before .before .before .before .before .before .before .before .before .before .before .before .before .before .before .before .before .before .before .pre) .0) ((c .before .before .before .before .before .before .before .before .before .before .before .before .before .before .before .before .before .before .before .before .before .before .before .pre) .1) ((c .before .before .before .before .before .before .before .before .before .before .before .before .before .before .before .before .before .before .before .before .before .before .before .pre) .2) (operandTable (((c .before .before .before .before .before .before .before .before .before .before .before .before .before .before .before .before .before .before .before .before .before .before .before .args) .operands) .now) (((c .before .before .before .before .before .before .before .before .before .before .before .before .before .before .before .before .before .before .before .before .before .before .before .args) .numbers) .now) (((c .before .before .before .before .before .before .before .before .before .before .before .before .before .before .before .before .before .before .before .before .before .before .before .args) .args) .now)) ((c .before .before .before .before .before .before .before .before .before .before .before .before .before .before .before .before .before .read-slots) .result) ((c .before .before .before .before .before .before .before .before .before .before .before .before .before .before .before .before .before .read-slots) .ensures .says ∙ form-slots ((c .before .before .before .before .before .before .before .before .before .before .before .before .before .before .before .before .before .before .before .before .before .before .before .args) .code) ((c .before .before .before .before .before .before .before .before .before .before .before .before .before .before .before .before .before .before .form-at) .result) (fieldsFrom (lineIn (((c .before .before .before .before .before .before .before .before .before .before .before .before .before .before .before .before .before .before .before .before .before .before .before .args) .rest) .now)) (((c .before .before .before .before .before .before .before .before .before .before .before .before .before .before .before .before .before .before .before .before .before .before .before .args) .at) + 1)) ((c .before .before .before .before .before .before .before .before .before .before .before .before .before .before .before .before .before .before .form-at) .ensures)) (not-false ((c .before .before .before .before .before .before .before .before .before .before .before .before .before .before .before .before .before .read-slots) .result .ok) ((c .before .before .before .before .before .before .before .before .before .before .before .before .before .before .before .if1) .left)) ((c .before .before .before .before .before .before .before .before .before .before .before .before .before .before .before .before .before .before .form-at) .result .most) (form-most ((c .before .before .before .before .before .before .before .before .before .before .before .before .before .before .before .before .before .before .before .before .before .before .before .args) .code) ((c .before .before .before .before .before .before .before .before .before .before .before .before .before .before .before .before .before .before .form-at) .result) ((c .before .before .before .before .before .before .before .before .before .before .before .before .before .before .before .before .before .before .form-at) .ensures)) (operandTable ((c .before .before .before .before .before .before .before .before .before .before .before .read-operands) .last .1 .1 .1 .0) ((c .before .before .before .before .before .before .before .before .before .before .before .read-operands) .last .1 .1 .1 .1 .0) ((c .before .before .before .before .before .before .before .before .before .before .before .read-operands) .last .1 .1 .1 .1 .1 .0)) ((c .before .before .before .before .before .before .before .before .before .before .before .read-operands) .result) ((c .before .before .before .before .before .before .before .before .before .before .before .read-operands) .ensures .0) (not-false ((c .before .before .before .before .before .before .before .before .before .before .before .read-operands) .result .ok) ((c .before .before .before .if2) .left)) ((c .before .before .fewest) .result) ((c .before .before .fewest) .ensures) ((c .if3) .left), λ q. (c .before .before .before .before .before .before .before .before .before .before .before .read-operands) .ensures .1 (not-false ((c .before .before .before .before .before .before .before .before .before .before .before .read-operands) .result .ok) ((c .before .before .before .if2) .left)))
 
 pub read-plain-spec : {M : Type 1} → statement M
 read-plain-spec =

@@ -1,7 +1,8 @@
 use mathlib.Core.Path.{refl}
 use mathlib.Core.List.{[], _∷_}
+use Prim.Native.Nat.{_+_}
+use Rattle.lines.specs.Parts.{lineIn}
 use Rattle.decode_line.proofs.FieldLaws.{slots-are}
-use borrow.Author.Needs.{needs}
 use borrow.Author.Needs.{needs}
 use Rattle.decode_line.proofs.read_slots.Statement.{statement}
 use Rattle.decode_line.proofs.read_slots.Tie as tie
@@ -10,40 +11,39 @@ use Rattle.decode_line.proofs.read_slots.Lts as lts
 use Rattle.decode_line.proofs.both.Reads as both-reads
 use Rattle.decode_line.proofs.read_slot.Reads as read-slot-reads
 
--- src/lib.rt:189:9
+-- src/lib.rt:213:9
 read-slot-requires : tie.Need-read-slot-requires
-read-slot-requires c κs = search needs
+read-slot-requires c κs = (c .before .pre)
 
--- src/lib.rt:190:9
+-- src/lib.rt:214:9
 read-slot-requires-2 : tie.Need-read-slot-requires-2
-read-slot-requires-2 c κs = search needs
+read-slot-requires-2 c κs = (c .read-slot) .ensures .stop
 
--- src/lib.rt:191:9
+-- src/lib.rt:215:9
 read-slot-requires-3 : tie.Need-read-slot-requires-3
-read-slot-requires-3 c κs = search needs
+read-slot-requires-3 c κs = (c .read-slot2) .ensures .stop
 
--- src/lib.rt:192:9
+-- src/lib.rt:216:9
 read-slot-requires-4 : tie.Need-read-slot-requires-4
-read-slot-requires-4 c κs = search needs
+read-slot-requires-4 c κs = (c .read-slot3) .ensures .stop
 
--- src/lib.rt:194:18
+-- src/lib.rt:218:18
 both-requires : tie.Need-both-requires
 both-requires c κs = search needs
 
--- src/lib.rt:194:36
+-- src/lib.rt:218:36
 both-requires-2 : tie.Need-both-requires-2
 both-requires-2 c κs = search needs
 
--- src/lib.rt:194:13
+-- src/lib.rt:218:13
 both-requires-3 : tie.Need-both-requires-3
 both-requires-3 c κs = search needs
 
--- src/lib.rt:186:1
+-- src/lib.rt:209:1
 returns : tie.Need-returns
 returns c =
-    let a = (c .before .before .before .before .before .before .before .before .args) in
-    let f = a .f in
-    slots-are (a .rest .now) (a .at) (f .a ∷ f .b ∷ f .c ∷ f .d ∷ []) (f .a) (f .b) (f .c) (f .d) ((c .before .before .before .before .before .before .read-slot) .result) ((c .before .before .before .before .before .read-slot2) .result) ((c .before .before .before .before .read-slot3) .result) ((c .before .before .before .read-slot4) .result) ((c .before .before .both) .result) ((c .before .both2) .result) ((c .both3) .result) refl ((c .before .before .before .before .before .before .read-slot) .ensures) ((c .before .before .before .before .before .read-slot2) .ensures) ((c .before .before .before .before .read-slot3) .ensures) ((c .before .before .before .read-slot4) .ensures) ((c .before .before .both) .ensures) ((c .before .both2) .ensures) ((c .both3) .ensures)
+    let f = ((c .before .before .before .before .before .before .before .before .args) .f) in
+    record { says = slots-are (lineIn (((c .before .before .before .before .before .before .before .before .args) .rest) .now)) (((c .before .before .before .before .before .before .before .before .args) .at) + 1) (f .a ∷ f .b ∷ f .c ∷ f .d ∷ []) (f .a) (f .b) (f .c) (f .d) ((c .before .before .before .before .before .before .read-slot) .result) ((c .before .before .before .before .before .read-slot2) .result) ((c .before .before .before .before .read-slot3) .result) ((c .before .before .before .read-slot4) .result) ((c .before .before .both) .result) ((c .before .both2) .result) ((c .both3) .result) refl ((c .before .before .before .before .before .before .read-slot) .ensures .says) ((c .before .before .before .before .before .read-slot2) .ensures .says) ((c .before .before .before .before .read-slot3) .ensures .says) ((c .before .before .before .read-slot4) .ensures .says) ((c .before .before .both) .ensures) ((c .before .both2) .ensures) ((c .both3) .ensures); stop = (c .before .before .before .read-slot4) .ensures .stop }
 
 pub read-slots-spec : {M : Type 1} → statement M
 read-slots-spec =

@@ -1,6 +1,12 @@
-use borrow.Author.Tests.{not-true, not-false}
+use mathlib.Core.Path.{_≡_, refl, ap, sym, _∙_}
+use Prim.Native.Nat.{_+_, _-_, _*_}
 use native.Mathlib.Omega.{arith}
+use borrow.Author.Tests.{not-true, not-false}
+use lib.ListN.{length, take, drop}
+use Rattle.lines.specs.Parts.{lineIn, fieldIn, StopAt}
+use Rattle.lines.proofs.InLine.{place-read, stop-on, stop-last, stop-behind, field-read}
 use Rattle.decode_line.proofs.LineLaws.{tuple-bad, tuple-is}
+use Rattle.decode_line.proofs.StopLaws.{entry-end}
 use borrow.Author.Needs.{needs}
 use Rattle.decode_line.proofs.read_tuple.Statement.{statement}
 use Rattle.decode_line.proofs.read_tuple.Tie as tie
@@ -9,37 +15,35 @@ use Rattle.decode_line.proofs.read_tuple.Lts as lts
 use Rattle.decode_line.proofs.no_entry.Reads as no-entry-reads
 use Rattle.decode_line.proofs.read_parts.Reads as read-parts-reads
 
--- src/lib.rt:317:9
+-- src/lib.rt:408:9
 read-parts-requires : tie.Need-read-parts-requires
-read-parts-requires c κs = search needs
+read-parts-requires c κs = (omega (arith, (c .before .before .before .pre) .0), omega arith, (c .before .before .before .pre) .2)
 
--- src/lib.rt:319:9
+-- src/lib.rt:410:9
 no-entry-requires : tie.Need-no-entry-requires
 no-entry-requires c κs = search needs
 
--- src/lib.rt:319:9
+-- src/lib.rt:410:9
 same-length : tie.Need-same-length
 same-length c = search needs
 
--- src/lib.rt:319:9
+-- src/lib.rt:410:9
 returns : tie.Need-returns
-returns c =
-    let a = (c .before .before .before .before .before .before .before .before .before .args) in
-    tuple-bad (a .rest .now) (a .at) (a .p) (a .parts .now) ((c .before .before .before .before .before .read-parts) .last .1 .1 .1 .1 .0) ((c .before .before .before .before .before .read-parts) .result) ((c .before .before .before .before .before .read-parts) .ensures) ((c .no-entry) .result) ((c .no-entry) .ensures) (not-true ((c .before .before .before .before .before .read-parts) .result .ok) ((c .before .if1) .taken))
+returns c = (tuple-bad (lineIn (((c .before .before .before .before .before .before .before .before .before .args) .rest) .now)) (((c .before .before .before .before .before .before .before .before .before .args) .at) + 1) ((c .before .before .before .before .before .before .before .before .before .args) .p) (((c .before .before .before .before .before .before .before .before .before .args) .parts) .now) ((c .before .before .before .before .before .read-parts) .last .1 .1 .1 .1 .0) ((c .before .before .before .before .before .read-parts) .result) ((c .before .before .before .before .before .read-parts) .ensures .0) ((c .no-entry) .result) ((c .no-entry) .ensures) (not-true ((c .before .before .before .before .before .read-parts) .result .ok) ((c .before .if1) .taken)), entry-end (((c .before .before .before .before .before .before .before .before .before .args) .rest) .now) ((c .no-entry) .result) ((c .no-entry) .ensures))
 
--- src/lib.rt:323:12
+-- src/lib.rt:414:12
 cast-t9 : tie.Need-cast-t9
 cast-t9 c = search needs
 
--- src/lib.rt:313:1
+-- src/lib.rt:404:1
 same-length-2 : tie.Need-same-length-2
 same-length-2 c = search needs
 
--- src/lib.rt:313:1
+-- src/lib.rt:404:1
 returns-2 : tie.Need-returns-2
 returns-2 c =
-    let a = (c .before .before .before .before .before .before .before .before .args) in
-    tuple-is (a .rest .now) (a .at) (a .p) (a .parts .now) ((c .before .before .before .before .read-parts) .last .1 .1 .1 .1 .0) ((c .before .before .before .before .read-parts) .result) ((c .before .before .before .before .read-parts) .ensures) (not-false ((c .before .before .before .before .read-parts) .result .ok) ((c .if1) .left))
+    let t = not-false ((c .before .before .before .before .read-parts) .result .ok) ((c .if1) .left) in
+    (tuple-is (lineIn (((c .before .before .before .before .before .before .before .before .args) .rest) .now)) (((c .before .before .before .before .before .before .before .before .args) .at) + 1) ((c .before .before .before .before .before .before .before .before .args) .p) (((c .before .before .before .before .before .before .before .before .args) .parts) .now) ((c .before .before .before .before .read-parts) .last .1 .1 .1 .1 .0) ((c .before .before .before .before .read-parts) .result) ((c .before .before .before .before .read-parts) .ensures .0) t, λ q. (c .before .before .before .before .read-parts) .ensures .1 t)
 
 pub read-tuple-spec : {M : Type 1} → statement M
 read-tuple-spec =

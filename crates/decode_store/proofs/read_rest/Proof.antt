@@ -1,83 +1,70 @@
-use Prim.Native.Nat.{_+_, _*_, _-_}
 use mathlib.Core.Path.{refl}
+use Prim.Native.Nat.{_+_, _*_, _-_}
+use native.Mathlib.Omega.{arith}
+use Rattle.lines.proofs.InLine.{place-read}
 use Rattle.decode_line.specs.Answers.{operandTable}
-use Rattle.decode_store.proofs.PutLaws.{form-as, fields-behind, fields-none}
+use Rattle.decode_store.proofs.PutLaws.{form-as, rest-stop, rest-fields, rest-end}
 use borrow.Author.Needs.{needs}
 use Rattle.decode_store.proofs.read_rest.Statement.{statement}
 use Rattle.decode_store.proofs.read_rest.Tie as tie
+use Rattle.decode_store.proofs.read_rest.Reads as reads
+use Rattle.decode_store.proofs.read_rest.Lts as lts
+use Rattle.decode_line.proofs.read_form.Reads as read-form-reads
 
+-- src/lib.rt:113:13
 mul-p : tie.Need-mul-p
 mul-p c = search needs
 
-add-b : tie.Need-add-b
-add-b c = search needs
-
+-- src/lib.rt:115:28
 sub-read-form : tie.Need-sub-read-form
-sub-read-form c = search needs
+sub-read-form c =
+    let h = place-read (((c .before .before .before .before .before .before .args) .text) .now) ((c .before .before .before .before .before .before .args) .f) ((c .before .before .before .before .before .before .pre) .1 .place) in
+    omega arith
 
+-- src/lib.rt:115:28
 part-read-form-start : tie.Need-part-read-form-start
-part-read-form-start c = search needs
+part-read-form-start c =
+    let h = place-read (((c .before .before .before .before .before .before .args) .text) .now) ((c .before .before .before .before .before .before .args) .f) ((c .before .before .before .before .before .before .pre) .1 .place) in
+    omega arith
 
+-- src/lib.rt:115:28
 part-read-form-end : tie.Need-part-read-form-end
 part-read-form-end c = search needs
 
+-- src/lib.rt:115:5
 read-form-requires : tie.Need-read-form-requires
-read-form-requires c κs = search needs
+read-form-requires c κs =
+    let u = (c .before .before .before .before .before .before .before .before .before .before .before .pre) .4 in
+    let r = (c .before .before .before .before .before .before .before .before .before .before .before .pre) .3 in
+    ((c .before .before .before .before .before .before .before .before .before .before .before .pre) .0, omega (arith, (c .before .before .before .before .before .before .before .before .before .before .before .pre) .2, u .rows), omega (arith, u .rows), record { kinds = omega (arith, r .kinds, u .operands, u .instrs); bases = omega (arith, r .bases, u .operands, u .instrs); rows = omega (arith, r .rows, u .operands, u .instrs) }, rest-stop (((c .before .before .before .before .before .before .before .before .before .before .before .args) .text) .now) ((c .before .before .before .before .before .before .before .before .before .before .before .args) .f) ((c .before .before .before .before .before .before .before .before .before .before .before .pre) .1))
 
+-- src/lib.rt:100:1
 same-length : tie.Need-same-length
 same-length c = search needs
 
+-- src/lib.rt:100:1
 same-length-2 : tie.Need-same-length-2
 same-length-2 c = search needs
 
+-- src/lib.rt:100:1
 same-length-3 : tie.Need-same-length-3
 same-length-3 c = search needs
 
+-- src/lib.rt:100:1
 same-length-4 : tie.Need-same-length-4
 same-length-4 c = search needs
 
+-- src/lib.rt:100:1
 returns : tie.Need-returns
 returns c =
-    let a = (c .before .before .before .before .before .before .before .before .before .before .before .before .before .before .before .before .before .before .before .before .before .args) in
     let l = (c .before .before .before .before .before .before .before .before .read-form) .last in
-    form-as (a .code) (17 * a .u .rows) (a .u .operands) (a .parts .now) (l .1 .1 .1 .0) (operandTable (a .operands .now) (a .numbers .now) (a .args .now)) (operandTable (l .1 .1 .1 .1 .1 .0) (l .1 .1 .1 .1 .1 .1 .0) (l .1 .1 .1 .1 .1 .1 .1 .0)) ((c .before .before .before .before .before .before .before .before .read-form) .result) (fields-behind (a .line .now) (a .f) (a .f + 1) refl ((c .before .before .before .before .before .before .before .before .before .before .before .before .before .before .if1) .taken)) ((c .before .before .before .before .before .before .before .before .read-form) .ensures)
-
-sub-read-form-2 : tie.Need-sub-read-form-2
-sub-read-form-2 c = search needs
-
-part-read-form-start-2 : tie.Need-part-read-form-start-2
-part-read-form-start-2 c = search needs
-
-part-read-form-end-2 : tie.Need-part-read-form-end-2
-part-read-form-end-2 c = search needs
-
-read-form-requires-2 : tie.Need-read-form-requires-2
-read-form-requires-2 c κs = search needs
-
-same-length-5 : tie.Need-same-length-5
-same-length-5 c = search needs
-
-same-length-6 : tie.Need-same-length-6
-same-length-6 c = search needs
-
-same-length-7 : tie.Need-same-length-7
-same-length-7 c = search needs
-
-same-length-8 : tie.Need-same-length-8
-same-length-8 c = search needs
-
-returns-2 : tie.Need-returns-2
-returns-2 c =
-    let a = (c .before .before .before .before .before .before .before .before .before .before .before .before .before .before .before .before .before .before .before .before .before .args) in
-    let l = (c .before .before .before .before .before .before .before .before .read-form2) .last in
-    form-as (a .code) (17 * a .u .rows) (a .u .operands) (a .parts .now) (l .1 .1 .1 .0) (operandTable (a .operands .now) (a .numbers .now) (a .args .now)) (operandTable (l .1 .1 .1 .1 .1 .0) (l .1 .1 .1 .1 .1 .1 .0) (l .1 .1 .1 .1 .1 .1 .1 .0)) ((c .before .before .before .before .before .before .before .before .read-form2) .result) (fields-none (a .line .now) (a .f) ((c .before .before .before .before .before .before .before .before .before .before .before .before .before .before .if1) .left)) ((c .before .before .before .before .before .before .before .before .read-form2) .ensures)
+    (form-as ((c .before .before .before .before .before .before .before .before .before .before .before .before .before .before .before .before .before .before .before .before .args) .code) (17 * ((c .before .before .before .before .before .before .before .before .before .before .before .before .before .before .before .before .before .before .before .before .args) .u) .rows) (((c .before .before .before .before .before .before .before .before .before .before .before .before .before .before .before .before .before .before .before .before .args) .u) .operands) (((c .before .before .before .before .before .before .before .before .before .before .before .before .before .before .before .before .before .before .before .before .args) .parts) .now) (l .1 .1 .1 .0) (operandTable (((c .before .before .before .before .before .before .before .before .before .before .before .before .before .before .before .before .before .before .before .before .args) .operands) .now) (((c .before .before .before .before .before .before .before .before .before .before .before .before .before .before .before .before .before .before .before .before .args) .numbers) .now) (((c .before .before .before .before .before .before .before .before .before .before .before .before .before .before .before .before .before .before .before .before .args) .args) .now)) (operandTable (l .1 .1 .1 .1 .1 .0) (l .1 .1 .1 .1 .1 .1 .0) (l .1 .1 .1 .1 .1 .1 .1 .0)) ((c .before .before .before .before .before .before .before .before .read-form) .result) (rest-fields (((c .before .before .before .before .before .before .before .before .before .before .before .before .before .before .before .before .before .before .before .before .args) .text) .now) ((c .before .before .before .before .before .before .before .before .before .before .before .before .before .before .before .before .before .before .before .before .args) .f) ((c .before .before .before .before .before .before .before .before .before .before .before .before .before .before .before .before .before .before .before .before .pre) .1)) ((c .before .before .before .before .before .before .before .before .read-form) .ensures .0), rest-end (((c .before .before .before .before .before .before .before .before .before .before .before .before .before .before .before .before .before .before .before .before .args) .text) .now) ((c .before .before .before .before .before .before .before .before .before .before .before .before .before .before .before .before .before .before .before .before .args) .f) ((c .before .before .before .before .before .before .before .before .before .before .before .before .before .before .before .before .before .before .before .before .pre) .1) ((c .before .before .before .before .before .before .before .before .read-form) .result .ok) ((c .before .before .before .before .before .before .before .before .read-form) .result .next) ((c .before .before .before .before .before .before .before .before .read-form) .ensures .1))
 
 pub read-rest-spec : {M : Type 1} → statement M
 read-rest-spec =
     tie.close
     (tie.spec
     mul-p
-    add-b
     sub-read-form
     part-read-form-start
     part-read-form-end
@@ -86,13 +73,4 @@ read-rest-spec =
     same-length-2
     same-length-3
     same-length-4
-    returns
-    sub-read-form-2
-    part-read-form-start-2
-    part-read-form-end-2
-    read-form-requires-2
-    same-length-5
-    same-length-6
-    same-length-7
-    same-length-8
-    returns-2)
+    returns)

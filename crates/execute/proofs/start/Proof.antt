@@ -12,55 +12,61 @@ use Rattle.launch.proofs.refuse.Reads as refuse-reads
 use Rattle.launch.proofs.start_ready.Reads as start-ready-reads
 use Rattle.ready.proofs.make_ready.Reads as make-ready-reads
 
--- src/lib.rt:30:37
+-- src/lib.rt:31:37
 slice-aggregate-make-ready : tie.Need-slice-aggregate-make-ready
 slice-aggregate-make-ready c = search needs
 
--- src/lib.rt:30:52
+-- src/lib.rt:31:52
 slice-aggregate-make-ready-2 : tie.Need-slice-aggregate-make-ready-2
 slice-aggregate-make-ready-2 c = search needs
 
--- src/lib.rt:30:66
+-- src/lib.rt:31:66
 slice-aggregate-make-ready-3 : tie.Need-slice-aggregate-make-ready-3
 slice-aggregate-make-ready-3 c = search needs
 
--- src/lib.rt:30:79
+-- src/lib.rt:31:79
 slice-aggregate-make-ready-4 : tie.Need-slice-aggregate-make-ready-4
 slice-aggregate-make-ready-4 c = search needs
 
--- src/lib.rt:30:9
+-- src/lib.rt:31:9
 make-ready-requires : tie.Need-make-ready-requires
 make-ready-requires c κs = search needs
 
--- src/lib.rt:33:9
+-- src/lib.rt:34:9
 refuse-requires : tie.Need-refuse-requires
 refuse-requires c κs = search needs
 
--- src/lib.rt:33:9
+-- src/lib.rt:34:9
 returns : tie.Need-returns
 returns c =
     let d = (c .before .before .before .before .before .before .make-ready) .last .1 in
     ap (λ (o : Outcome). outcomeIs o (((c .before .before .before .before .before .before .before .before .before .before .before .before .before .before .before .before .before .before .before .args) .rk) .now) (((c .before .before .before .before .before .before .before .before .before .before .before .before .before .before .before .before .before .before .before .args) .rn) .now) (((c .before .before .before .before .before .before .before .before .before .before .before .before .before .before .before .before .before .before .before .args) .sk) .now) (((c .before .before .before .before .before .before .before .before .before .before .before .before .before .before .before .before .before .before .before .args) .sn) .now) (((c .before .before .before .before .before .before .before .before .before .before .before .before .before .before .before .before .before .before .before .args) .hk) .now) (((c .before .before .before .before .before .before .before .before .before .before .before .before .before .before .before .before .before .before .before .args) .hn) .now)) ((c .refuse) .ensures) ∙ sym (start-refused (((c .before .before .before .before .before .before .before .before .before .before .before .before .before .before .before .before .before .before .before .args) .text) .now) (d .1 .1 .0) (d .0) (d .1 .0) (d .1 .1 .1 .0) ((c .before .before .before .before .before .before .make-ready) .result) ((c .before .before .before .before .before .before .make-ready) .ensures) ((c .before .before .before .before .before .before .before .before .before .before .before .before .before .before .before .before .before .before .before .args) .budget) (stateOf (((c .before .before .before .before .before .before .before .before .before .before .before .before .before .before .before .before .before .before .before .args) .rk) .now) (((c .before .before .before .before .before .before .before .before .before .before .before .before .before .before .before .before .before .before .before .args) .rn) .now) (((c .before .before .before .before .before .before .before .before .before .before .before .before .before .before .before .before .before .before .before .args) .sk) .now) (((c .before .before .before .before .before .before .before .before .before .before .before .before .before .before .before .before .before .before .before .args) .sn) .now) (((c .before .before .before .before .before .before .before .before .before .before .before .before .before .before .before .before .before .before .before .args) .hk) .now) (((c .before .before .before .before .before .before .before .before .before .before .before .before .before .before .before .before .before .before .before .args) .hn) .now) ((c .before .before .before .before .before .before .before .before .before .before .before .before .before .before .before .before .before .before .before .args) .place)) (((c .before .before .before .before .before .before .before .before .before .before .before .before .before .before .before .before .before .before .before .args) .samples) .now) ((c .before .if1) .taken))
 
--- src/lib.rt:38:9
+-- src/lib.rt:39:9
 slice-aggregate-start-ready : tie.Need-slice-aggregate-start-ready
 slice-aggregate-start-ready c = search needs
 
--- src/lib.rt:39:9
+-- src/lib.rt:40:9
 slice-aggregate-start-ready-2 : tie.Need-slice-aggregate-start-ready-2
 slice-aggregate-start-ready-2 c = search needs
 
--- src/lib.rt:40:9
+-- src/lib.rt:41:9
 slice-aggregate-start-ready-3 : tie.Need-slice-aggregate-start-ready-3
 slice-aggregate-start-ready-3 c = search needs
 
--- src/lib.rt:41:9
+-- src/lib.rt:42:9
 slice-aggregate-start-ready-4 : tie.Need-slice-aggregate-start-ready-4
 slice-aggregate-start-ready-4 c = search needs
 
--- src/lib.rt:35:5
+-- src/lib.rt:45:9
+slice-aggregate-start-ready-5 : tie.Need-slice-aggregate-start-ready-5
+slice-aggregate-start-ready-5 c = search needs
+
+-- src/lib.rt:36:5
 start-ready-requires : tie.Need-start-ready-requires
-start-ready-requires c κs = (c .before .before .before .before .before .before .before .before .before .before .before .before .before .before .before .make-ready) .ensures .startable ((c .before .before .before .before .before .before .before .before .before .before .if1) .left) .few
+start-ready-requires c κs =
+    let s = (c .before .before .before .before .before .before .before .before .before .before .before .before .before .before .before .before .make-ready) .ensures .startable ((c .before .before .before .before .before .before .before .before .before .before .before .if1) .left) in
+    (s .few, s .fit, search needs)
 
 -- src/lib.rt:12:1
 same-length : tie.Need-same-length
@@ -89,8 +95,8 @@ same-length-6 c = search needs
 -- src/lib.rt:12:1
 returns-2 : tie.Need-returns-2
 returns-2 c =
-    let d = (c .before .before .before .before .before .before .before .before .before .before .before .before .before .before .before .before .before .before .before .before .before .before .before .before .before .before .before .before .make-ready) .last .1 in
-    started (((c .before .before .before .before .before .before .before .before .before .before .before .before .before .before .before .before .before .before .before .before .before .before .before .before .before .before .before .before .before .before .before .before .before .before .before .before .before .before .before .before .before .args) .text) .now) (d .1 .1 .0) (d .0) (d .1 .0) (d .1 .1 .1 .0) ((c .before .before .before .before .before .before .before .before .before .before .before .before .before .before .before .before .before .before .before .before .before .before .before .before .before .before .before .before .make-ready) .result) ((c .before .before .before .before .before .before .before .before .before .before .before .before .before .before .before .before .before .before .before .before .before .before .before .before .before .before .before .before .make-ready) .ensures) ((c .before .before .before .before .before .before .before .before .before .before .before .before .before .before .before .before .before .before .before .before .before .before .before .before .before .before .before .before .before .before .before .before .before .before .before .before .before .before .before .before .before .args) .budget) (stateOf (((c .before .before .before .before .before .before .before .before .before .before .before .before .before .before .before .before .before .before .before .before .before .before .before .before .before .before .before .before .before .before .before .before .before .before .before .before .before .before .before .before .before .args) .rk) .now) (((c .before .before .before .before .before .before .before .before .before .before .before .before .before .before .before .before .before .before .before .before .before .before .before .before .before .before .before .before .before .before .before .before .before .before .before .before .before .before .before .before .before .args) .rn) .now) (((c .before .before .before .before .before .before .before .before .before .before .before .before .before .before .before .before .before .before .before .before .before .before .before .before .before .before .before .before .before .before .before .before .before .before .before .before .before .before .before .before .before .args) .sk) .now) (((c .before .before .before .before .before .before .before .before .before .before .before .before .before .before .before .before .before .before .before .before .before .before .before .before .before .before .before .before .before .before .before .before .before .before .before .before .before .before .before .before .before .args) .sn) .now) (((c .before .before .before .before .before .before .before .before .before .before .before .before .before .before .before .before .before .before .before .before .before .before .before .before .before .before .before .before .before .before .before .before .before .before .before .before .before .before .before .before .before .args) .hk) .now) (((c .before .before .before .before .before .before .before .before .before .before .before .before .before .before .before .before .before .before .before .before .before .before .before .before .before .before .before .before .before .before .before .before .before .before .before .before .before .before .before .before .before .args) .hn) .now) ((c .before .before .before .before .before .before .before .before .before .before .before .before .before .before .before .before .before .before .before .before .before .before .before .before .before .before .before .before .before .before .before .before .before .before .before .before .before .before .before .before .before .args) .place)) (((c .before .before .before .before .before .before .before .before .before .before .before .before .before .before .before .before .before .before .before .before .before .before .before .before .before .before .before .before .before .before .before .before .before .before .before .before .before .before .before .before .before .args) .samples) .now) ((c .before .before .before .before .before .before .before .before .before .before .before .before .before .before .before .before .before .before .before .before .before .before .before .if1) .left) _ ((c .before .before .before .before .before .before .before .before .before .before .before .before .start-ready) .ensures)
+    let d = (c .before .before .before .before .before .before .before .before .before .before .before .before .before .before .before .before .before .before .before .before .before .before .before .before .before .before .before .before .before .before .make-ready) .last .1 in
+    started (((c .before .before .before .before .before .before .before .before .before .before .before .before .before .before .before .before .before .before .before .before .before .before .before .before .before .before .before .before .before .before .before .before .before .before .before .before .before .before .before .before .before .before .before .args) .text) .now) (d .1 .1 .0) (d .0) (d .1 .0) (d .1 .1 .1 .0) ((c .before .before .before .before .before .before .before .before .before .before .before .before .before .before .before .before .before .before .before .before .before .before .before .before .before .before .before .before .before .before .make-ready) .result) ((c .before .before .before .before .before .before .before .before .before .before .before .before .before .before .before .before .before .before .before .before .before .before .before .before .before .before .before .before .before .before .make-ready) .ensures) ((c .before .before .before .before .before .before .before .before .before .before .before .before .before .before .before .before .before .before .before .before .before .before .before .before .before .before .before .before .before .before .before .before .before .before .before .before .before .before .before .before .before .before .before .args) .budget) (stateOf (((c .before .before .before .before .before .before .before .before .before .before .before .before .before .before .before .before .before .before .before .before .before .before .before .before .before .before .before .before .before .before .before .before .before .before .before .before .before .before .before .before .before .before .before .args) .rk) .now) (((c .before .before .before .before .before .before .before .before .before .before .before .before .before .before .before .before .before .before .before .before .before .before .before .before .before .before .before .before .before .before .before .before .before .before .before .before .before .before .before .before .before .before .before .args) .rn) .now) (((c .before .before .before .before .before .before .before .before .before .before .before .before .before .before .before .before .before .before .before .before .before .before .before .before .before .before .before .before .before .before .before .before .before .before .before .before .before .before .before .before .before .before .before .args) .sk) .now) (((c .before .before .before .before .before .before .before .before .before .before .before .before .before .before .before .before .before .before .before .before .before .before .before .before .before .before .before .before .before .before .before .before .before .before .before .before .before .before .before .before .before .before .before .args) .sn) .now) (((c .before .before .before .before .before .before .before .before .before .before .before .before .before .before .before .before .before .before .before .before .before .before .before .before .before .before .before .before .before .before .before .before .before .before .before .before .before .before .before .before .before .before .before .args) .hk) .now) (((c .before .before .before .before .before .before .before .before .before .before .before .before .before .before .before .before .before .before .before .before .before .before .before .before .before .before .before .before .before .before .before .before .before .before .before .before .before .before .before .before .before .before .before .args) .hn) .now) ((c .before .before .before .before .before .before .before .before .before .before .before .before .before .before .before .before .before .before .before .before .before .before .before .before .before .before .before .before .before .before .before .before .before .before .before .before .before .before .before .before .before .before .before .args) .place)) (((c .before .before .before .before .before .before .before .before .before .before .before .before .before .before .before .before .before .before .before .before .before .before .before .before .before .before .before .before .before .before .before .before .before .before .before .before .before .before .before .before .before .before .before .args) .samples) .now) ((c .before .before .before .before .before .before .before .before .before .before .before .before .before .before .before .before .before .before .before .before .before .before .before .before .before .if1) .left) _ (λ args P rep w. (c .before .before .before .before .before .before .before .before .before .before .before .before .before .start-ready) .ensures args P rep w)
 
 pub start-spec : {M : Type 1} → statement M
 start-spec =
@@ -107,6 +113,7 @@ start-spec =
     slice-aggregate-start-ready-2
     slice-aggregate-start-ready-3
     slice-aggregate-start-ready-4
+    slice-aggregate-start-ready-5
     start-ready-requires
     same-length
     same-length-2

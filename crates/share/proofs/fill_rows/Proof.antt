@@ -1,116 +1,67 @@
 use borrow.Author.Needs.{needs}
 use native.Mathlib.Omega.{arith}
-use Prim.Native.Nat.{_+_, _-_, _*_, _/_, _≤_, _<_}
+use native.Mathlib.Nat.{not-suc-le-zero}
+use mathlib.Core.Path.{_≡_, refl, _∙_}
+use Prim.Native.Nat.{ℕ, _+_, _-_, _*_, _≤_, _<_}
+use lib.ListN.{length, getD}
 use Rattle.share.specs.Shared.{entryAt}
-use Rattle.share.proofs.Laws.{Filling, filling-first, filling-next, filled-rows}
+use Rattle.share.proofs.Laws.{rows-next}
 use Rattle.share.proofs.fill_rows.Statement.{statement}
 use Rattle.share.proofs.fill_rows.Tie as tie
 use Rattle.share.proofs.fill_rows.Reads as reads
 use Rattle.share.proofs.fill_rows.Lts as lts
-use Rattle.share.proofs.narrow.Reads as narrow-reads
-use Rattle.share.proofs.new_entry.Reads as new-entry-reads
+use Rattle.share.proofs.fill_entries.Reads as fill-entries-reads
 
 abbrev Inv-loop : tie.InvT-loop
-Inv-loop rows first m rows2₀ i₀ rows2 i = Filling 4 (entryAt first rows) (4 * m) rows2₀ rows2 i
+Inv-loop rows first m rows2₀ r₀ rows2 r = (r ≤ m) × (length rows2 ≡ length rows2₀) × ((s e : ℕ) → s < r → e < 4 → getD rows2 (4 * s + e) 0 ≡ entryAt first rows s e)
 
 abbrev μ-loop : tie.MeasureT-loop
-μ-loop rows first m rows2₀ i₀ rows2 i = 4 * m - i
+μ-loop rows first m rows2₀ r₀ rows2 r = m - r
 
--- src/lib.rt:126:5
+-- src/lib.rt:115:5
 loop-holds : tie.Need-loop-holds Inv-loop μ-loop
-loop-holds c = filling-first 4 (entryAt (((c .before .before .before .args) .first) .now) (((c .before .before .before .args) .rows) .now)) (4 * ((c .before .before .before .args) .m)) (((c .before .before .before .args) .rows2) .now)
+loop-holds c = (omega arith, refl, λ s e h k. absurd (not-suc-le-zero h))
 
--- src/lib.rt:126:15
-mul-loop : tie.Need-mul-loop Inv-loop μ-loop
-mul-loop c =
-    let p0 = (c .before .before .before .before .pre) .0 in
-    omega arith
-
--- src/lib.rt:128:47
-mul-new-entry : tie.Need-mul-new-entry Inv-loop μ-loop
-mul-new-entry c =
-    let i0 = (c .before .loop) .inv .0 in
-    let i1 = (c .before .loop) .inv .1 in
-    let p0 = (c .before .before .before .before .before .pre) .0 in
-    let p1 = (c .before .before .before .before .before .pre) .1 in
-    let t = (c .loop-test) .taken in
-    omega arith
-
--- src/lib.rt:128:43
-sub-new-entry : tie.Need-sub-new-entry Inv-loop μ-loop
-sub-new-entry c =
-    let i0 = (c .before .loop) .inv .0 in
-    let i1 = (c .before .loop) .inv .1 in
-    let p0 = (c .before .before .before .before .before .pre) .0 in
-    let p1 = (c .before .before .before .before .before .pre) .1 in
-    let t = (c .loop-test) .taken in
-    omega arith
-
--- src/lib.rt:128:13
-new-entry-requires : tie.Need-new-entry-requires Inv-loop μ-loop
-new-entry-requires c κs =
-    let i0 = (c .before .loop) .inv .0 in
-    let i1 = (c .before .loop) .inv .1 in
-    let p0 = (c .before .before .before .before .before .pre) .0 in
-    let p1 = (c .before .before .before .before .before .pre) .1 in
-    let t = (c .loop-test) .taken in
+-- src/lib.rt:116:9
+fill-entries-requires : tie.Need-fill-entries-requires Inv-loop μ-loop
+fill-entries-requires c κs =
+    let i = (c .before .before .loop) .inv .0 in
+    let e = (c .before .before .loop) .inv .1 in
+    let p = (c .before .before .before .before .before .before .pre) .0 in
+    let q = (c .before .before .before .before .before .before .pre) .1 in
+    let t = (c .before .loop-test) .taken in
     (omega arith, omega arith)
 
--- src/lib.rt:129:20
-narrow-requires : tie.Need-narrow-requires Inv-loop μ-loop
-narrow-requires c κs = (c .new-entry) .ensures .1
-
--- src/lib.rt:129:9
-mul-rows2 : tie.Need-mul-rows2 Inv-loop μ-loop
-mul-rows2 c =
-    let i0 = (c .before .before .before .loop) .inv .0 in
-    let i1 = (c .before .before .before .loop) .inv .1 in
-    let p0 = (c .before .before .before .before .before .before .before .pre) .0 in
-    let p1 = (c .before .before .before .before .before .before .before .pre) .1 in
-    let t = (c .before .before .loop-test) .taken in
+-- src/lib.rt:117:9
+add-r : tie.Need-add-r Inv-loop μ-loop
+add-r c =
+    let p = (c .before .before .before .before .before .before .before .before .before .pre) .0 in
+    let t = (c .before .before .before .before .loop-test) .taken in
     omega arith
 
--- src/lib.rt:129:9
-slice-write-rows2 : tie.Need-slice-write-rows2 Inv-loop μ-loop
-slice-write-rows2 c =
-    let i0 = (c .before .before .before .loop) .inv .0 in
-    let i1 = (c .before .before .before .loop) .inv .1 in
-    let p0 = (c .before .before .before .before .before .before .before .pre) .0 in
-    let p1 = (c .before .before .before .before .before .before .before .pre) .1 in
-    let t = (c .before .before .loop-test) .taken in
-    omega arith
-
--- src/lib.rt:130:9
-add-i : tie.Need-add-i Inv-loop μ-loop
-add-i c =
-    let i0 = (c .before .before .before .loop) .inv .0 in
-    let i1 = (c .before .before .before .loop) .inv .1 in
-    let p0 = (c .before .before .before .before .before .before .before .pre) .0 in
-    let p1 = (c .before .before .before .before .before .before .before .pre) .1 in
-    let t = (c .before .before .loop-test) .taken in
-    omega arith
-
--- src/lib.rt:126:5
+-- src/lib.rt:115:5
 loop-less : tie.Need-loop-less Inv-loop μ-loop
 loop-less c =
-    let i0 = (c .before .before .before .loop) .inv .0 in
-    let i1 = (c .before .before .before .loop) .inv .1 in
-    let p0 = (c .before .before .before .before .before .before .before .pre) .0 in
-    let p1 = (c .before .before .before .before .before .before .before .pre) .1 in
-    let t = (c .before .before .loop-test) .taken in
+    let t = (c .before .before .before .before .loop-test) .taken in
     omega arith
 
--- src/lib.rt:126:5
+-- src/lib.rt:115:5
 loop-again : tie.Need-loop-again Inv-loop μ-loop
-loop-again c = filling-next 4 (entryAt (((c .before .before .before .before .before .before .before .args) .first) .now) (((c .before .before .before .before .before .before .before .args) .rows) .now)) (4 * ((c .before .before .before .before .before .before .before .args) .m)) (((c .before .before .before .before .before .before .before .args) .rows2) .now) ((c .before .before .before .loop) .rows2) ((c .before .before .before .loop) .i) ((c .before .new-entry) .result) ((c .narrow) .result) ((c .before .before .loop-test) .taken) ((c .before .before .before .before .before .before .before .pre) .1) ((c .before .new-entry) .ensures .0) ((c .narrow) .ensures) ((c .before .before .before .loop) .inv)
+loop-again c =
+    let l = (c .before .before .before .before .before .loop) in
+    let t = (c .before .before .before .before .loop-test) .taken in
+    (omega arith, (c .before .before .fill-entries) .kept .1 .1 .1 .0 ∙ l .inv .1, rows-next (entryAt (((c .before .before .before .before .before .before .before .before .before .args) .first) .now) ((c .before .before .before .before .before .before .before .before .before .args) .rows .now)) (l .rows2) ((c .before .before .fill-entries) .last .1 .1 .1 .0) (l .r) (l .inv .2) ((c .before .before .fill-entries) .ensures))
 
--- src/lib.rt:121:1
+-- src/lib.rt:110:1
 same-length : tie.Need-same-length Inv-loop μ-loop
 same-length c = (c .before .loop) .inv .1
 
--- src/lib.rt:121:1
+-- src/lib.rt:110:1
 returns : tie.Need-returns Inv-loop μ-loop
-returns c = filled-rows (entryAt (((c .before .before .before .before .before .args) .first) .now) (((c .before .before .before .before .before .args) .rows) .now)) (((c .before .before .before .before .before .args) .rows2) .now) ((c .before .loop) .rows2) ((c .before .before .before .before .before .args) .m) ((c .before .loop) .i) ((c .before .loop) .inv) ((c .loop-test) .left)
+returns c =
+    let l = (c .before .loop) in
+    let t = (c .loop-test) .left in
+    λ s e h k. l .inv .2 s e (omega arith) k
 
 pub fill-rows-spec : {M : Type 1} → statement M
 fill-rows-spec =
@@ -119,14 +70,8 @@ fill-rows-spec =
     Inv-loop
     μ-loop
     loop-holds
-    mul-loop
-    mul-new-entry
-    sub-new-entry
-    new-entry-requires
-    narrow-requires
-    mul-rows2
-    slice-write-rows2
-    add-i
+    fill-entries-requires
+    add-r
     loop-less
     loop-again
     same-length

@@ -43,7 +43,7 @@ first-like-requires c κs =
     let i = (c .before .before .before .before .before .before .before .before .before .loop) .inv .0 .0 in
     let t = (c .before .before .before .before .before .before .before .before .loop-test) .taken in
     let p = (c .before .before .before .before .before .before .before .before .before .before .before .before .before .before .before .pre) .0 in
-    (omega arith, (c .before .before .before .before .before .before .before .before .before .before .before .before .before .before .before .pre) .1, omega arith)
+    (omega arith, (c .before .before .before .before .before .before .before .before .before .before .before .before .before .before .before .pre) .1, omega arith, (c .before .before .before .before .before .before .before .before .before .loop) .inv .0 .2, λ x l. (c .before .before .before .before .before .before .before .before .before .before .before .before .before .before .before .pre) .3 x (omega arith))
 
 -- src/lib.rt:399:20
 narrow-requires : tie.Need-narrow-requires Inv-loop μ-loop

@@ -44,7 +44,7 @@ stands-for-requires c κs =
     let t = (c .loop-test) .taken in
     let i = (c .before .loop) .inv in
     let h = (c .before .before .before .before .before .before .before .before .before .pre) .2 in
-    ((c .before .before .before .before .before .before .before .before .before .pre) .0, (c .before .before .before .before .before .before .before .before .before .pre) .1, omega arith, (c .before .before .before .before .before .before .before .before .before .pre) .2)
+    ((c .before .before .before .before .before .before .before .before .before .pre) .0, (c .before .before .before .before .before .before .before .before .before .pre) .1, omega arith, (c .before .before .before .before .before .before .before .before .before .pre) .2, (c .before .before .before .before .before .before .before .before .before .pre) .3, (c .before .before .before .before .before .before .before .before .before .pre) .4)
 
 -- src/lib.rt:377:20
 sub-result : tie.Need-sub-result Inv-loop μ-loop

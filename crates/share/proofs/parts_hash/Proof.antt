@@ -5,7 +5,7 @@ use Rattle.share.proofs.parts_hash.Statement.{statement}
 use Rattle.share.proofs.parts_hash.Tie as tie
 use Rattle.share.proofs.parts_hash.Reads as reads
 use Rattle.share.proofs.parts_hash.Lts as lts
-use Rattle.share.proofs.mul_add.Reads as mul-add-reads
+use Rattle.share.proofs.mix.Reads as mix-reads
 use Rattle.share.proofs.new_part.Reads as new-part-reads
 use Rattle.share.proofs.word.Reads as word-reads
 
@@ -31,8 +31,8 @@ word-requires : tie.Need-word-requires Inv-loop μ-loop
 word-requires c κs = (c .new-part) .ensures .1
 
 -- src/lib.rt:199:9
-mul-add-requires : tie.Need-mul-add-requires Inv-loop μ-loop
-mul-add-requires c κs = search needs
+mix-requires : tie.Need-mix-requires Inv-loop μ-loop
+mix-requires c κs = search needs
 
 -- src/lib.rt:200:9
 add-j : tie.Need-add-j Inv-loop μ-loop
@@ -59,7 +59,7 @@ parts-hash-spec =
     loop-holds
     new-part-requires
     word-requires
-    mul-add-requires
+    mix-requires
     add-j
     loop-less
     loop-again

@@ -1,5 +1,5 @@
-use Rattle.share.proofs.Rename.{shared}
-use borrow.Author.Needs.{needs}
+use Rattle.rows.specs.Read.{tab}
+use Rattle.share.proofs.Rename.{shared, lower-rows}
 use borrow.Author.Needs.{needs}
 use Rattle.share.proofs.share.Statement.{statement}
 use Rattle.share.proofs.share.Tie as tie
@@ -9,45 +9,45 @@ use Rattle.share.proofs.fill_parts.Reads as fill-parts-reads
 use Rattle.share.proofs.fill_rows.Reads as fill-rows-reads
 use Rattle.share.proofs.find_first.Reads as find-first-reads
 
--- src/lib.rt:421:45
+-- src/lib.rt:532:45
 slice-aggregate-find-first : tie.Need-slice-aggregate-find-first
 slice-aggregate-find-first c = search needs
 
--- src/lib.rt:421:5
+-- src/lib.rt:532:5
 find-first-requires : tie.Need-find-first-requires
-find-first-requires c κs = search needs
+find-first-requires c κs = ((c .before .before .before .before .before .before .before .before .before .pre) .0 .0, (c .before .before .before .before .before .before .before .before .before .pre) .1 .0 .0, (c .before .before .before .before .before .before .before .before .before .pre) .0 .3, lower-rows (tab ((c .before .before .before .before .before .before .before .before .before .args) .rows .now) ((c .before .before .before .before .before .before .before .before .before .args) .parts .now)) ((c .before .before .before .before .before .before .before .before .before .args) .n) ((c .before .before .before .before .before .before .before .before .before .pre) .1 .1 .0))
 
--- src/lib.rt:422:28
+-- src/lib.rt:533:28
 add-fill-rows : tie.Need-add-fill-rows
 add-fill-rows c = search needs
 
--- src/lib.rt:422:5
+-- src/lib.rt:533:5
 fill-rows-requires : tie.Need-fill-rows-requires
 fill-rows-requires c κs = search needs
 
--- src/lib.rt:423:5
+-- src/lib.rt:534:5
 fill-parts-requires : tie.Need-fill-parts-requires
 fill-parts-requires c κs = search needs
 
--- src/lib.rt:406:1
+-- src/lib.rt:517:1
 same-length : tie.Need-same-length
 same-length c = search needs
 
--- src/lib.rt:406:1
+-- src/lib.rt:517:1
 same-length-2 : tie.Need-same-length-2
 same-length-2 c = search needs
 
--- src/lib.rt:406:1
+-- src/lib.rt:517:1
 same-length-3 : tie.Need-same-length-3
 same-length-3 c = search needs
 
--- src/lib.rt:406:1
+-- src/lib.rt:517:1
 same-length-4 : tie.Need-same-length-4
 same-length-4 c = search needs
 
--- src/lib.rt:406:1
+-- src/lib.rt:517:1
 returns : tie.Need-returns
-returns c = shared (((c .before .before .before .before .before .before .before .before .before .before .before .before .before .before .before .before .before .before .before .before .before .before .before .before .before .args) .rows) .now) (((c .before .before .before .before .before .before .before .before .before .before .before .before .before .before .before .before .before .before .before .before .before .before .before .before .before .args) .parts) .now) ((c .before .before .before .before .before .before .before .before .before .before .before .before .before .before .before .find-first) .last .1 .1 .1 .0) ((c .before .before .before .before .before .before .before .fill-rows) .last .1 .1 .1 .0) ((c .before .before .fill-parts) .last .1 .1 .1 .1 .0) ((c .before .before .before .before .before .before .before .before .before .before .before .before .before .before .before .before .before .before .before .before .before .before .before .before .before .args) .n) ((c .before .before .before .before .before .before .before .fill-rows) .ensures) ((c .before .before .fill-parts) .ensures) ((c .before .before .before .before .before .before .before .before .before .before .before .before .before .before .before .before .before .before .before .before .before .before .before .before .before .pre) .1 .1 .1) ((c .before .before .before .before .before .before .before .before .before .before .before .before .before .before .before .before .before .before .before .before .before .before .before .before .before .pre) .1 .1 .0) ((c .before .before .before .before .before .before .before .before .before .before .before .before .before .before .before .find-first) .ensures) ((c .before .before .before .before .before .before .before .before .before .before .before .before .before .before .before .before .before .before .before .before .before .before .before .before .before .pre) .1 .0 .1) ((c .before .before .before .before .before .before .before .before .before .before .before .before .before .before .before .before .before .before .before .before .before .before .before .before .before .pre) .1 .0 .2) ((c .before .before .before .before .before .before .before .before .before .before .before .before .before .before .before .before .before .before .before .before .before .before .before .before .before .pre) .1 .0 .0)
+returns c = shared ((c .before .before .before .before .before .before .before .before .before .before .before .before .before .before .before .before .before .before .before .before .before .before .before .before .before .args) .rows .now) ((c .before .before .before .before .before .before .before .before .before .before .before .before .before .before .before .before .before .before .before .before .before .before .before .before .before .args) .parts .now) ((c .before .before .before .before .before .before .before .before .before .before .before .before .before .before .before .find-first) .last .1 .1 .1 .0) ((c .before .before .before .before .before .before .before .fill-rows) .last .1 .1 .1 .0) ((c .before .before .fill-parts) .last .1 .1 .1 .1 .0) ((c .before .before .before .before .before .before .before .before .before .before .before .before .before .before .before .before .before .before .before .before .before .before .before .before .before .args) .n) ((c .before .before .before .before .before .before .before .fill-rows) .ensures) ((c .before .before .fill-parts) .ensures) ((c .before .before .before .before .before .before .before .before .before .before .before .before .before .before .before .before .before .before .before .before .before .before .before .before .before .pre) .1 .1 .1) ((c .before .before .before .before .before .before .before .before .before .before .before .before .before .before .before .before .before .before .before .before .before .before .before .before .before .pre) .1 .1 .0) ((c .before .before .before .before .before .before .before .before .before .before .before .before .before .before .before .find-first) .ensures) ((c .before .before .before .before .before .before .before .before .before .before .before .before .before .before .before .before .before .before .before .before .before .before .before .before .before .pre) .1 .0 .1) ((c .before .before .before .before .before .before .before .before .before .before .before .before .before .before .before .before .before .before .before .before .before .before .before .before .before .pre) .1 .0 .2) ((c .before .before .before .before .before .before .before .before .before .before .before .before .before .before .before .before .before .before .before .before .before .before .before .before .before .pre) .1 .0 .0)
 
 pub share-spec : {M : Type 1} → statement M
 share-spec =

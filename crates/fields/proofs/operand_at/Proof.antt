@@ -1,0 +1,65 @@
+use mathlib.Core.Path.{_≡_, ap, sym, _∙_}
+use Prim.Native.Nat.{_+_}
+use native.Mathlib.Omega.{arith}
+use Rattle.lines.proofs.InLine.{field-read, field-part}
+use Rattle.fields.proofs.PlacedLaws.{plain-operand, any-at}
+use borrow.Author.Needs.{needs}
+use Rattle.fields.proofs.operand_at.Statement.{statement}
+use Rattle.fields.proofs.operand_at.Tie as tie
+use Rattle.fields.proofs.operand_at.Reads as reads
+use Rattle.fields.proofs.operand_at.Lts as lts
+use Rattle.fields.proofs.any_operand.Reads as any-operand-reads
+use Rattle.fields.proofs.plain_at.Reads as plain-at-reads
+use Rattle.lines.proofs.field_end.Reads as field-end-reads
+
+-- src/lib.rt:510:9
+plain-at-requires : tie.Need-plain-at-requires
+plain-at-requires c κs = search needs
+
+-- src/lib.rt:512:9
+returns : tie.Need-returns
+returns c = plain-operand (((c .before .before .before .before .before .args) .s) .now) ((c .before .before .before .before .before .args) .at) (((c .before .before .before .before .before .args) .out) .now) ((c .before .before .before .before .before .args) .to) ((c .before .before .plain-at) .result) ((c .before .before .plain-at) .ensures) ((c .if1) .taken)
+
+-- src/lib.rt:514:9
+field-end-requires : tie.Need-field-end-requires
+field-end-requires c κs = search needs
+
+-- src/lib.rt:515:25
+sub-any-operand : tie.Need-sub-any-operand
+sub-any-operand c = search needs
+
+-- src/lib.rt:515:25
+part-any-operand-start : tie.Need-part-any-operand-start
+part-any-operand-start c = search needs
+
+-- src/lib.rt:515:25
+part-any-operand-end : tie.Need-part-any-operand-end
+part-any-operand-end c =
+    let h = field-read (((c .before .before .before .before .before .before .args) .s) .now) ((c .before .before .before .before .before .before .args) .at) ((c .field-end) .result) (c .before .before .before .before .before .before .pre) ((c .field-end) .ensures) in
+    omega arith
+
+-- src/lib.rt:515:9
+any-operand-requires : tie.Need-any-operand-requires
+any-operand-requires c κs = search needs
+
+-- src/lib.rt:506:1
+same-length : tie.Need-same-length
+same-length c = search needs
+
+-- src/lib.rt:506:1
+returns-2 : tie.Need-returns-2
+returns-2 c = any-at (((c .before .before .before .before .before .before .before .before .before .before .before .args) .s) .now) ((c .before .before .before .before .before .before .before .before .before .before .before .args) .at) (((c .before .before .before .before .before .before .before .before .before .before .before .args) .out) .now) ((c .before .before .before .before .before .before .before .before .before .before .before .args) .to) (c .before .before .before .before .before .before .before .before .before .before .before .pre) ((c .before .before .before .before .before .field-end) .result) ((c .before .before .before .before .before .field-end) .ensures) ((c .before .before .any-operand) .result) ((c .before .before .any-operand) .last .1 .0) ((c .before .before .any-operand) .ensures)
+
+pub operand-at-spec : {M : Type 1} → statement M
+operand-at-spec =
+    tie.close
+    (tie.spec
+    plain-at-requires
+    returns
+    field-end-requires
+    sub-any-operand
+    part-any-operand-start
+    part-any-operand-end
+    any-operand-requires
+    same-length
+    returns-2)

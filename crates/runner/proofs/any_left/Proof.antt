@@ -1,0 +1,12 @@
+use mathlib.Core.Path.{refl}
+use borrow.Author.Needs.{needs}
+use Rattle.runner.proofs.any_left.Statement.{statement}
+use Rattle.runner.proofs.any_left.Tie as tie
+use Rattle.runner.proofs.any_left.Reads as reads
+use Rattle.runner.proofs.any_left.Lts as lts
+
+returns : tie.Need-returns
+returns c = refl
+
+pub any-left-spec : {M : Type 1} → statement M
+any-left-spec = tie.close (tie.spec returns)

@@ -1,0 +1,15 @@
+use mathlib.Core.Path.{refl}
+use borrow.Author.Needs.{needs}
+use Rattle.runner.proofs.made.Statement.{statement}
+use Rattle.runner.proofs.made.Tie as tie
+use Rattle.runner.proofs.made.Reads as reads
+use Rattle.runner.proofs.made.Lts as lts
+
+sub-result : tie.Need-sub-result
+sub-result c = search needs
+
+returns : tie.Need-returns
+returns c = refl
+
+pub made-spec : {M : Type 1} → statement M
+made-spec = tie.close (tie.spec sub-result returns)

@@ -1,0 +1,3 @@
+pub mod Laws
+pub mod Forms
+pub mod Tabled
