@@ -220,10 +220,6 @@ pub row-small : (s : List ℕ) (n : ℕ) → rowNumber s ≡ some n → n ≤ 51
 unfolding rowNumber
 row-small s n e = number-bounds 0 511 s n e .1
 
-pub index-small : (s : List ℕ) (n : ℕ) → index s ≡ some n → n ≤ 63
-unfolding index
-index-small s n e = number-bounds 0 63 s n e .1
-
 pub register-small : (s : List ℕ) (n : ℕ) → register s ≡ some n → n ≤ 7
 unfolding register
 register-small [] n e = absurd (Option·none-ne-some n e)

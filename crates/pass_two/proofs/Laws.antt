@@ -39,9 +39,6 @@ least-first (suc f) s h l true = omega arith
 least-first (suc f) s h l false = refl
 
 module _ (τ : RowTable) (r f : ℕ) (e : f ≡ leastOf (rowRefsFaults τ r)) where
-  large : Bool
-  large = ltb 4096 (sizeOf (sizesOf (rowsIn τ r)) (rowAt τ r))
-
   by-size : leastOf (faultsAt τ r) ≡ least f (cond (ltb 4096 (sizeOf (sizesOf (rowsIn τ r)) (rowAt τ r))) 6 0)
   by-size = row-least τ (sizesOf (rowsIn τ r)) r ∙ ap (λ (x : ℕ). least x (cond (ltb 4096 (sizeOf (sizesOf (rowsIn τ r)) (rowAt τ r))) 6 0)) (sym e)
 
@@ -154,9 +151,6 @@ module _ (τ : RowTable) (n : ℕ) where
 
 -- ---- the pass
 module _ (τ : RowTable) (n nb : ℕ) (bs : List Listing) where
-  whole : Option Refusal
-  whole = lowestLine 0 (passTwo (rowsIn τ n) nb (entriesIn (rowsIn τ n) bs))
-
   pub at-row : (f : Found) → refusalOf f ≡ lowestLine 1 (rowsFaults [] [] (rowsIn τ n)) → (f .number ≡ 0 → ⊥) → refusalOf f ≡ lowestLine 0 (passTwo (rowsIn τ n) nb (entriesIn (rowsIn τ n) bs))
   unfolding refusalOf
   at-row f e h =

@@ -29,9 +29,6 @@ module _ (T : Tables) (φ : List ℕ) (at j : ℕ) (e : at ≡ 8 * j) where
   next-place = omega (arith, e)
 
   module _ (pl : Plan T φ) (lj : j ≤ T .count) (R S H : Memory) (h u : ℕ) where
-    here : State
-    here = held R S H h u j
-
     pub in-table : getD φ at 0 < 26 → j + 1 ≤ T .count
     in-table q = omega (arith, before-last T φ pl (held R S H h u j) lj (omega (arith, q, form-is)))
 
