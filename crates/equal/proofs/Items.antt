@@ -67,3 +67,14 @@ spare-own m l r a b n t o u x y s p q e f = let s0 = s .0 in let s1 = s .1 in le
 pub spare-given : (m l r a b n t o u x y : ℕ) → Spare m l r a b → 0 < m → n + t ≤ 514 + l → o + u ≤ r → x ≡ a - n → y ≡ b - o → Spare 0 t u x y
 spare-given m l r a b n t o u x y s k p q e f =
     let g = room-of 0 m k in let s0 = s .0 in let s1 = s .1 in let s2 = s .2 in let s3 = s .3 in (omega arith, omega arith, omega arith, omega arith)
+
+-- what is pending behind two value rows, p and q with them, fits the arrays, which are as long as they were
+pub own-room : (m : ℕ) {l r a b x y p q : ℕ} → (p ≤ l) × (q ≤ r) → Spare m l r a b → x ≡ a → y ≡ b → (p + room m < x) × (q < y) × (x ≤ 65536) × (y ≤ 65536)
+own-room m w s e f =
+    let w0 = w .0 in let w1 = w .1 in let s0 = s .0 in let s1 = s .1 in let s2 = s .2 in let s3 = s .3 in (omega arith, omega arith, omega arith, omega arith)
+
+-- the same behind a row of an argument
+pub given-room : (m l : ℕ) {r a b x y t p q : ℕ} → (0 < m) × (t < 514) × (p ≤ 514 + l) × (q ≤ r) → Spare m l r a b → x ≡ a → y ≡ b → (p < x) × (q < y) × (x ≤ 65536) × (y ≤ 65536)
+given-room m l w s e f =
+    let g = room-of 0 m (w .0) in let w2 = w .2 in let w3 = w .3 in let s0 = s .0 in let s1 = s .1 in let s2 = s .2 in let s3 = s .3 in
+    (omega arith, omega arith, omega arith, omega arith)

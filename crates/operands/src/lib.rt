@@ -239,52 +239,6 @@ pub fn operand(
     }
 }
 
-// The same; most operands in a list have no arguments, and need no more than their base.
-fn listed_operand(
-    rows: &[u16],
-    parts: &[u16],
-    n: usize,
-    uses: &[u8],
-    tops: &[u16],
-    blocks: &[u16],
-    nb: usize,
-    operands: &[u16],
-    numbers: &[u32],
-    args: &[u16],
-    v: usize,
-    q: usize,
-    l: usize,
-    regs: &[u16],
-    back: &mut [u16],
-) -> Typed
-    requires { ⌜ Ready (now rows) (now parts) n × Scoped (tab (now rows) (now parts)) n (now uses) (now tops) × Short (operandAt (operandTable (now operands) (now numbers) (now args)) v) × (v ≤ 131072) × (8 ≤ length (now back)) ⌝ }
-    ensures { λ out. ⌜ ((P : Program) (f : Fault) → Holds (tab (now (rows .entry)) (now (parts .entry))) n (now (blocks .entry)) nb P → numberOf f ≡ 10 → toldOf (operand P (map letterOf (span (now (parts .entry)) l q)) f (regsOf (typesIn (now (rows .entry)) (now (parts .entry)) n) (now (regs .entry))) (operandAt (operandTable (now (operands .entry)) (now (numbers .entry)) (now (args .entry))) v)) ≡ answer (out .fault) (typeAt value (typesIn (now (rows .entry)) (now (parts .entry)) n) (out .row))) × (out .row ≤ n + 1) ⌝ }
-{
-    let kind = entry(operands, v, 0);
-    let c = entry(operands, v, 1);
-    let number = number_at(numbers, v);
-    if c == 0 {
-        return base_type(rows, parts, n, blocks, nb, regs, kind, number);
-    }
-    operand(
-        rows,
-        parts,
-        n,
-        uses,
-        tops,
-        blocks,
-        nb,
-        operands,
-        numbers,
-        args,
-        v,
-        q,
-        l,
-        regs,
-        back,
-    )
-}
-
 // ---- components
 // The types of operands v to v + c - 1 under the q letters at l; their rows are put into `found`.
 pub fn operand_list(
@@ -312,7 +266,7 @@ pub fn operand_list(
     let mut f = 0;
     let mut i = c;
     while i > 0 {
-        let r = listed_operand(
+        let r = operand(
             rows,
             parts,
             n,

@@ -10,7 +10,7 @@ use Rattle.rows.specs.Read.{tab, argsOf}
 use Rattle.pending.specs.Pending.{mass, room}
 use Rattle.pending.proofs.Meets.{length-args}
 use Rattle.equal.specs.Fit.{big}
-use Rattle.equal.proofs.Items.{tabled-low, tabled-given, tabled-arg, few-left, few-right, few-arg, few-args, room-of, spare-low, spare-arg, spare-kept, spare-own, spare-given}
+use Rattle.equal.proofs.Items.{own-room, given-room, tabled-low, tabled-given, tabled-arg, few-left, few-right, few-arg, few-args, room-of, spare-low, spare-arg, spare-kept, spare-own, spare-given}
 use Rattle.equal.proofs.Values.{big-of, pair-ok, value-pair, filled-value, filled-not, place-value, both-same, one-differs, heads-low, PartsLeft, parts-first, parts-last, parts-apart, parts-differ, parts-next, codes-off, codes-on}
 use Rattle.equal.proofs.Stacks.{s-place, Matching, match-first, match-over, match-unlike, match-onward, match-own, match-given, own-not, given-not, own-low, given-low, agree-mid, length-part, pends-more, not-true, not-false, plain-args}
 use Prim.Native.Nat.{ℕ, _<_}
@@ -923,17 +923,11 @@ eq-stack-mul-eq-value : (t : ℕ) → eq-stack-lts.Need-mul-eq-value (
   eq-value.Post,
 ) (eq-stack-at t) eq-stack.Post eq-stack-Inv-loop eq-stack-μ-loop
 eq-stack-mul-eq-value t c =
-    let w = (own-low (tab ((c .before .before .before .before .before .before .before .before .before .before .before .before .before .before .before .before .before .before .args) .rows .now) ((c .before .before .before .before .before .before .before .before .before .before .before .before .before .before .before .before .before .before .args) .parts .now)) (argsOf (tab ((c .before .before .before .before .before .before .before .before .before .before .before .before .before .before .before .before .before .before .args) .rows .now) ((c .before .before .before .before .before .before .before .before .before .before .before .before .before .before .before .before .before .before .args) .parts .now)) ((c .before .before .before .before .before .before .before .before .before .before .before .before .before .before .before .before .before .before .args) .args .now) ((c .before .before .before .before .before .before .before .before .before .before .before .before .before .before .before .before .before .before .args) .m)) ((c .before .before .before .before .before .before .before .before .before .before .before .before .before .before .before .before .before .before .args) .m) ((c .before .before .before .before .before .before .before .before .before .before .before .before .before .before .before .before .before .before .args) .by) ((c .before .before .before .before .before .before .before .before .before .before .before .before .before .before .before .before .before .before .args) .d) ((c .before .before .before .before .before .before .before .before .before .before .before .before .before .before .before .before .before .before .args) .l) ((c .before .before .before .before .before .before .before .before .before .before .before .before .before .before .before .before .before .before .args) .by2) ((c .before .before .before .before .before .before .before .before .before .before .before .before .before .before .before .before .before .before .args) .d2) ((c .before .before .before .before .before .before .before .before .before .before .before .before .before .before .before .before .before .before .args) .r) ((c .before .before .before .before .before .before .before .before .before .before .loop) .left) ((c .before .before .before .before .before .before .before .before .before .before .loop) .i) ((c .before .before .before .before .before .before .before .before .before .before .loop) .right) ((c .before .before .before .before .before .before .before .before .before .before .loop) .j) ((c .before .before .before .before .before .before .before .before .before .before .loop) .inv .0) ((c .before .before .before .before .before .before .before .next-pair) .last .1 .1 .1 .1 .1 .0) ((c .before .before .before .before .before .before .before .next-pair) .last .1 .1 .1 .1 .1 .1 .1 .1 .1 .0) ((c .before .before .before .before .before .before .before .next-pair) .result) ((c .before .s2) .given .0 .0) ((c .before .s2) .given .0 .1 .0) ((c .before .s2) .given .0 .1 .1 .0) ((c .before .s2) .given .0 .1 .1 .1 .0) ((c .before .before .before .before .before .before .before .next-pair) .ensures ((c .before .before .before .before .before .before .before .before .before .before .before .before .before .before .before .before .before .before .args) .parts .now)) ((c .before .s2) .given .1)) in
+    let w = own-room ((c .before .before .before .before .before .before .before .before .before .before .before .before .before .before .before .before .before .before .args) .m) (own-low (tab ((c .before .before .before .before .before .before .before .before .before .before .before .before .before .before .before .before .before .before .args) .rows .now) ((c .before .before .before .before .before .before .before .before .before .before .before .before .before .before .before .before .before .before .args) .parts .now)) (argsOf (tab ((c .before .before .before .before .before .before .before .before .before .before .before .before .before .before .before .before .before .before .args) .rows .now) ((c .before .before .before .before .before .before .before .before .before .before .before .before .before .before .before .before .before .before .args) .parts .now)) ((c .before .before .before .before .before .before .before .before .before .before .before .before .before .before .before .before .before .before .args) .args .now) ((c .before .before .before .before .before .before .before .before .before .before .before .before .before .before .before .before .before .before .args) .m)) ((c .before .before .before .before .before .before .before .before .before .before .before .before .before .before .before .before .before .before .args) .m) ((c .before .before .before .before .before .before .before .before .before .before .before .before .before .before .before .before .before .before .args) .by) ((c .before .before .before .before .before .before .before .before .before .before .before .before .before .before .before .before .before .before .args) .d) ((c .before .before .before .before .before .before .before .before .before .before .before .before .before .before .before .before .before .before .args) .l) ((c .before .before .before .before .before .before .before .before .before .before .before .before .before .before .before .before .before .before .args) .by2) ((c .before .before .before .before .before .before .before .before .before .before .before .before .before .before .before .before .before .before .args) .d2) ((c .before .before .before .before .before .before .before .before .before .before .before .before .before .before .before .before .before .before .args) .r) ((c .before .before .before .before .before .before .before .before .before .before .loop) .left) ((c .before .before .before .before .before .before .before .before .before .before .loop) .i) ((c .before .before .before .before .before .before .before .before .before .before .loop) .right) ((c .before .before .before .before .before .before .before .before .before .before .loop) .j) ((c .before .before .before .before .before .before .before .before .before .before .loop) .inv .0) ((c .before .before .before .before .before .before .before .next-pair) .last .1 .1 .1 .1 .1 .0) ((c .before .before .before .before .before .before .before .next-pair) .last .1 .1 .1 .1 .1 .1 .1 .1 .1 .0) ((c .before .before .before .before .before .before .before .next-pair) .result) ((c .before .s2) .given .0 .0) ((c .before .s2) .given .0 .1 .0) ((c .before .s2) .given .0 .1 .1 .0) ((c .before .s2) .given .0 .1 .1 .1 .0) ((c .before .before .before .before .before .before .before .next-pair) .ensures ((c .before .before .before .before .before .before .before .before .before .before .before .before .before .before .before .before .before .before .args) .parts .now)) ((c .before .s2) .given .1)) ((c .before .before .before .before .before .before .before .before .before .before .before .before .before .before .before .before .before .before .pre) .1 .3) (((c .before .before .before .before .before .before .before .next-pair) .kept .1 .1 .1 .1 .1 .0) ∙ (c .before .before .before .before .before .before .before .before .before .before .loop) .inv .1 ∙ length-set ((c .before .before .before .before .before .before .before .before .before .before .before .before .before .before .before .before .before .before .args) .left .now) 0 ((c .before .before .before .before .before .before .before .before .before .before .before .before .before .before .before .before .before .before .args) .l)) (((c .before .before .before .before .before .before .before .next-pair) .kept .1 .1 .1 .1 .1 .1 .1 .1 .1 .0) ∙ (c .before .before .before .before .before .before .before .before .before .before .loop) .inv .2 ∙ length-set ((c .before .before .before .before .before .before .before .before .before .before .before .before .before .before .before .before .before .before .args) .right .now) 0 ((c .before .before .before .before .before .before .before .before .before .before .before .before .before .before .before .before .before .before .args) .r)) in
     let w0 = w .0 in
     let w1 = w .1 in
-    let s0 = (c .before .before .before .before .before .before .before .before .before .before .before .before .before .before .before .before .before .before .pre) .1 .3 .0 in
-    let s1 = (c .before .before .before .before .before .before .before .before .before .before .before .before .before .before .before .before .before .before .pre) .1 .3 .1 in
-    let s2 = (c .before .before .before .before .before .before .before .before .before .before .before .before .before .before .before .before .before .before .pre) .1 .3 .2 in
-    let s3 = (c .before .before .before .before .before .before .before .before .before .before .before .before .before .before .before .before .before .before .pre) .1 .3 .3 in
-    let i1 = (c .before .before .before .before .before .before .before .before .before .before .loop) .inv .1 ∙ length-set ((c .before .before .before .before .before .before .before .before .before .before .before .before .before .before .before .before .before .before .args) .left .now) 0 ((c .before .before .before .before .before .before .before .before .before .before .before .before .before .before .before .before .before .before .args) .l) in
-    let i2 = (c .before .before .before .before .before .before .before .before .before .before .loop) .inv .2 ∙ length-set ((c .before .before .before .before .before .before .before .before .before .before .before .before .before .before .before .before .before .before .args) .right .now) 0 ((c .before .before .before .before .before .before .before .before .before .before .before .before .before .before .before .before .before .before .args) .r) in
-    let k1 = ((c .before .before .before .before .before .before .before .next-pair) .kept .1 .1 .1 .1 .1 .0) in
-    let k2 = ((c .before .before .before .before .before .before .before .next-pair) .kept .1 .1 .1 .1 .1 .1 .1 .1 .1 .0) in
+    let w2 = w .2 in
+    let w3 = w .3 in
     record { fits = omega arith }
 
 -- src/lib.rt:566:21
@@ -946,17 +940,11 @@ eq-stack-sub-eq-value : (t : ℕ) → eq-stack-lts.Need-sub-eq-value (
   eq-value.Post,
 ) (eq-stack-at t) eq-stack.Post eq-stack-Inv-loop eq-stack-μ-loop
 eq-stack-sub-eq-value t c =
-    let w = (own-low (tab ((c .before .before .before .before .before .before .before .before .before .before .before .before .before .before .before .before .before .before .args) .rows .now) ((c .before .before .before .before .before .before .before .before .before .before .before .before .before .before .before .before .before .before .args) .parts .now)) (argsOf (tab ((c .before .before .before .before .before .before .before .before .before .before .before .before .before .before .before .before .before .before .args) .rows .now) ((c .before .before .before .before .before .before .before .before .before .before .before .before .before .before .before .before .before .before .args) .parts .now)) ((c .before .before .before .before .before .before .before .before .before .before .before .before .before .before .before .before .before .before .args) .args .now) ((c .before .before .before .before .before .before .before .before .before .before .before .before .before .before .before .before .before .before .args) .m)) ((c .before .before .before .before .before .before .before .before .before .before .before .before .before .before .before .before .before .before .args) .m) ((c .before .before .before .before .before .before .before .before .before .before .before .before .before .before .before .before .before .before .args) .by) ((c .before .before .before .before .before .before .before .before .before .before .before .before .before .before .before .before .before .before .args) .d) ((c .before .before .before .before .before .before .before .before .before .before .before .before .before .before .before .before .before .before .args) .l) ((c .before .before .before .before .before .before .before .before .before .before .before .before .before .before .before .before .before .before .args) .by2) ((c .before .before .before .before .before .before .before .before .before .before .before .before .before .before .before .before .before .before .args) .d2) ((c .before .before .before .before .before .before .before .before .before .before .before .before .before .before .before .before .before .before .args) .r) ((c .before .before .before .before .before .before .before .before .before .before .loop) .left) ((c .before .before .before .before .before .before .before .before .before .before .loop) .i) ((c .before .before .before .before .before .before .before .before .before .before .loop) .right) ((c .before .before .before .before .before .before .before .before .before .before .loop) .j) ((c .before .before .before .before .before .before .before .before .before .before .loop) .inv .0) ((c .before .before .before .before .before .before .before .next-pair) .last .1 .1 .1 .1 .1 .0) ((c .before .before .before .before .before .before .before .next-pair) .last .1 .1 .1 .1 .1 .1 .1 .1 .1 .0) ((c .before .before .before .before .before .before .before .next-pair) .result) ((c .before .s2) .given .0 .0) ((c .before .s2) .given .0 .1 .0) ((c .before .s2) .given .0 .1 .1 .0) ((c .before .s2) .given .0 .1 .1 .1 .0) ((c .before .before .before .before .before .before .before .next-pair) .ensures ((c .before .before .before .before .before .before .before .before .before .before .before .before .before .before .before .before .before .before .args) .parts .now)) ((c .before .s2) .given .1)) in
+    let w = own-room ((c .before .before .before .before .before .before .before .before .before .before .before .before .before .before .before .before .before .before .args) .m) (own-low (tab ((c .before .before .before .before .before .before .before .before .before .before .before .before .before .before .before .before .before .before .args) .rows .now) ((c .before .before .before .before .before .before .before .before .before .before .before .before .before .before .before .before .before .before .args) .parts .now)) (argsOf (tab ((c .before .before .before .before .before .before .before .before .before .before .before .before .before .before .before .before .before .before .args) .rows .now) ((c .before .before .before .before .before .before .before .before .before .before .before .before .before .before .before .before .before .before .args) .parts .now)) ((c .before .before .before .before .before .before .before .before .before .before .before .before .before .before .before .before .before .before .args) .args .now) ((c .before .before .before .before .before .before .before .before .before .before .before .before .before .before .before .before .before .before .args) .m)) ((c .before .before .before .before .before .before .before .before .before .before .before .before .before .before .before .before .before .before .args) .m) ((c .before .before .before .before .before .before .before .before .before .before .before .before .before .before .before .before .before .before .args) .by) ((c .before .before .before .before .before .before .before .before .before .before .before .before .before .before .before .before .before .before .args) .d) ((c .before .before .before .before .before .before .before .before .before .before .before .before .before .before .before .before .before .before .args) .l) ((c .before .before .before .before .before .before .before .before .before .before .before .before .before .before .before .before .before .before .args) .by2) ((c .before .before .before .before .before .before .before .before .before .before .before .before .before .before .before .before .before .before .args) .d2) ((c .before .before .before .before .before .before .before .before .before .before .before .before .before .before .before .before .before .before .args) .r) ((c .before .before .before .before .before .before .before .before .before .before .loop) .left) ((c .before .before .before .before .before .before .before .before .before .before .loop) .i) ((c .before .before .before .before .before .before .before .before .before .before .loop) .right) ((c .before .before .before .before .before .before .before .before .before .before .loop) .j) ((c .before .before .before .before .before .before .before .before .before .before .loop) .inv .0) ((c .before .before .before .before .before .before .before .next-pair) .last .1 .1 .1 .1 .1 .0) ((c .before .before .before .before .before .before .before .next-pair) .last .1 .1 .1 .1 .1 .1 .1 .1 .1 .0) ((c .before .before .before .before .before .before .before .next-pair) .result) ((c .before .s2) .given .0 .0) ((c .before .s2) .given .0 .1 .0) ((c .before .s2) .given .0 .1 .1 .0) ((c .before .s2) .given .0 .1 .1 .1 .0) ((c .before .before .before .before .before .before .before .next-pair) .ensures ((c .before .before .before .before .before .before .before .before .before .before .before .before .before .before .before .before .before .before .args) .parts .now)) ((c .before .s2) .given .1)) ((c .before .before .before .before .before .before .before .before .before .before .before .before .before .before .before .before .before .before .pre) .1 .3) (((c .before .before .before .before .before .before .before .next-pair) .kept .1 .1 .1 .1 .1 .0) ∙ (c .before .before .before .before .before .before .before .before .before .before .loop) .inv .1 ∙ length-set ((c .before .before .before .before .before .before .before .before .before .before .before .before .before .before .before .before .before .before .args) .left .now) 0 ((c .before .before .before .before .before .before .before .before .before .before .before .before .before .before .before .before .before .before .args) .l)) (((c .before .before .before .before .before .before .before .next-pair) .kept .1 .1 .1 .1 .1 .1 .1 .1 .1 .0) ∙ (c .before .before .before .before .before .before .before .before .before .before .loop) .inv .2 ∙ length-set ((c .before .before .before .before .before .before .before .before .before .before .before .before .before .before .before .before .before .before .args) .right .now) 0 ((c .before .before .before .before .before .before .before .before .before .before .before .before .before .before .before .before .before .before .args) .r)) in
     let w0 = w .0 in
     let w1 = w .1 in
-    let s0 = (c .before .before .before .before .before .before .before .before .before .before .before .before .before .before .before .before .before .before .pre) .1 .3 .0 in
-    let s1 = (c .before .before .before .before .before .before .before .before .before .before .before .before .before .before .before .before .before .before .pre) .1 .3 .1 in
-    let s2 = (c .before .before .before .before .before .before .before .before .before .before .before .before .before .before .before .before .before .before .pre) .1 .3 .2 in
-    let s3 = (c .before .before .before .before .before .before .before .before .before .before .before .before .before .before .before .before .before .before .pre) .1 .3 .3 in
-    let i1 = (c .before .before .before .before .before .before .before .before .before .before .loop) .inv .1 ∙ length-set ((c .before .before .before .before .before .before .before .before .before .before .before .before .before .before .before .before .before .before .args) .left .now) 0 ((c .before .before .before .before .before .before .before .before .before .before .before .before .before .before .before .before .before .before .args) .l) in
-    let i2 = (c .before .before .before .before .before .before .before .before .before .before .loop) .inv .2 ∙ length-set ((c .before .before .before .before .before .before .before .before .before .before .before .before .before .before .before .before .before .before .args) .right .now) 0 ((c .before .before .before .before .before .before .before .before .before .before .before .before .before .before .before .before .before .before .args) .r) in
-    let k1 = ((c .before .before .before .before .before .before .before .next-pair) .kept .1 .1 .1 .1 .1 .0) in
-    let k2 = ((c .before .before .before .before .before .before .before .next-pair) .kept .1 .1 .1 .1 .1 .1 .1 .1 .1 .0) in
+    let w2 = w .2 in
+    let w3 = w .3 in
     omega arith
 
 -- src/lib.rt:566:21
@@ -969,17 +957,11 @@ eq-stack-part-eq-value-start : (t : ℕ) → eq-stack-lts.Need-part-eq-value-sta
   eq-value.Post,
 ) (eq-stack-at t) eq-stack.Post eq-stack-Inv-loop eq-stack-μ-loop
 eq-stack-part-eq-value-start t c =
-    let w = (own-low (tab ((c .before .before .before .before .before .before .before .before .before .before .before .before .before .before .before .before .before .before .args) .rows .now) ((c .before .before .before .before .before .before .before .before .before .before .before .before .before .before .before .before .before .before .args) .parts .now)) (argsOf (tab ((c .before .before .before .before .before .before .before .before .before .before .before .before .before .before .before .before .before .before .args) .rows .now) ((c .before .before .before .before .before .before .before .before .before .before .before .before .before .before .before .before .before .before .args) .parts .now)) ((c .before .before .before .before .before .before .before .before .before .before .before .before .before .before .before .before .before .before .args) .args .now) ((c .before .before .before .before .before .before .before .before .before .before .before .before .before .before .before .before .before .before .args) .m)) ((c .before .before .before .before .before .before .before .before .before .before .before .before .before .before .before .before .before .before .args) .m) ((c .before .before .before .before .before .before .before .before .before .before .before .before .before .before .before .before .before .before .args) .by) ((c .before .before .before .before .before .before .before .before .before .before .before .before .before .before .before .before .before .before .args) .d) ((c .before .before .before .before .before .before .before .before .before .before .before .before .before .before .before .before .before .before .args) .l) ((c .before .before .before .before .before .before .before .before .before .before .before .before .before .before .before .before .before .before .args) .by2) ((c .before .before .before .before .before .before .before .before .before .before .before .before .before .before .before .before .before .before .args) .d2) ((c .before .before .before .before .before .before .before .before .before .before .before .before .before .before .before .before .before .before .args) .r) ((c .before .before .before .before .before .before .before .before .before .before .loop) .left) ((c .before .before .before .before .before .before .before .before .before .before .loop) .i) ((c .before .before .before .before .before .before .before .before .before .before .loop) .right) ((c .before .before .before .before .before .before .before .before .before .before .loop) .j) ((c .before .before .before .before .before .before .before .before .before .before .loop) .inv .0) ((c .before .before .before .before .before .before .before .next-pair) .last .1 .1 .1 .1 .1 .0) ((c .before .before .before .before .before .before .before .next-pair) .last .1 .1 .1 .1 .1 .1 .1 .1 .1 .0) ((c .before .before .before .before .before .before .before .next-pair) .result) ((c .before .s2) .given .0 .0) ((c .before .s2) .given .0 .1 .0) ((c .before .s2) .given .0 .1 .1 .0) ((c .before .s2) .given .0 .1 .1 .1 .0) ((c .before .before .before .before .before .before .before .next-pair) .ensures ((c .before .before .before .before .before .before .before .before .before .before .before .before .before .before .before .before .before .before .args) .parts .now)) ((c .before .s2) .given .1)) in
+    let w = own-room ((c .before .before .before .before .before .before .before .before .before .before .before .before .before .before .before .before .before .before .args) .m) (own-low (tab ((c .before .before .before .before .before .before .before .before .before .before .before .before .before .before .before .before .before .before .args) .rows .now) ((c .before .before .before .before .before .before .before .before .before .before .before .before .before .before .before .before .before .before .args) .parts .now)) (argsOf (tab ((c .before .before .before .before .before .before .before .before .before .before .before .before .before .before .before .before .before .before .args) .rows .now) ((c .before .before .before .before .before .before .before .before .before .before .before .before .before .before .before .before .before .before .args) .parts .now)) ((c .before .before .before .before .before .before .before .before .before .before .before .before .before .before .before .before .before .before .args) .args .now) ((c .before .before .before .before .before .before .before .before .before .before .before .before .before .before .before .before .before .before .args) .m)) ((c .before .before .before .before .before .before .before .before .before .before .before .before .before .before .before .before .before .before .args) .m) ((c .before .before .before .before .before .before .before .before .before .before .before .before .before .before .before .before .before .before .args) .by) ((c .before .before .before .before .before .before .before .before .before .before .before .before .before .before .before .before .before .before .args) .d) ((c .before .before .before .before .before .before .before .before .before .before .before .before .before .before .before .before .before .before .args) .l) ((c .before .before .before .before .before .before .before .before .before .before .before .before .before .before .before .before .before .before .args) .by2) ((c .before .before .before .before .before .before .before .before .before .before .before .before .before .before .before .before .before .before .args) .d2) ((c .before .before .before .before .before .before .before .before .before .before .before .before .before .before .before .before .before .before .args) .r) ((c .before .before .before .before .before .before .before .before .before .before .loop) .left) ((c .before .before .before .before .before .before .before .before .before .before .loop) .i) ((c .before .before .before .before .before .before .before .before .before .before .loop) .right) ((c .before .before .before .before .before .before .before .before .before .before .loop) .j) ((c .before .before .before .before .before .before .before .before .before .before .loop) .inv .0) ((c .before .before .before .before .before .before .before .next-pair) .last .1 .1 .1 .1 .1 .0) ((c .before .before .before .before .before .before .before .next-pair) .last .1 .1 .1 .1 .1 .1 .1 .1 .1 .0) ((c .before .before .before .before .before .before .before .next-pair) .result) ((c .before .s2) .given .0 .0) ((c .before .s2) .given .0 .1 .0) ((c .before .s2) .given .0 .1 .1 .0) ((c .before .s2) .given .0 .1 .1 .1 .0) ((c .before .before .before .before .before .before .before .next-pair) .ensures ((c .before .before .before .before .before .before .before .before .before .before .before .before .before .before .before .before .before .before .args) .parts .now)) ((c .before .s2) .given .1)) ((c .before .before .before .before .before .before .before .before .before .before .before .before .before .before .before .before .before .before .pre) .1 .3) (((c .before .before .before .before .before .before .before .next-pair) .kept .1 .1 .1 .1 .1 .0) ∙ (c .before .before .before .before .before .before .before .before .before .before .loop) .inv .1 ∙ length-set ((c .before .before .before .before .before .before .before .before .before .before .before .before .before .before .before .before .before .before .args) .left .now) 0 ((c .before .before .before .before .before .before .before .before .before .before .before .before .before .before .before .before .before .before .args) .l)) (((c .before .before .before .before .before .before .before .next-pair) .kept .1 .1 .1 .1 .1 .1 .1 .1 .1 .0) ∙ (c .before .before .before .before .before .before .before .before .before .before .loop) .inv .2 ∙ length-set ((c .before .before .before .before .before .before .before .before .before .before .before .before .before .before .before .before .before .before .args) .right .now) 0 ((c .before .before .before .before .before .before .before .before .before .before .before .before .before .before .before .before .before .before .args) .r)) in
     let w0 = w .0 in
     let w1 = w .1 in
-    let s0 = (c .before .before .before .before .before .before .before .before .before .before .before .before .before .before .before .before .before .before .pre) .1 .3 .0 in
-    let s1 = (c .before .before .before .before .before .before .before .before .before .before .before .before .before .before .before .before .before .before .pre) .1 .3 .1 in
-    let s2 = (c .before .before .before .before .before .before .before .before .before .before .before .before .before .before .before .before .before .before .pre) .1 .3 .2 in
-    let s3 = (c .before .before .before .before .before .before .before .before .before .before .before .before .before .before .before .before .before .before .pre) .1 .3 .3 in
-    let i1 = (c .before .before .before .before .before .before .before .before .before .before .loop) .inv .1 ∙ length-set ((c .before .before .before .before .before .before .before .before .before .before .before .before .before .before .before .before .before .before .args) .left .now) 0 ((c .before .before .before .before .before .before .before .before .before .before .before .before .before .before .before .before .before .before .args) .l) in
-    let i2 = (c .before .before .before .before .before .before .before .before .before .before .loop) .inv .2 ∙ length-set ((c .before .before .before .before .before .before .before .before .before .before .before .before .before .before .before .before .before .before .args) .right .now) 0 ((c .before .before .before .before .before .before .before .before .before .before .before .before .before .before .before .before .before .before .args) .r) in
-    let k1 = ((c .before .before .before .before .before .before .before .next-pair) .kept .1 .1 .1 .1 .1 .0) in
-    let k2 = ((c .before .before .before .before .before .before .before .next-pair) .kept .1 .1 .1 .1 .1 .1 .1 .1 .1 .0) in
+    let w2 = w .2 in
+    let w3 = w .3 in
     omega arith
 
 -- src/lib.rt:566:21
@@ -992,17 +974,11 @@ eq-stack-part-eq-value-end : (t : ℕ) → eq-stack-lts.Need-part-eq-value-end (
   eq-value.Post,
 ) (eq-stack-at t) eq-stack.Post eq-stack-Inv-loop eq-stack-μ-loop
 eq-stack-part-eq-value-end t c =
-    let w = (own-low (tab ((c .before .before .before .before .before .before .before .before .before .before .before .before .before .before .before .before .before .before .args) .rows .now) ((c .before .before .before .before .before .before .before .before .before .before .before .before .before .before .before .before .before .before .args) .parts .now)) (argsOf (tab ((c .before .before .before .before .before .before .before .before .before .before .before .before .before .before .before .before .before .before .args) .rows .now) ((c .before .before .before .before .before .before .before .before .before .before .before .before .before .before .before .before .before .before .args) .parts .now)) ((c .before .before .before .before .before .before .before .before .before .before .before .before .before .before .before .before .before .before .args) .args .now) ((c .before .before .before .before .before .before .before .before .before .before .before .before .before .before .before .before .before .before .args) .m)) ((c .before .before .before .before .before .before .before .before .before .before .before .before .before .before .before .before .before .before .args) .m) ((c .before .before .before .before .before .before .before .before .before .before .before .before .before .before .before .before .before .before .args) .by) ((c .before .before .before .before .before .before .before .before .before .before .before .before .before .before .before .before .before .before .args) .d) ((c .before .before .before .before .before .before .before .before .before .before .before .before .before .before .before .before .before .before .args) .l) ((c .before .before .before .before .before .before .before .before .before .before .before .before .before .before .before .before .before .before .args) .by2) ((c .before .before .before .before .before .before .before .before .before .before .before .before .before .before .before .before .before .before .args) .d2) ((c .before .before .before .before .before .before .before .before .before .before .before .before .before .before .before .before .before .before .args) .r) ((c .before .before .before .before .before .before .before .before .before .before .loop) .left) ((c .before .before .before .before .before .before .before .before .before .before .loop) .i) ((c .before .before .before .before .before .before .before .before .before .before .loop) .right) ((c .before .before .before .before .before .before .before .before .before .before .loop) .j) ((c .before .before .before .before .before .before .before .before .before .before .loop) .inv .0) ((c .before .before .before .before .before .before .before .next-pair) .last .1 .1 .1 .1 .1 .0) ((c .before .before .before .before .before .before .before .next-pair) .last .1 .1 .1 .1 .1 .1 .1 .1 .1 .0) ((c .before .before .before .before .before .before .before .next-pair) .result) ((c .before .s2) .given .0 .0) ((c .before .s2) .given .0 .1 .0) ((c .before .s2) .given .0 .1 .1 .0) ((c .before .s2) .given .0 .1 .1 .1 .0) ((c .before .before .before .before .before .before .before .next-pair) .ensures ((c .before .before .before .before .before .before .before .before .before .before .before .before .before .before .before .before .before .before .args) .parts .now)) ((c .before .s2) .given .1)) in
+    let w = own-room ((c .before .before .before .before .before .before .before .before .before .before .before .before .before .before .before .before .before .before .args) .m) (own-low (tab ((c .before .before .before .before .before .before .before .before .before .before .before .before .before .before .before .before .before .before .args) .rows .now) ((c .before .before .before .before .before .before .before .before .before .before .before .before .before .before .before .before .before .before .args) .parts .now)) (argsOf (tab ((c .before .before .before .before .before .before .before .before .before .before .before .before .before .before .before .before .before .before .args) .rows .now) ((c .before .before .before .before .before .before .before .before .before .before .before .before .before .before .before .before .before .before .args) .parts .now)) ((c .before .before .before .before .before .before .before .before .before .before .before .before .before .before .before .before .before .before .args) .args .now) ((c .before .before .before .before .before .before .before .before .before .before .before .before .before .before .before .before .before .before .args) .m)) ((c .before .before .before .before .before .before .before .before .before .before .before .before .before .before .before .before .before .before .args) .m) ((c .before .before .before .before .before .before .before .before .before .before .before .before .before .before .before .before .before .before .args) .by) ((c .before .before .before .before .before .before .before .before .before .before .before .before .before .before .before .before .before .before .args) .d) ((c .before .before .before .before .before .before .before .before .before .before .before .before .before .before .before .before .before .before .args) .l) ((c .before .before .before .before .before .before .before .before .before .before .before .before .before .before .before .before .before .before .args) .by2) ((c .before .before .before .before .before .before .before .before .before .before .before .before .before .before .before .before .before .before .args) .d2) ((c .before .before .before .before .before .before .before .before .before .before .before .before .before .before .before .before .before .before .args) .r) ((c .before .before .before .before .before .before .before .before .before .before .loop) .left) ((c .before .before .before .before .before .before .before .before .before .before .loop) .i) ((c .before .before .before .before .before .before .before .before .before .before .loop) .right) ((c .before .before .before .before .before .before .before .before .before .before .loop) .j) ((c .before .before .before .before .before .before .before .before .before .before .loop) .inv .0) ((c .before .before .before .before .before .before .before .next-pair) .last .1 .1 .1 .1 .1 .0) ((c .before .before .before .before .before .before .before .next-pair) .last .1 .1 .1 .1 .1 .1 .1 .1 .1 .0) ((c .before .before .before .before .before .before .before .next-pair) .result) ((c .before .s2) .given .0 .0) ((c .before .s2) .given .0 .1 .0) ((c .before .s2) .given .0 .1 .1 .0) ((c .before .s2) .given .0 .1 .1 .1 .0) ((c .before .before .before .before .before .before .before .next-pair) .ensures ((c .before .before .before .before .before .before .before .before .before .before .before .before .before .before .before .before .before .before .args) .parts .now)) ((c .before .s2) .given .1)) ((c .before .before .before .before .before .before .before .before .before .before .before .before .before .before .before .before .before .before .pre) .1 .3) (((c .before .before .before .before .before .before .before .next-pair) .kept .1 .1 .1 .1 .1 .0) ∙ (c .before .before .before .before .before .before .before .before .before .before .loop) .inv .1 ∙ length-set ((c .before .before .before .before .before .before .before .before .before .before .before .before .before .before .before .before .before .before .args) .left .now) 0 ((c .before .before .before .before .before .before .before .before .before .before .before .before .before .before .before .before .before .before .args) .l)) (((c .before .before .before .before .before .before .before .next-pair) .kept .1 .1 .1 .1 .1 .1 .1 .1 .1 .0) ∙ (c .before .before .before .before .before .before .before .before .before .before .loop) .inv .2 ∙ length-set ((c .before .before .before .before .before .before .before .before .before .before .before .before .before .before .before .before .before .before .args) .right .now) 0 ((c .before .before .before .before .before .before .before .before .before .before .before .before .before .before .before .before .before .before .args) .r)) in
     let w0 = w .0 in
     let w1 = w .1 in
-    let s0 = (c .before .before .before .before .before .before .before .before .before .before .before .before .before .before .before .before .before .before .pre) .1 .3 .0 in
-    let s1 = (c .before .before .before .before .before .before .before .before .before .before .before .before .before .before .before .before .before .before .pre) .1 .3 .1 in
-    let s2 = (c .before .before .before .before .before .before .before .before .before .before .before .before .before .before .before .before .before .before .pre) .1 .3 .2 in
-    let s3 = (c .before .before .before .before .before .before .before .before .before .before .before .before .before .before .before .before .before .before .pre) .1 .3 .3 in
-    let i1 = (c .before .before .before .before .before .before .before .before .before .before .loop) .inv .1 ∙ length-set ((c .before .before .before .before .before .before .before .before .before .before .before .before .before .before .before .before .before .before .args) .left .now) 0 ((c .before .before .before .before .before .before .before .before .before .before .before .before .before .before .before .before .before .before .args) .l) in
-    let i2 = (c .before .before .before .before .before .before .before .before .before .before .loop) .inv .2 ∙ length-set ((c .before .before .before .before .before .before .before .before .before .before .before .before .before .before .before .before .before .before .args) .right .now) 0 ((c .before .before .before .before .before .before .before .before .before .before .before .before .before .before .before .before .before .before .args) .r) in
-    let k1 = ((c .before .before .before .before .before .before .before .next-pair) .kept .1 .1 .1 .1 .1 .0) in
-    let k2 = ((c .before .before .before .before .before .before .before .next-pair) .kept .1 .1 .1 .1 .1 .1 .1 .1 .1 .0) in
+    let w2 = w .2 in
+    let w3 = w .3 in
     omega arith
 
 -- src/lib.rt:567:21
@@ -1015,17 +991,11 @@ eq-stack-mul-eq-value-2 : (t : ℕ) → eq-stack-lts.Need-mul-eq-value-2 (
   eq-value.Post,
 ) (eq-stack-at t) eq-stack.Post eq-stack-Inv-loop eq-stack-μ-loop
 eq-stack-mul-eq-value-2 t c =
-    let w = (own-low (tab ((c .before .before .before .before .before .before .before .before .before .before .before .before .before .before .before .before .before .before .before .args) .rows .now) ((c .before .before .before .before .before .before .before .before .before .before .before .before .before .before .before .before .before .before .before .args) .parts .now)) (argsOf (tab ((c .before .before .before .before .before .before .before .before .before .before .before .before .before .before .before .before .before .before .before .args) .rows .now) ((c .before .before .before .before .before .before .before .before .before .before .before .before .before .before .before .before .before .before .before .args) .parts .now)) ((c .before .before .before .before .before .before .before .before .before .before .before .before .before .before .before .before .before .before .before .args) .args .now) ((c .before .before .before .before .before .before .before .before .before .before .before .before .before .before .before .before .before .before .before .args) .m)) ((c .before .before .before .before .before .before .before .before .before .before .before .before .before .before .before .before .before .before .before .args) .m) ((c .before .before .before .before .before .before .before .before .before .before .before .before .before .before .before .before .before .before .before .args) .by) ((c .before .before .before .before .before .before .before .before .before .before .before .before .before .before .before .before .before .before .before .args) .d) ((c .before .before .before .before .before .before .before .before .before .before .before .before .before .before .before .before .before .before .before .args) .l) ((c .before .before .before .before .before .before .before .before .before .before .before .before .before .before .before .before .before .before .before .args) .by2) ((c .before .before .before .before .before .before .before .before .before .before .before .before .before .before .before .before .before .before .before .args) .d2) ((c .before .before .before .before .before .before .before .before .before .before .before .before .before .before .before .before .before .before .before .args) .r) ((c .before .before .before .before .before .before .before .before .before .before .before .loop) .left) ((c .before .before .before .before .before .before .before .before .before .before .before .loop) .i) ((c .before .before .before .before .before .before .before .before .before .before .before .loop) .right) ((c .before .before .before .before .before .before .before .before .before .before .before .loop) .j) ((c .before .before .before .before .before .before .before .before .before .before .before .loop) .inv .0) ((c .before .before .before .before .before .before .before .before .next-pair) .last .1 .1 .1 .1 .1 .0) ((c .before .before .before .before .before .before .before .before .next-pair) .last .1 .1 .1 .1 .1 .1 .1 .1 .1 .0) ((c .before .before .before .before .before .before .before .before .next-pair) .result) ((c .before .before .s2) .given .0 .0) ((c .before .before .s2) .given .0 .1 .0) ((c .before .before .s2) .given .0 .1 .1 .0) ((c .before .before .s2) .given .0 .1 .1 .1 .0) ((c .before .before .before .before .before .before .before .before .next-pair) .ensures ((c .before .before .before .before .before .before .before .before .before .before .before .before .before .before .before .before .before .before .before .args) .parts .now)) ((c .before .before .s2) .given .1)) in
+    let w = own-room ((c .before .before .before .before .before .before .before .before .before .before .before .before .before .before .before .before .before .before .before .args) .m) (own-low (tab ((c .before .before .before .before .before .before .before .before .before .before .before .before .before .before .before .before .before .before .before .args) .rows .now) ((c .before .before .before .before .before .before .before .before .before .before .before .before .before .before .before .before .before .before .before .args) .parts .now)) (argsOf (tab ((c .before .before .before .before .before .before .before .before .before .before .before .before .before .before .before .before .before .before .before .args) .rows .now) ((c .before .before .before .before .before .before .before .before .before .before .before .before .before .before .before .before .before .before .before .args) .parts .now)) ((c .before .before .before .before .before .before .before .before .before .before .before .before .before .before .before .before .before .before .before .args) .args .now) ((c .before .before .before .before .before .before .before .before .before .before .before .before .before .before .before .before .before .before .before .args) .m)) ((c .before .before .before .before .before .before .before .before .before .before .before .before .before .before .before .before .before .before .before .args) .m) ((c .before .before .before .before .before .before .before .before .before .before .before .before .before .before .before .before .before .before .before .args) .by) ((c .before .before .before .before .before .before .before .before .before .before .before .before .before .before .before .before .before .before .before .args) .d) ((c .before .before .before .before .before .before .before .before .before .before .before .before .before .before .before .before .before .before .before .args) .l) ((c .before .before .before .before .before .before .before .before .before .before .before .before .before .before .before .before .before .before .before .args) .by2) ((c .before .before .before .before .before .before .before .before .before .before .before .before .before .before .before .before .before .before .before .args) .d2) ((c .before .before .before .before .before .before .before .before .before .before .before .before .before .before .before .before .before .before .before .args) .r) ((c .before .before .before .before .before .before .before .before .before .before .before .loop) .left) ((c .before .before .before .before .before .before .before .before .before .before .before .loop) .i) ((c .before .before .before .before .before .before .before .before .before .before .before .loop) .right) ((c .before .before .before .before .before .before .before .before .before .before .before .loop) .j) ((c .before .before .before .before .before .before .before .before .before .before .before .loop) .inv .0) ((c .before .before .before .before .before .before .before .before .next-pair) .last .1 .1 .1 .1 .1 .0) ((c .before .before .before .before .before .before .before .before .next-pair) .last .1 .1 .1 .1 .1 .1 .1 .1 .1 .0) ((c .before .before .before .before .before .before .before .before .next-pair) .result) ((c .before .before .s2) .given .0 .0) ((c .before .before .s2) .given .0 .1 .0) ((c .before .before .s2) .given .0 .1 .1 .0) ((c .before .before .s2) .given .0 .1 .1 .1 .0) ((c .before .before .before .before .before .before .before .before .next-pair) .ensures ((c .before .before .before .before .before .before .before .before .before .before .before .before .before .before .before .before .before .before .before .args) .parts .now)) ((c .before .before .s2) .given .1)) ((c .before .before .before .before .before .before .before .before .before .before .before .before .before .before .before .before .before .before .before .pre) .1 .3) (((c .before .before .before .before .before .before .before .before .next-pair) .kept .1 .1 .1 .1 .1 .0) ∙ (c .before .before .before .before .before .before .before .before .before .before .before .loop) .inv .1 ∙ length-set ((c .before .before .before .before .before .before .before .before .before .before .before .before .before .before .before .before .before .before .before .args) .left .now) 0 ((c .before .before .before .before .before .before .before .before .before .before .before .before .before .before .before .before .before .before .before .args) .l)) (((c .before .before .before .before .before .before .before .before .next-pair) .kept .1 .1 .1 .1 .1 .1 .1 .1 .1 .0) ∙ (c .before .before .before .before .before .before .before .before .before .before .before .loop) .inv .2 ∙ length-set ((c .before .before .before .before .before .before .before .before .before .before .before .before .before .before .before .before .before .before .before .args) .right .now) 0 ((c .before .before .before .before .before .before .before .before .before .before .before .before .before .before .before .before .before .before .before .args) .r)) in
     let w0 = w .0 in
     let w1 = w .1 in
-    let s0 = (c .before .before .before .before .before .before .before .before .before .before .before .before .before .before .before .before .before .before .before .pre) .1 .3 .0 in
-    let s1 = (c .before .before .before .before .before .before .before .before .before .before .before .before .before .before .before .before .before .before .before .pre) .1 .3 .1 in
-    let s2 = (c .before .before .before .before .before .before .before .before .before .before .before .before .before .before .before .before .before .before .before .pre) .1 .3 .2 in
-    let s3 = (c .before .before .before .before .before .before .before .before .before .before .before .before .before .before .before .before .before .before .before .pre) .1 .3 .3 in
-    let i1 = (c .before .before .before .before .before .before .before .before .before .before .before .loop) .inv .1 ∙ length-set ((c .before .before .before .before .before .before .before .before .before .before .before .before .before .before .before .before .before .before .before .args) .left .now) 0 ((c .before .before .before .before .before .before .before .before .before .before .before .before .before .before .before .before .before .before .before .args) .l) in
-    let i2 = (c .before .before .before .before .before .before .before .before .before .before .before .loop) .inv .2 ∙ length-set ((c .before .before .before .before .before .before .before .before .before .before .before .before .before .before .before .before .before .before .before .args) .right .now) 0 ((c .before .before .before .before .before .before .before .before .before .before .before .before .before .before .before .before .before .before .before .args) .r) in
-    let k1 = ((c .before .before .before .before .before .before .before .before .next-pair) .kept .1 .1 .1 .1 .1 .0) in
-    let k2 = ((c .before .before .before .before .before .before .before .before .next-pair) .kept .1 .1 .1 .1 .1 .1 .1 .1 .1 .0) in
+    let w2 = w .2 in
+    let w3 = w .3 in
     record { fits = omega arith }
 
 -- src/lib.rt:567:21
@@ -1038,17 +1008,11 @@ eq-stack-sub-eq-value-2 : (t : ℕ) → eq-stack-lts.Need-sub-eq-value-2 (
   eq-value.Post,
 ) (eq-stack-at t) eq-stack.Post eq-stack-Inv-loop eq-stack-μ-loop
 eq-stack-sub-eq-value-2 t c =
-    let w = (own-low (tab ((c .before .before .before .before .before .before .before .before .before .before .before .before .before .before .before .before .before .before .before .args) .rows .now) ((c .before .before .before .before .before .before .before .before .before .before .before .before .before .before .before .before .before .before .before .args) .parts .now)) (argsOf (tab ((c .before .before .before .before .before .before .before .before .before .before .before .before .before .before .before .before .before .before .before .args) .rows .now) ((c .before .before .before .before .before .before .before .before .before .before .before .before .before .before .before .before .before .before .before .args) .parts .now)) ((c .before .before .before .before .before .before .before .before .before .before .before .before .before .before .before .before .before .before .before .args) .args .now) ((c .before .before .before .before .before .before .before .before .before .before .before .before .before .before .before .before .before .before .before .args) .m)) ((c .before .before .before .before .before .before .before .before .before .before .before .before .before .before .before .before .before .before .before .args) .m) ((c .before .before .before .before .before .before .before .before .before .before .before .before .before .before .before .before .before .before .before .args) .by) ((c .before .before .before .before .before .before .before .before .before .before .before .before .before .before .before .before .before .before .before .args) .d) ((c .before .before .before .before .before .before .before .before .before .before .before .before .before .before .before .before .before .before .before .args) .l) ((c .before .before .before .before .before .before .before .before .before .before .before .before .before .before .before .before .before .before .before .args) .by2) ((c .before .before .before .before .before .before .before .before .before .before .before .before .before .before .before .before .before .before .before .args) .d2) ((c .before .before .before .before .before .before .before .before .before .before .before .before .before .before .before .before .before .before .before .args) .r) ((c .before .before .before .before .before .before .before .before .before .before .before .loop) .left) ((c .before .before .before .before .before .before .before .before .before .before .before .loop) .i) ((c .before .before .before .before .before .before .before .before .before .before .before .loop) .right) ((c .before .before .before .before .before .before .before .before .before .before .before .loop) .j) ((c .before .before .before .before .before .before .before .before .before .before .before .loop) .inv .0) ((c .before .before .before .before .before .before .before .before .next-pair) .last .1 .1 .1 .1 .1 .0) ((c .before .before .before .before .before .before .before .before .next-pair) .last .1 .1 .1 .1 .1 .1 .1 .1 .1 .0) ((c .before .before .before .before .before .before .before .before .next-pair) .result) ((c .before .before .s2) .given .0 .0) ((c .before .before .s2) .given .0 .1 .0) ((c .before .before .s2) .given .0 .1 .1 .0) ((c .before .before .s2) .given .0 .1 .1 .1 .0) ((c .before .before .before .before .before .before .before .before .next-pair) .ensures ((c .before .before .before .before .before .before .before .before .before .before .before .before .before .before .before .before .before .before .before .args) .parts .now)) ((c .before .before .s2) .given .1)) in
+    let w = own-room ((c .before .before .before .before .before .before .before .before .before .before .before .before .before .before .before .before .before .before .before .args) .m) (own-low (tab ((c .before .before .before .before .before .before .before .before .before .before .before .before .before .before .before .before .before .before .before .args) .rows .now) ((c .before .before .before .before .before .before .before .before .before .before .before .before .before .before .before .before .before .before .before .args) .parts .now)) (argsOf (tab ((c .before .before .before .before .before .before .before .before .before .before .before .before .before .before .before .before .before .before .before .args) .rows .now) ((c .before .before .before .before .before .before .before .before .before .before .before .before .before .before .before .before .before .before .before .args) .parts .now)) ((c .before .before .before .before .before .before .before .before .before .before .before .before .before .before .before .before .before .before .before .args) .args .now) ((c .before .before .before .before .before .before .before .before .before .before .before .before .before .before .before .before .before .before .before .args) .m)) ((c .before .before .before .before .before .before .before .before .before .before .before .before .before .before .before .before .before .before .before .args) .m) ((c .before .before .before .before .before .before .before .before .before .before .before .before .before .before .before .before .before .before .before .args) .by) ((c .before .before .before .before .before .before .before .before .before .before .before .before .before .before .before .before .before .before .before .args) .d) ((c .before .before .before .before .before .before .before .before .before .before .before .before .before .before .before .before .before .before .before .args) .l) ((c .before .before .before .before .before .before .before .before .before .before .before .before .before .before .before .before .before .before .before .args) .by2) ((c .before .before .before .before .before .before .before .before .before .before .before .before .before .before .before .before .before .before .before .args) .d2) ((c .before .before .before .before .before .before .before .before .before .before .before .before .before .before .before .before .before .before .before .args) .r) ((c .before .before .before .before .before .before .before .before .before .before .before .loop) .left) ((c .before .before .before .before .before .before .before .before .before .before .before .loop) .i) ((c .before .before .before .before .before .before .before .before .before .before .before .loop) .right) ((c .before .before .before .before .before .before .before .before .before .before .before .loop) .j) ((c .before .before .before .before .before .before .before .before .before .before .before .loop) .inv .0) ((c .before .before .before .before .before .before .before .before .next-pair) .last .1 .1 .1 .1 .1 .0) ((c .before .before .before .before .before .before .before .before .next-pair) .last .1 .1 .1 .1 .1 .1 .1 .1 .1 .0) ((c .before .before .before .before .before .before .before .before .next-pair) .result) ((c .before .before .s2) .given .0 .0) ((c .before .before .s2) .given .0 .1 .0) ((c .before .before .s2) .given .0 .1 .1 .0) ((c .before .before .s2) .given .0 .1 .1 .1 .0) ((c .before .before .before .before .before .before .before .before .next-pair) .ensures ((c .before .before .before .before .before .before .before .before .before .before .before .before .before .before .before .before .before .before .before .args) .parts .now)) ((c .before .before .s2) .given .1)) ((c .before .before .before .before .before .before .before .before .before .before .before .before .before .before .before .before .before .before .before .pre) .1 .3) (((c .before .before .before .before .before .before .before .before .next-pair) .kept .1 .1 .1 .1 .1 .0) ∙ (c .before .before .before .before .before .before .before .before .before .before .before .loop) .inv .1 ∙ length-set ((c .before .before .before .before .before .before .before .before .before .before .before .before .before .before .before .before .before .before .before .args) .left .now) 0 ((c .before .before .before .before .before .before .before .before .before .before .before .before .before .before .before .before .before .before .before .args) .l)) (((c .before .before .before .before .before .before .before .before .next-pair) .kept .1 .1 .1 .1 .1 .1 .1 .1 .1 .0) ∙ (c .before .before .before .before .before .before .before .before .before .before .before .loop) .inv .2 ∙ length-set ((c .before .before .before .before .before .before .before .before .before .before .before .before .before .before .before .before .before .before .before .args) .right .now) 0 ((c .before .before .before .before .before .before .before .before .before .before .before .before .before .before .before .before .before .before .before .args) .r)) in
     let w0 = w .0 in
     let w1 = w .1 in
-    let s0 = (c .before .before .before .before .before .before .before .before .before .before .before .before .before .before .before .before .before .before .before .pre) .1 .3 .0 in
-    let s1 = (c .before .before .before .before .before .before .before .before .before .before .before .before .before .before .before .before .before .before .before .pre) .1 .3 .1 in
-    let s2 = (c .before .before .before .before .before .before .before .before .before .before .before .before .before .before .before .before .before .before .before .pre) .1 .3 .2 in
-    let s3 = (c .before .before .before .before .before .before .before .before .before .before .before .before .before .before .before .before .before .before .before .pre) .1 .3 .3 in
-    let i1 = (c .before .before .before .before .before .before .before .before .before .before .before .loop) .inv .1 ∙ length-set ((c .before .before .before .before .before .before .before .before .before .before .before .before .before .before .before .before .before .before .before .args) .left .now) 0 ((c .before .before .before .before .before .before .before .before .before .before .before .before .before .before .before .before .before .before .before .args) .l) in
-    let i2 = (c .before .before .before .before .before .before .before .before .before .before .before .loop) .inv .2 ∙ length-set ((c .before .before .before .before .before .before .before .before .before .before .before .before .before .before .before .before .before .before .before .args) .right .now) 0 ((c .before .before .before .before .before .before .before .before .before .before .before .before .before .before .before .before .before .before .before .args) .r) in
-    let k1 = ((c .before .before .before .before .before .before .before .before .next-pair) .kept .1 .1 .1 .1 .1 .0) in
-    let k2 = ((c .before .before .before .before .before .before .before .before .next-pair) .kept .1 .1 .1 .1 .1 .1 .1 .1 .1 .0) in
+    let w2 = w .2 in
+    let w3 = w .3 in
     omega arith
 
 -- src/lib.rt:567:21
@@ -1061,17 +1025,11 @@ eq-stack-part-eq-value-start-2 : (t : ℕ) → eq-stack-lts.Need-part-eq-value-s
   eq-value.Post,
 ) (eq-stack-at t) eq-stack.Post eq-stack-Inv-loop eq-stack-μ-loop
 eq-stack-part-eq-value-start-2 t c =
-    let w = (own-low (tab ((c .before .before .before .before .before .before .before .before .before .before .before .before .before .before .before .before .before .before .before .args) .rows .now) ((c .before .before .before .before .before .before .before .before .before .before .before .before .before .before .before .before .before .before .before .args) .parts .now)) (argsOf (tab ((c .before .before .before .before .before .before .before .before .before .before .before .before .before .before .before .before .before .before .before .args) .rows .now) ((c .before .before .before .before .before .before .before .before .before .before .before .before .before .before .before .before .before .before .before .args) .parts .now)) ((c .before .before .before .before .before .before .before .before .before .before .before .before .before .before .before .before .before .before .before .args) .args .now) ((c .before .before .before .before .before .before .before .before .before .before .before .before .before .before .before .before .before .before .before .args) .m)) ((c .before .before .before .before .before .before .before .before .before .before .before .before .before .before .before .before .before .before .before .args) .m) ((c .before .before .before .before .before .before .before .before .before .before .before .before .before .before .before .before .before .before .before .args) .by) ((c .before .before .before .before .before .before .before .before .before .before .before .before .before .before .before .before .before .before .before .args) .d) ((c .before .before .before .before .before .before .before .before .before .before .before .before .before .before .before .before .before .before .before .args) .l) ((c .before .before .before .before .before .before .before .before .before .before .before .before .before .before .before .before .before .before .before .args) .by2) ((c .before .before .before .before .before .before .before .before .before .before .before .before .before .before .before .before .before .before .before .args) .d2) ((c .before .before .before .before .before .before .before .before .before .before .before .before .before .before .before .before .before .before .before .args) .r) ((c .before .before .before .before .before .before .before .before .before .before .before .loop) .left) ((c .before .before .before .before .before .before .before .before .before .before .before .loop) .i) ((c .before .before .before .before .before .before .before .before .before .before .before .loop) .right) ((c .before .before .before .before .before .before .before .before .before .before .before .loop) .j) ((c .before .before .before .before .before .before .before .before .before .before .before .loop) .inv .0) ((c .before .before .before .before .before .before .before .before .next-pair) .last .1 .1 .1 .1 .1 .0) ((c .before .before .before .before .before .before .before .before .next-pair) .last .1 .1 .1 .1 .1 .1 .1 .1 .1 .0) ((c .before .before .before .before .before .before .before .before .next-pair) .result) ((c .before .before .s2) .given .0 .0) ((c .before .before .s2) .given .0 .1 .0) ((c .before .before .s2) .given .0 .1 .1 .0) ((c .before .before .s2) .given .0 .1 .1 .1 .0) ((c .before .before .before .before .before .before .before .before .next-pair) .ensures ((c .before .before .before .before .before .before .before .before .before .before .before .before .before .before .before .before .before .before .before .args) .parts .now)) ((c .before .before .s2) .given .1)) in
+    let w = own-room ((c .before .before .before .before .before .before .before .before .before .before .before .before .before .before .before .before .before .before .before .args) .m) (own-low (tab ((c .before .before .before .before .before .before .before .before .before .before .before .before .before .before .before .before .before .before .before .args) .rows .now) ((c .before .before .before .before .before .before .before .before .before .before .before .before .before .before .before .before .before .before .before .args) .parts .now)) (argsOf (tab ((c .before .before .before .before .before .before .before .before .before .before .before .before .before .before .before .before .before .before .before .args) .rows .now) ((c .before .before .before .before .before .before .before .before .before .before .before .before .before .before .before .before .before .before .before .args) .parts .now)) ((c .before .before .before .before .before .before .before .before .before .before .before .before .before .before .before .before .before .before .before .args) .args .now) ((c .before .before .before .before .before .before .before .before .before .before .before .before .before .before .before .before .before .before .before .args) .m)) ((c .before .before .before .before .before .before .before .before .before .before .before .before .before .before .before .before .before .before .before .args) .m) ((c .before .before .before .before .before .before .before .before .before .before .before .before .before .before .before .before .before .before .before .args) .by) ((c .before .before .before .before .before .before .before .before .before .before .before .before .before .before .before .before .before .before .before .args) .d) ((c .before .before .before .before .before .before .before .before .before .before .before .before .before .before .before .before .before .before .before .args) .l) ((c .before .before .before .before .before .before .before .before .before .before .before .before .before .before .before .before .before .before .before .args) .by2) ((c .before .before .before .before .before .before .before .before .before .before .before .before .before .before .before .before .before .before .before .args) .d2) ((c .before .before .before .before .before .before .before .before .before .before .before .before .before .before .before .before .before .before .before .args) .r) ((c .before .before .before .before .before .before .before .before .before .before .before .loop) .left) ((c .before .before .before .before .before .before .before .before .before .before .before .loop) .i) ((c .before .before .before .before .before .before .before .before .before .before .before .loop) .right) ((c .before .before .before .before .before .before .before .before .before .before .before .loop) .j) ((c .before .before .before .before .before .before .before .before .before .before .before .loop) .inv .0) ((c .before .before .before .before .before .before .before .before .next-pair) .last .1 .1 .1 .1 .1 .0) ((c .before .before .before .before .before .before .before .before .next-pair) .last .1 .1 .1 .1 .1 .1 .1 .1 .1 .0) ((c .before .before .before .before .before .before .before .before .next-pair) .result) ((c .before .before .s2) .given .0 .0) ((c .before .before .s2) .given .0 .1 .0) ((c .before .before .s2) .given .0 .1 .1 .0) ((c .before .before .s2) .given .0 .1 .1 .1 .0) ((c .before .before .before .before .before .before .before .before .next-pair) .ensures ((c .before .before .before .before .before .before .before .before .before .before .before .before .before .before .before .before .before .before .before .args) .parts .now)) ((c .before .before .s2) .given .1)) ((c .before .before .before .before .before .before .before .before .before .before .before .before .before .before .before .before .before .before .before .pre) .1 .3) (((c .before .before .before .before .before .before .before .before .next-pair) .kept .1 .1 .1 .1 .1 .0) ∙ (c .before .before .before .before .before .before .before .before .before .before .before .loop) .inv .1 ∙ length-set ((c .before .before .before .before .before .before .before .before .before .before .before .before .before .before .before .before .before .before .before .args) .left .now) 0 ((c .before .before .before .before .before .before .before .before .before .before .before .before .before .before .before .before .before .before .before .args) .l)) (((c .before .before .before .before .before .before .before .before .next-pair) .kept .1 .1 .1 .1 .1 .1 .1 .1 .1 .0) ∙ (c .before .before .before .before .before .before .before .before .before .before .before .loop) .inv .2 ∙ length-set ((c .before .before .before .before .before .before .before .before .before .before .before .before .before .before .before .before .before .before .before .args) .right .now) 0 ((c .before .before .before .before .before .before .before .before .before .before .before .before .before .before .before .before .before .before .before .args) .r)) in
     let w0 = w .0 in
     let w1 = w .1 in
-    let s0 = (c .before .before .before .before .before .before .before .before .before .before .before .before .before .before .before .before .before .before .before .pre) .1 .3 .0 in
-    let s1 = (c .before .before .before .before .before .before .before .before .before .before .before .before .before .before .before .before .before .before .before .pre) .1 .3 .1 in
-    let s2 = (c .before .before .before .before .before .before .before .before .before .before .before .before .before .before .before .before .before .before .before .pre) .1 .3 .2 in
-    let s3 = (c .before .before .before .before .before .before .before .before .before .before .before .before .before .before .before .before .before .before .before .pre) .1 .3 .3 in
-    let i1 = (c .before .before .before .before .before .before .before .before .before .before .before .loop) .inv .1 ∙ length-set ((c .before .before .before .before .before .before .before .before .before .before .before .before .before .before .before .before .before .before .before .args) .left .now) 0 ((c .before .before .before .before .before .before .before .before .before .before .before .before .before .before .before .before .before .before .before .args) .l) in
-    let i2 = (c .before .before .before .before .before .before .before .before .before .before .before .loop) .inv .2 ∙ length-set ((c .before .before .before .before .before .before .before .before .before .before .before .before .before .before .before .before .before .before .before .args) .right .now) 0 ((c .before .before .before .before .before .before .before .before .before .before .before .before .before .before .before .before .before .before .before .args) .r) in
-    let k1 = ((c .before .before .before .before .before .before .before .before .next-pair) .kept .1 .1 .1 .1 .1 .0) in
-    let k2 = ((c .before .before .before .before .before .before .before .before .next-pair) .kept .1 .1 .1 .1 .1 .1 .1 .1 .1 .0) in
+    let w2 = w .2 in
+    let w3 = w .3 in
     omega arith
 
 -- src/lib.rt:567:21
@@ -1084,17 +1042,11 @@ eq-stack-part-eq-value-end-2 : (t : ℕ) → eq-stack-lts.Need-part-eq-value-end
   eq-value.Post,
 ) (eq-stack-at t) eq-stack.Post eq-stack-Inv-loop eq-stack-μ-loop
 eq-stack-part-eq-value-end-2 t c =
-    let w = (own-low (tab ((c .before .before .before .before .before .before .before .before .before .before .before .before .before .before .before .before .before .before .before .args) .rows .now) ((c .before .before .before .before .before .before .before .before .before .before .before .before .before .before .before .before .before .before .before .args) .parts .now)) (argsOf (tab ((c .before .before .before .before .before .before .before .before .before .before .before .before .before .before .before .before .before .before .before .args) .rows .now) ((c .before .before .before .before .before .before .before .before .before .before .before .before .before .before .before .before .before .before .before .args) .parts .now)) ((c .before .before .before .before .before .before .before .before .before .before .before .before .before .before .before .before .before .before .before .args) .args .now) ((c .before .before .before .before .before .before .before .before .before .before .before .before .before .before .before .before .before .before .before .args) .m)) ((c .before .before .before .before .before .before .before .before .before .before .before .before .before .before .before .before .before .before .before .args) .m) ((c .before .before .before .before .before .before .before .before .before .before .before .before .before .before .before .before .before .before .before .args) .by) ((c .before .before .before .before .before .before .before .before .before .before .before .before .before .before .before .before .before .before .before .args) .d) ((c .before .before .before .before .before .before .before .before .before .before .before .before .before .before .before .before .before .before .before .args) .l) ((c .before .before .before .before .before .before .before .before .before .before .before .before .before .before .before .before .before .before .before .args) .by2) ((c .before .before .before .before .before .before .before .before .before .before .before .before .before .before .before .before .before .before .before .args) .d2) ((c .before .before .before .before .before .before .before .before .before .before .before .before .before .before .before .before .before .before .before .args) .r) ((c .before .before .before .before .before .before .before .before .before .before .before .loop) .left) ((c .before .before .before .before .before .before .before .before .before .before .before .loop) .i) ((c .before .before .before .before .before .before .before .before .before .before .before .loop) .right) ((c .before .before .before .before .before .before .before .before .before .before .before .loop) .j) ((c .before .before .before .before .before .before .before .before .before .before .before .loop) .inv .0) ((c .before .before .before .before .before .before .before .before .next-pair) .last .1 .1 .1 .1 .1 .0) ((c .before .before .before .before .before .before .before .before .next-pair) .last .1 .1 .1 .1 .1 .1 .1 .1 .1 .0) ((c .before .before .before .before .before .before .before .before .next-pair) .result) ((c .before .before .s2) .given .0 .0) ((c .before .before .s2) .given .0 .1 .0) ((c .before .before .s2) .given .0 .1 .1 .0) ((c .before .before .s2) .given .0 .1 .1 .1 .0) ((c .before .before .before .before .before .before .before .before .next-pair) .ensures ((c .before .before .before .before .before .before .before .before .before .before .before .before .before .before .before .before .before .before .before .args) .parts .now)) ((c .before .before .s2) .given .1)) in
+    let w = own-room ((c .before .before .before .before .before .before .before .before .before .before .before .before .before .before .before .before .before .before .before .args) .m) (own-low (tab ((c .before .before .before .before .before .before .before .before .before .before .before .before .before .before .before .before .before .before .before .args) .rows .now) ((c .before .before .before .before .before .before .before .before .before .before .before .before .before .before .before .before .before .before .before .args) .parts .now)) (argsOf (tab ((c .before .before .before .before .before .before .before .before .before .before .before .before .before .before .before .before .before .before .before .args) .rows .now) ((c .before .before .before .before .before .before .before .before .before .before .before .before .before .before .before .before .before .before .before .args) .parts .now)) ((c .before .before .before .before .before .before .before .before .before .before .before .before .before .before .before .before .before .before .before .args) .args .now) ((c .before .before .before .before .before .before .before .before .before .before .before .before .before .before .before .before .before .before .before .args) .m)) ((c .before .before .before .before .before .before .before .before .before .before .before .before .before .before .before .before .before .before .before .args) .m) ((c .before .before .before .before .before .before .before .before .before .before .before .before .before .before .before .before .before .before .before .args) .by) ((c .before .before .before .before .before .before .before .before .before .before .before .before .before .before .before .before .before .before .before .args) .d) ((c .before .before .before .before .before .before .before .before .before .before .before .before .before .before .before .before .before .before .before .args) .l) ((c .before .before .before .before .before .before .before .before .before .before .before .before .before .before .before .before .before .before .before .args) .by2) ((c .before .before .before .before .before .before .before .before .before .before .before .before .before .before .before .before .before .before .before .args) .d2) ((c .before .before .before .before .before .before .before .before .before .before .before .before .before .before .before .before .before .before .before .args) .r) ((c .before .before .before .before .before .before .before .before .before .before .before .loop) .left) ((c .before .before .before .before .before .before .before .before .before .before .before .loop) .i) ((c .before .before .before .before .before .before .before .before .before .before .before .loop) .right) ((c .before .before .before .before .before .before .before .before .before .before .before .loop) .j) ((c .before .before .before .before .before .before .before .before .before .before .before .loop) .inv .0) ((c .before .before .before .before .before .before .before .before .next-pair) .last .1 .1 .1 .1 .1 .0) ((c .before .before .before .before .before .before .before .before .next-pair) .last .1 .1 .1 .1 .1 .1 .1 .1 .1 .0) ((c .before .before .before .before .before .before .before .before .next-pair) .result) ((c .before .before .s2) .given .0 .0) ((c .before .before .s2) .given .0 .1 .0) ((c .before .before .s2) .given .0 .1 .1 .0) ((c .before .before .s2) .given .0 .1 .1 .1 .0) ((c .before .before .before .before .before .before .before .before .next-pair) .ensures ((c .before .before .before .before .before .before .before .before .before .before .before .before .before .before .before .before .before .before .before .args) .parts .now)) ((c .before .before .s2) .given .1)) ((c .before .before .before .before .before .before .before .before .before .before .before .before .before .before .before .before .before .before .before .pre) .1 .3) (((c .before .before .before .before .before .before .before .before .next-pair) .kept .1 .1 .1 .1 .1 .0) ∙ (c .before .before .before .before .before .before .before .before .before .before .before .loop) .inv .1 ∙ length-set ((c .before .before .before .before .before .before .before .before .before .before .before .before .before .before .before .before .before .before .before .args) .left .now) 0 ((c .before .before .before .before .before .before .before .before .before .before .before .before .before .before .before .before .before .before .before .args) .l)) (((c .before .before .before .before .before .before .before .before .next-pair) .kept .1 .1 .1 .1 .1 .1 .1 .1 .1 .0) ∙ (c .before .before .before .before .before .before .before .before .before .before .before .loop) .inv .2 ∙ length-set ((c .before .before .before .before .before .before .before .before .before .before .before .before .before .before .before .before .before .before .before .args) .right .now) 0 ((c .before .before .before .before .before .before .before .before .before .before .before .before .before .before .before .before .before .before .before .args) .r)) in
     let w0 = w .0 in
     let w1 = w .1 in
-    let s0 = (c .before .before .before .before .before .before .before .before .before .before .before .before .before .before .before .before .before .before .before .pre) .1 .3 .0 in
-    let s1 = (c .before .before .before .before .before .before .before .before .before .before .before .before .before .before .before .before .before .before .before .pre) .1 .3 .1 in
-    let s2 = (c .before .before .before .before .before .before .before .before .before .before .before .before .before .before .before .before .before .before .before .pre) .1 .3 .2 in
-    let s3 = (c .before .before .before .before .before .before .before .before .before .before .before .before .before .before .before .before .before .before .before .pre) .1 .3 .3 in
-    let i1 = (c .before .before .before .before .before .before .before .before .before .before .before .loop) .inv .1 ∙ length-set ((c .before .before .before .before .before .before .before .before .before .before .before .before .before .before .before .before .before .before .before .args) .left .now) 0 ((c .before .before .before .before .before .before .before .before .before .before .before .before .before .before .before .before .before .before .before .args) .l) in
-    let i2 = (c .before .before .before .before .before .before .before .before .before .before .before .loop) .inv .2 ∙ length-set ((c .before .before .before .before .before .before .before .before .before .before .before .before .before .before .before .before .before .before .before .args) .right .now) 0 ((c .before .before .before .before .before .before .before .before .before .before .before .before .before .before .before .before .before .before .before .args) .r) in
-    let k1 = ((c .before .before .before .before .before .before .before .before .next-pair) .kept .1 .1 .1 .1 .1 .0) in
-    let k2 = ((c .before .before .before .before .before .before .before .before .next-pair) .kept .1 .1 .1 .1 .1 .1 .1 .1 .1 .0) in
+    let w2 = w .2 in
+    let w3 = w .3 in
     omega arith
 
 -- src/lib.rt:555:21
@@ -1158,17 +1110,11 @@ eq-stack-loop-less-2 : (t : ℕ) → eq-stack-lts.Need-loop-less-2 (
   eq-value.Post,
 ) (eq-stack-at t) eq-stack.Post eq-stack-Inv-loop eq-stack-μ-loop
 eq-stack-loop-less-2 t c =
-    let w = (own-low (tab ((c .before .before .before .before .before .before .before .before .before .before .before .before .before .before .before .before .before .before .before .before .before .before .before .before .before .before .args) .rows .now) ((c .before .before .before .before .before .before .before .before .before .before .before .before .before .before .before .before .before .before .before .before .before .before .before .before .before .before .args) .parts .now)) (argsOf (tab ((c .before .before .before .before .before .before .before .before .before .before .before .before .before .before .before .before .before .before .before .before .before .before .before .before .before .before .args) .rows .now) ((c .before .before .before .before .before .before .before .before .before .before .before .before .before .before .before .before .before .before .before .before .before .before .before .before .before .before .args) .parts .now)) ((c .before .before .before .before .before .before .before .before .before .before .before .before .before .before .before .before .before .before .before .before .before .before .before .before .before .before .args) .args .now) ((c .before .before .before .before .before .before .before .before .before .before .before .before .before .before .before .before .before .before .before .before .before .before .before .before .before .before .args) .m)) ((c .before .before .before .before .before .before .before .before .before .before .before .before .before .before .before .before .before .before .before .before .before .before .before .before .before .before .args) .m) ((c .before .before .before .before .before .before .before .before .before .before .before .before .before .before .before .before .before .before .before .before .before .before .before .before .before .before .args) .by) ((c .before .before .before .before .before .before .before .before .before .before .before .before .before .before .before .before .before .before .before .before .before .before .before .before .before .before .args) .d) ((c .before .before .before .before .before .before .before .before .before .before .before .before .before .before .before .before .before .before .before .before .before .before .before .before .before .before .args) .l) ((c .before .before .before .before .before .before .before .before .before .before .before .before .before .before .before .before .before .before .before .before .before .before .before .before .before .before .args) .by2) ((c .before .before .before .before .before .before .before .before .before .before .before .before .before .before .before .before .before .before .before .before .before .before .before .before .before .before .args) .d2) ((c .before .before .before .before .before .before .before .before .before .before .before .before .before .before .before .before .before .before .before .before .before .before .before .before .before .before .args) .r) ((c .before .before .before .before .before .before .before .before .before .before .before .before .before .before .before .before .before .before .loop) .left) ((c .before .before .before .before .before .before .before .before .before .before .before .before .before .before .before .before .before .before .loop) .i) ((c .before .before .before .before .before .before .before .before .before .before .before .before .before .before .before .before .before .before .loop) .right) ((c .before .before .before .before .before .before .before .before .before .before .before .before .before .before .before .before .before .before .loop) .j) ((c .before .before .before .before .before .before .before .before .before .before .before .before .before .before .before .before .before .before .loop) .inv .0) ((c .before .before .before .before .before .before .before .before .before .before .before .before .before .before .before .next-pair) .last .1 .1 .1 .1 .1 .0) ((c .before .before .before .before .before .before .before .before .before .before .before .before .before .before .before .next-pair) .last .1 .1 .1 .1 .1 .1 .1 .1 .1 .0) ((c .before .before .before .before .before .before .before .before .before .before .before .before .before .before .before .next-pair) .result) ((c .before .before .before .before .before .before .before .before .before .s2) .given .0 .0) ((c .before .before .before .before .before .before .before .before .before .s2) .given .0 .1 .0) ((c .before .before .before .before .before .before .before .before .before .s2) .given .0 .1 .1 .0) ((c .before .before .before .before .before .before .before .before .before .s2) .given .0 .1 .1 .1 .0) ((c .before .before .before .before .before .before .before .before .before .before .before .before .before .before .before .next-pair) .ensures ((c .before .before .before .before .before .before .before .before .before .before .before .before .before .before .before .before .before .before .before .before .before .before .before .before .before .before .args) .parts .now)) ((c .before .before .before .before .before .before .before .before .before .s2) .given .1)) in
+    let w = own-room ((c .before .before .before .before .before .before .before .before .before .before .before .before .before .before .before .before .before .before .before .before .before .before .before .before .before .before .args) .m) (own-low (tab ((c .before .before .before .before .before .before .before .before .before .before .before .before .before .before .before .before .before .before .before .before .before .before .before .before .before .before .args) .rows .now) ((c .before .before .before .before .before .before .before .before .before .before .before .before .before .before .before .before .before .before .before .before .before .before .before .before .before .before .args) .parts .now)) (argsOf (tab ((c .before .before .before .before .before .before .before .before .before .before .before .before .before .before .before .before .before .before .before .before .before .before .before .before .before .before .args) .rows .now) ((c .before .before .before .before .before .before .before .before .before .before .before .before .before .before .before .before .before .before .before .before .before .before .before .before .before .before .args) .parts .now)) ((c .before .before .before .before .before .before .before .before .before .before .before .before .before .before .before .before .before .before .before .before .before .before .before .before .before .before .args) .args .now) ((c .before .before .before .before .before .before .before .before .before .before .before .before .before .before .before .before .before .before .before .before .before .before .before .before .before .before .args) .m)) ((c .before .before .before .before .before .before .before .before .before .before .before .before .before .before .before .before .before .before .before .before .before .before .before .before .before .before .args) .m) ((c .before .before .before .before .before .before .before .before .before .before .before .before .before .before .before .before .before .before .before .before .before .before .before .before .before .before .args) .by) ((c .before .before .before .before .before .before .before .before .before .before .before .before .before .before .before .before .before .before .before .before .before .before .before .before .before .before .args) .d) ((c .before .before .before .before .before .before .before .before .before .before .before .before .before .before .before .before .before .before .before .before .before .before .before .before .before .before .args) .l) ((c .before .before .before .before .before .before .before .before .before .before .before .before .before .before .before .before .before .before .before .before .before .before .before .before .before .before .args) .by2) ((c .before .before .before .before .before .before .before .before .before .before .before .before .before .before .before .before .before .before .before .before .before .before .before .before .before .before .args) .d2) ((c .before .before .before .before .before .before .before .before .before .before .before .before .before .before .before .before .before .before .before .before .before .before .before .before .before .before .args) .r) ((c .before .before .before .before .before .before .before .before .before .before .before .before .before .before .before .before .before .before .loop) .left) ((c .before .before .before .before .before .before .before .before .before .before .before .before .before .before .before .before .before .before .loop) .i) ((c .before .before .before .before .before .before .before .before .before .before .before .before .before .before .before .before .before .before .loop) .right) ((c .before .before .before .before .before .before .before .before .before .before .before .before .before .before .before .before .before .before .loop) .j) ((c .before .before .before .before .before .before .before .before .before .before .before .before .before .before .before .before .before .before .loop) .inv .0) ((c .before .before .before .before .before .before .before .before .before .before .before .before .before .before .before .next-pair) .last .1 .1 .1 .1 .1 .0) ((c .before .before .before .before .before .before .before .before .before .before .before .before .before .before .before .next-pair) .last .1 .1 .1 .1 .1 .1 .1 .1 .1 .0) ((c .before .before .before .before .before .before .before .before .before .before .before .before .before .before .before .next-pair) .result) ((c .before .before .before .before .before .before .before .before .before .s2) .given .0 .0) ((c .before .before .before .before .before .before .before .before .before .s2) .given .0 .1 .0) ((c .before .before .before .before .before .before .before .before .before .s2) .given .0 .1 .1 .0) ((c .before .before .before .before .before .before .before .before .before .s2) .given .0 .1 .1 .1 .0) ((c .before .before .before .before .before .before .before .before .before .before .before .before .before .before .before .next-pair) .ensures ((c .before .before .before .before .before .before .before .before .before .before .before .before .before .before .before .before .before .before .before .before .before .before .before .before .before .before .args) .parts .now)) ((c .before .before .before .before .before .before .before .before .before .s2) .given .1)) ((c .before .before .before .before .before .before .before .before .before .before .before .before .before .before .before .before .before .before .before .before .before .before .before .before .before .before .pre) .1 .3) (((c .before .before .before .before .before .before .before .before .before .before .before .before .before .before .before .next-pair) .kept .1 .1 .1 .1 .1 .0) ∙ (c .before .before .before .before .before .before .before .before .before .before .before .before .before .before .before .before .before .before .loop) .inv .1 ∙ length-set ((c .before .before .before .before .before .before .before .before .before .before .before .before .before .before .before .before .before .before .before .before .before .before .before .before .before .before .args) .left .now) 0 ((c .before .before .before .before .before .before .before .before .before .before .before .before .before .before .before .before .before .before .before .before .before .before .before .before .before .before .args) .l)) (((c .before .before .before .before .before .before .before .before .before .before .before .before .before .before .before .next-pair) .kept .1 .1 .1 .1 .1 .1 .1 .1 .1 .0) ∙ (c .before .before .before .before .before .before .before .before .before .before .before .before .before .before .before .before .before .before .loop) .inv .2 ∙ length-set ((c .before .before .before .before .before .before .before .before .before .before .before .before .before .before .before .before .before .before .before .before .before .before .before .before .before .before .args) .right .now) 0 ((c .before .before .before .before .before .before .before .before .before .before .before .before .before .before .before .before .before .before .before .before .before .before .before .before .before .before .args) .r)) in
     let w0 = w .0 in
     let w1 = w .1 in
-    let s0 = (c .before .before .before .before .before .before .before .before .before .before .before .before .before .before .before .before .before .before .before .before .before .before .before .before .before .before .pre) .1 .3 .0 in
-    let s1 = (c .before .before .before .before .before .before .before .before .before .before .before .before .before .before .before .before .before .before .before .before .before .before .before .before .before .before .pre) .1 .3 .1 in
-    let s2 = (c .before .before .before .before .before .before .before .before .before .before .before .before .before .before .before .before .before .before .before .before .before .before .before .before .before .before .pre) .1 .3 .2 in
-    let s3 = (c .before .before .before .before .before .before .before .before .before .before .before .before .before .before .before .before .before .before .before .before .before .before .before .before .before .before .pre) .1 .3 .3 in
-    let i1 = (c .before .before .before .before .before .before .before .before .before .before .before .before .before .before .before .before .before .before .loop) .inv .1 ∙ length-set ((c .before .before .before .before .before .before .before .before .before .before .before .before .before .before .before .before .before .before .before .before .before .before .before .before .before .before .args) .left .now) 0 ((c .before .before .before .before .before .before .before .before .before .before .before .before .before .before .before .before .before .before .before .before .before .before .before .before .before .before .args) .l) in
-    let i2 = (c .before .before .before .before .before .before .before .before .before .before .before .before .before .before .before .before .before .before .loop) .inv .2 ∙ length-set ((c .before .before .before .before .before .before .before .before .before .before .before .before .before .before .before .before .before .before .before .before .before .before .before .before .before .before .args) .right .now) 0 ((c .before .before .before .before .before .before .before .before .before .before .before .before .before .before .before .before .before .before .before .before .before .before .before .before .before .before .args) .r) in
-    let k1 = ((c .before .before .before .before .before .before .before .before .before .before .before .before .before .before .before .next-pair) .kept .1 .1 .1 .1 .1 .0) in
-    let k2 = ((c .before .before .before .before .before .before .before .before .before .before .before .before .before .before .before .next-pair) .kept .1 .1 .1 .1 .1 .1 .1 .1 .1 .0) in
+    let w2 = w .2 in
+    let w3 = w .3 in
     (match-own (tab ((c .before .before .before .before .before .before .before .before .before .before .before .before .before .before .before .before .before .before .before .before .before .before .before .before .before .before .args) .rows .now) ((c .before .before .before .before .before .before .before .before .before .before .before .before .before .before .before .before .before .before .before .before .before .before .before .before .before .before .args) .parts .now)) (argsOf (tab ((c .before .before .before .before .before .before .before .before .before .before .before .before .before .before .before .before .before .before .before .before .before .before .before .before .before .before .args) .rows .now) ((c .before .before .before .before .before .before .before .before .before .before .before .before .before .before .before .before .before .before .before .before .before .before .before .before .before .before .args) .parts .now)) ((c .before .before .before .before .before .before .before .before .before .before .before .before .before .before .before .before .before .before .before .before .before .before .before .before .before .before .args) .args .now) ((c .before .before .before .before .before .before .before .before .before .before .before .before .before .before .before .before .before .before .before .before .before .before .before .before .before .before .args) .m)) ((c .before .before .before .before .before .before .before .before .before .before .before .before .before .before .before .before .before .before .before .before .before .before .before .before .before .before .args) .m) ((c .before .before .before .before .before .before .before .before .before .before .before .before .before .before .before .before .before .before .before .before .before .before .before .before .before .before .args) .by) ((c .before .before .before .before .before .before .before .before .before .before .before .before .before .before .before .before .before .before .before .before .before .before .before .before .before .before .args) .d) ((c .before .before .before .before .before .before .before .before .before .before .before .before .before .before .before .before .before .before .before .before .before .before .before .before .before .before .args) .l) ((c .before .before .before .before .before .before .before .before .before .before .before .before .before .before .before .before .before .before .before .before .before .before .before .before .before .before .args) .by2) ((c .before .before .before .before .before .before .before .before .before .before .before .before .before .before .before .before .before .before .before .before .before .before .before .before .before .before .args) .d2) ((c .before .before .before .before .before .before .before .before .before .before .before .before .before .before .before .before .before .before .before .before .before .before .before .before .before .before .args) .r) ((c .before .before .before .before .before .before .before .before .before .before .before .before .before .before .before .before .before .before .loop) .left) ((c .before .before .before .before .before .before .before .before .before .before .before .before .before .before .before .before .before .before .loop) .i) ((c .before .before .before .before .before .before .before .before .before .before .before .before .before .before .before .before .before .before .loop) .right) ((c .before .before .before .before .before .before .before .before .before .before .before .before .before .before .before .before .before .before .loop) .j) ((c .before .before .before .before .before .before .before .before .before .before .before .before .before .before .before .before .before .before .loop) .inv .0) ((c .before .before .before .before .before .before .before .before .before .before .before .before .before .before .before .next-pair) .last .1 .1 .1 .1 .1 .0) ((c .before .before .before .before .before .before .before .before .before .before .before .before .before .before .before .next-pair) .last .1 .1 .1 .1 .1 .1 .1 .1 .1 .0) (putMid ((c .before .before .before .before .before .before .before .before .before .s2) .given .0 .1 .0) (length ((c .before .before .before .before .before .before .before .before .before .before .before .before .before .before .before .next-pair) .last .1 .1 .1 .1 .1 .0) - ((c .before .before .before .before .before .before .before .before .before .s2) .given .0 .1 .0)) ((c .before .before .before .before .before .before .before .before .before .before .before .before .before .before .before .next-pair) .last .1 .1 .1 .1 .1 .0) ((c .before .before .before .before .before .eq-value) .last .1 .1 .1 .1 .1 .1 .1 .1 .1 .1 .0)) (putMid ((c .before .before .before .before .before .before .before .before .before .s2) .given .0 .1 .1 .1 .0) (length ((c .before .before .before .before .before .before .before .before .before .before .before .before .before .before .before .next-pair) .last .1 .1 .1 .1 .1 .1 .1 .1 .1 .0) - ((c .before .before .before .before .before .before .before .before .before .s2) .given .0 .1 .1 .1 .0)) ((c .before .before .before .before .before .before .before .before .before .before .before .before .before .before .before .next-pair) .last .1 .1 .1 .1 .1 .1 .1 .1 .1 .0) ((c .before .before .before .before .before .eq-value) .last .1 .1 .1 .1 .1 .1 .1 .1 .1 .1 .1 .0)) ((c .before .before .before .before .before .before .before .before .before .before .before .before .before .before .before .next-pair) .result) ((c .before .before .before .before .before .before .before .before .before .s2) .given .0 .0) ((c .before .before .before .before .before .before .before .before .before .s2) .given .0 .1 .0) ((c .before .before .before .before .before .before .before .before .before .s2) .given .0 .1 .1 .0) ((c .before .before .before .before .before .before .before .before .before .s2) .given .0 .1 .1 .1 .0) (agree-mid ((c .before .before .before .before .before .before .before .before .before .s2) .given .0 .1 .0) (length ((c .before .before .before .before .before .before .before .before .before .before .before .before .before .before .before .next-pair) .last .1 .1 .1 .1 .1 .0) - ((c .before .before .before .before .before .before .before .before .before .s2) .given .0 .1 .0)) ((c .before .before .before .before .before .before .before .before .before .before .before .before .before .before .before .next-pair) .last .1 .1 .1 .1 .1 .0) ((c .before .before .before .before .before .eq-value) .last .1 .1 .1 .1 .1 .1 .1 .1 .1 .1 .0) (omega arith)) (agree-mid ((c .before .before .before .before .before .before .before .before .before .s2) .given .0 .1 .1 .1 .0) (length ((c .before .before .before .before .before .before .before .before .before .before .before .before .before .before .before .next-pair) .last .1 .1 .1 .1 .1 .1 .1 .1 .1 .0) - ((c .before .before .before .before .before .before .before .before .before .s2) .given .0 .1 .1 .1 .0)) ((c .before .before .before .before .before .before .before .before .before .before .before .before .before .before .before .next-pair) .last .1 .1 .1 .1 .1 .1 .1 .1 .1 .0) ((c .before .before .before .before .before .eq-value) .last .1 .1 .1 .1 .1 .1 .1 .1 .1 .1 .1 .0) (omega arith)) ((c .before .before .before .before .before .before .before .before .before .before .before .before .before .before .before .next-pair) .ensures ((c .before .before .before .before .before .before .before .before .before .before .before .before .before .before .before .before .before .before .before .before .before .before .before .before .before .before .args) .parts .now)) ((c .before .before .before .before .before .before .before .before .before .s2) .given .1) ((c .before .before .before .before .before .eq-value) .ensures) (not-true ((c .if2) .left))) .1
 
 -- src/lib.rt:540:5
@@ -1181,17 +1127,11 @@ eq-stack-loop-again-2 : (t : ℕ) → eq-stack-lts.Need-loop-again-2 (
   eq-value.Post,
 ) (eq-stack-at t) eq-stack.Post eq-stack-Inv-loop eq-stack-μ-loop
 eq-stack-loop-again-2 t c =
-    let w = (own-low (tab ((c .before .before .before .before .before .before .before .before .before .before .before .before .before .before .before .before .before .before .before .before .before .before .before .before .before .before .args) .rows .now) ((c .before .before .before .before .before .before .before .before .before .before .before .before .before .before .before .before .before .before .before .before .before .before .before .before .before .before .args) .parts .now)) (argsOf (tab ((c .before .before .before .before .before .before .before .before .before .before .before .before .before .before .before .before .before .before .before .before .before .before .before .before .before .before .args) .rows .now) ((c .before .before .before .before .before .before .before .before .before .before .before .before .before .before .before .before .before .before .before .before .before .before .before .before .before .before .args) .parts .now)) ((c .before .before .before .before .before .before .before .before .before .before .before .before .before .before .before .before .before .before .before .before .before .before .before .before .before .before .args) .args .now) ((c .before .before .before .before .before .before .before .before .before .before .before .before .before .before .before .before .before .before .before .before .before .before .before .before .before .before .args) .m)) ((c .before .before .before .before .before .before .before .before .before .before .before .before .before .before .before .before .before .before .before .before .before .before .before .before .before .before .args) .m) ((c .before .before .before .before .before .before .before .before .before .before .before .before .before .before .before .before .before .before .before .before .before .before .before .before .before .before .args) .by) ((c .before .before .before .before .before .before .before .before .before .before .before .before .before .before .before .before .before .before .before .before .before .before .before .before .before .before .args) .d) ((c .before .before .before .before .before .before .before .before .before .before .before .before .before .before .before .before .before .before .before .before .before .before .before .before .before .before .args) .l) ((c .before .before .before .before .before .before .before .before .before .before .before .before .before .before .before .before .before .before .before .before .before .before .before .before .before .before .args) .by2) ((c .before .before .before .before .before .before .before .before .before .before .before .before .before .before .before .before .before .before .before .before .before .before .before .before .before .before .args) .d2) ((c .before .before .before .before .before .before .before .before .before .before .before .before .before .before .before .before .before .before .before .before .before .before .before .before .before .before .args) .r) ((c .before .before .before .before .before .before .before .before .before .before .before .before .before .before .before .before .before .before .loop) .left) ((c .before .before .before .before .before .before .before .before .before .before .before .before .before .before .before .before .before .before .loop) .i) ((c .before .before .before .before .before .before .before .before .before .before .before .before .before .before .before .before .before .before .loop) .right) ((c .before .before .before .before .before .before .before .before .before .before .before .before .before .before .before .before .before .before .loop) .j) ((c .before .before .before .before .before .before .before .before .before .before .before .before .before .before .before .before .before .before .loop) .inv .0) ((c .before .before .before .before .before .before .before .before .before .before .before .before .before .before .before .next-pair) .last .1 .1 .1 .1 .1 .0) ((c .before .before .before .before .before .before .before .before .before .before .before .before .before .before .before .next-pair) .last .1 .1 .1 .1 .1 .1 .1 .1 .1 .0) ((c .before .before .before .before .before .before .before .before .before .before .before .before .before .before .before .next-pair) .result) ((c .before .before .before .before .before .before .before .before .before .s2) .given .0 .0) ((c .before .before .before .before .before .before .before .before .before .s2) .given .0 .1 .0) ((c .before .before .before .before .before .before .before .before .before .s2) .given .0 .1 .1 .0) ((c .before .before .before .before .before .before .before .before .before .s2) .given .0 .1 .1 .1 .0) ((c .before .before .before .before .before .before .before .before .before .before .before .before .before .before .before .next-pair) .ensures ((c .before .before .before .before .before .before .before .before .before .before .before .before .before .before .before .before .before .before .before .before .before .before .before .before .before .before .args) .parts .now)) ((c .before .before .before .before .before .before .before .before .before .s2) .given .1)) in
+    let w = own-room ((c .before .before .before .before .before .before .before .before .before .before .before .before .before .before .before .before .before .before .before .before .before .before .before .before .before .before .args) .m) (own-low (tab ((c .before .before .before .before .before .before .before .before .before .before .before .before .before .before .before .before .before .before .before .before .before .before .before .before .before .before .args) .rows .now) ((c .before .before .before .before .before .before .before .before .before .before .before .before .before .before .before .before .before .before .before .before .before .before .before .before .before .before .args) .parts .now)) (argsOf (tab ((c .before .before .before .before .before .before .before .before .before .before .before .before .before .before .before .before .before .before .before .before .before .before .before .before .before .before .args) .rows .now) ((c .before .before .before .before .before .before .before .before .before .before .before .before .before .before .before .before .before .before .before .before .before .before .before .before .before .before .args) .parts .now)) ((c .before .before .before .before .before .before .before .before .before .before .before .before .before .before .before .before .before .before .before .before .before .before .before .before .before .before .args) .args .now) ((c .before .before .before .before .before .before .before .before .before .before .before .before .before .before .before .before .before .before .before .before .before .before .before .before .before .before .args) .m)) ((c .before .before .before .before .before .before .before .before .before .before .before .before .before .before .before .before .before .before .before .before .before .before .before .before .before .before .args) .m) ((c .before .before .before .before .before .before .before .before .before .before .before .before .before .before .before .before .before .before .before .before .before .before .before .before .before .before .args) .by) ((c .before .before .before .before .before .before .before .before .before .before .before .before .before .before .before .before .before .before .before .before .before .before .before .before .before .before .args) .d) ((c .before .before .before .before .before .before .before .before .before .before .before .before .before .before .before .before .before .before .before .before .before .before .before .before .before .before .args) .l) ((c .before .before .before .before .before .before .before .before .before .before .before .before .before .before .before .before .before .before .before .before .before .before .before .before .before .before .args) .by2) ((c .before .before .before .before .before .before .before .before .before .before .before .before .before .before .before .before .before .before .before .before .before .before .before .before .before .before .args) .d2) ((c .before .before .before .before .before .before .before .before .before .before .before .before .before .before .before .before .before .before .before .before .before .before .before .before .before .before .args) .r) ((c .before .before .before .before .before .before .before .before .before .before .before .before .before .before .before .before .before .before .loop) .left) ((c .before .before .before .before .before .before .before .before .before .before .before .before .before .before .before .before .before .before .loop) .i) ((c .before .before .before .before .before .before .before .before .before .before .before .before .before .before .before .before .before .before .loop) .right) ((c .before .before .before .before .before .before .before .before .before .before .before .before .before .before .before .before .before .before .loop) .j) ((c .before .before .before .before .before .before .before .before .before .before .before .before .before .before .before .before .before .before .loop) .inv .0) ((c .before .before .before .before .before .before .before .before .before .before .before .before .before .before .before .next-pair) .last .1 .1 .1 .1 .1 .0) ((c .before .before .before .before .before .before .before .before .before .before .before .before .before .before .before .next-pair) .last .1 .1 .1 .1 .1 .1 .1 .1 .1 .0) ((c .before .before .before .before .before .before .before .before .before .before .before .before .before .before .before .next-pair) .result) ((c .before .before .before .before .before .before .before .before .before .s2) .given .0 .0) ((c .before .before .before .before .before .before .before .before .before .s2) .given .0 .1 .0) ((c .before .before .before .before .before .before .before .before .before .s2) .given .0 .1 .1 .0) ((c .before .before .before .before .before .before .before .before .before .s2) .given .0 .1 .1 .1 .0) ((c .before .before .before .before .before .before .before .before .before .before .before .before .before .before .before .next-pair) .ensures ((c .before .before .before .before .before .before .before .before .before .before .before .before .before .before .before .before .before .before .before .before .before .before .before .before .before .before .args) .parts .now)) ((c .before .before .before .before .before .before .before .before .before .s2) .given .1)) ((c .before .before .before .before .before .before .before .before .before .before .before .before .before .before .before .before .before .before .before .before .before .before .before .before .before .before .pre) .1 .3) (((c .before .before .before .before .before .before .before .before .before .before .before .before .before .before .before .next-pair) .kept .1 .1 .1 .1 .1 .0) ∙ (c .before .before .before .before .before .before .before .before .before .before .before .before .before .before .before .before .before .before .loop) .inv .1 ∙ length-set ((c .before .before .before .before .before .before .before .before .before .before .before .before .before .before .before .before .before .before .before .before .before .before .before .before .before .before .args) .left .now) 0 ((c .before .before .before .before .before .before .before .before .before .before .before .before .before .before .before .before .before .before .before .before .before .before .before .before .before .before .args) .l)) (((c .before .before .before .before .before .before .before .before .before .before .before .before .before .before .before .next-pair) .kept .1 .1 .1 .1 .1 .1 .1 .1 .1 .0) ∙ (c .before .before .before .before .before .before .before .before .before .before .before .before .before .before .before .before .before .before .loop) .inv .2 ∙ length-set ((c .before .before .before .before .before .before .before .before .before .before .before .before .before .before .before .before .before .before .before .before .before .before .before .before .before .before .args) .right .now) 0 ((c .before .before .before .before .before .before .before .before .before .before .before .before .before .before .before .before .before .before .before .before .before .before .before .before .before .before .args) .r)) in
     let w0 = w .0 in
     let w1 = w .1 in
-    let s0 = (c .before .before .before .before .before .before .before .before .before .before .before .before .before .before .before .before .before .before .before .before .before .before .before .before .before .before .pre) .1 .3 .0 in
-    let s1 = (c .before .before .before .before .before .before .before .before .before .before .before .before .before .before .before .before .before .before .before .before .before .before .before .before .before .before .pre) .1 .3 .1 in
-    let s2 = (c .before .before .before .before .before .before .before .before .before .before .before .before .before .before .before .before .before .before .before .before .before .before .before .before .before .before .pre) .1 .3 .2 in
-    let s3 = (c .before .before .before .before .before .before .before .before .before .before .before .before .before .before .before .before .before .before .before .before .before .before .before .before .before .before .pre) .1 .3 .3 in
-    let i1 = (c .before .before .before .before .before .before .before .before .before .before .before .before .before .before .before .before .before .before .loop) .inv .1 ∙ length-set ((c .before .before .before .before .before .before .before .before .before .before .before .before .before .before .before .before .before .before .before .before .before .before .before .before .before .before .args) .left .now) 0 ((c .before .before .before .before .before .before .before .before .before .before .before .before .before .before .before .before .before .before .before .before .before .before .before .before .before .before .args) .l) in
-    let i2 = (c .before .before .before .before .before .before .before .before .before .before .before .before .before .before .before .before .before .before .loop) .inv .2 ∙ length-set ((c .before .before .before .before .before .before .before .before .before .before .before .before .before .before .before .before .before .before .before .before .before .before .before .before .before .before .args) .right .now) 0 ((c .before .before .before .before .before .before .before .before .before .before .before .before .before .before .before .before .before .before .before .before .before .before .before .before .before .before .args) .r) in
-    let k1 = ((c .before .before .before .before .before .before .before .before .before .before .before .before .before .before .before .next-pair) .kept .1 .1 .1 .1 .1 .0) in
-    let k2 = ((c .before .before .before .before .before .before .before .before .before .before .before .before .before .before .before .next-pair) .kept .1 .1 .1 .1 .1 .1 .1 .1 .1 .0) in
+    let w2 = w .2 in
+    let w3 = w .3 in
     ((match-own (tab ((c .before .before .before .before .before .before .before .before .before .before .before .before .before .before .before .before .before .before .before .before .before .before .before .before .before .before .args) .rows .now) ((c .before .before .before .before .before .before .before .before .before .before .before .before .before .before .before .before .before .before .before .before .before .before .before .before .before .before .args) .parts .now)) (argsOf (tab ((c .before .before .before .before .before .before .before .before .before .before .before .before .before .before .before .before .before .before .before .before .before .before .before .before .before .before .args) .rows .now) ((c .before .before .before .before .before .before .before .before .before .before .before .before .before .before .before .before .before .before .before .before .before .before .before .before .before .before .args) .parts .now)) ((c .before .before .before .before .before .before .before .before .before .before .before .before .before .before .before .before .before .before .before .before .before .before .before .before .before .before .args) .args .now) ((c .before .before .before .before .before .before .before .before .before .before .before .before .before .before .before .before .before .before .before .before .before .before .before .before .before .before .args) .m)) ((c .before .before .before .before .before .before .before .before .before .before .before .before .before .before .before .before .before .before .before .before .before .before .before .before .before .before .args) .m) ((c .before .before .before .before .before .before .before .before .before .before .before .before .before .before .before .before .before .before .before .before .before .before .before .before .before .before .args) .by) ((c .before .before .before .before .before .before .before .before .before .before .before .before .before .before .before .before .before .before .before .before .before .before .before .before .before .before .args) .d) ((c .before .before .before .before .before .before .before .before .before .before .before .before .before .before .before .before .before .before .before .before .before .before .before .before .before .before .args) .l) ((c .before .before .before .before .before .before .before .before .before .before .before .before .before .before .before .before .before .before .before .before .before .before .before .before .before .before .args) .by2) ((c .before .before .before .before .before .before .before .before .before .before .before .before .before .before .before .before .before .before .before .before .before .before .before .before .before .before .args) .d2) ((c .before .before .before .before .before .before .before .before .before .before .before .before .before .before .before .before .before .before .before .before .before .before .before .before .before .before .args) .r) ((c .before .before .before .before .before .before .before .before .before .before .before .before .before .before .before .before .before .before .loop) .left) ((c .before .before .before .before .before .before .before .before .before .before .before .before .before .before .before .before .before .before .loop) .i) ((c .before .before .before .before .before .before .before .before .before .before .before .before .before .before .before .before .before .before .loop) .right) ((c .before .before .before .before .before .before .before .before .before .before .before .before .before .before .before .before .before .before .loop) .j) ((c .before .before .before .before .before .before .before .before .before .before .before .before .before .before .before .before .before .before .loop) .inv .0) ((c .before .before .before .before .before .before .before .before .before .before .before .before .before .before .before .next-pair) .last .1 .1 .1 .1 .1 .0) ((c .before .before .before .before .before .before .before .before .before .before .before .before .before .before .before .next-pair) .last .1 .1 .1 .1 .1 .1 .1 .1 .1 .0) (putMid ((c .before .before .before .before .before .before .before .before .before .s2) .given .0 .1 .0) (length ((c .before .before .before .before .before .before .before .before .before .before .before .before .before .before .before .next-pair) .last .1 .1 .1 .1 .1 .0) - ((c .before .before .before .before .before .before .before .before .before .s2) .given .0 .1 .0)) ((c .before .before .before .before .before .before .before .before .before .before .before .before .before .before .before .next-pair) .last .1 .1 .1 .1 .1 .0) ((c .before .before .before .before .before .eq-value) .last .1 .1 .1 .1 .1 .1 .1 .1 .1 .1 .0)) (putMid ((c .before .before .before .before .before .before .before .before .before .s2) .given .0 .1 .1 .1 .0) (length ((c .before .before .before .before .before .before .before .before .before .before .before .before .before .before .before .next-pair) .last .1 .1 .1 .1 .1 .1 .1 .1 .1 .0) - ((c .before .before .before .before .before .before .before .before .before .s2) .given .0 .1 .1 .1 .0)) ((c .before .before .before .before .before .before .before .before .before .before .before .before .before .before .before .next-pair) .last .1 .1 .1 .1 .1 .1 .1 .1 .1 .0) ((c .before .before .before .before .before .eq-value) .last .1 .1 .1 .1 .1 .1 .1 .1 .1 .1 .1 .0)) ((c .before .before .before .before .before .before .before .before .before .before .before .before .before .before .before .next-pair) .result) ((c .before .before .before .before .before .before .before .before .before .s2) .given .0 .0) ((c .before .before .before .before .before .before .before .before .before .s2) .given .0 .1 .0) ((c .before .before .before .before .before .before .before .before .before .s2) .given .0 .1 .1 .0) ((c .before .before .before .before .before .before .before .before .before .s2) .given .0 .1 .1 .1 .0) (agree-mid ((c .before .before .before .before .before .before .before .before .before .s2) .given .0 .1 .0) (length ((c .before .before .before .before .before .before .before .before .before .before .before .before .before .before .before .next-pair) .last .1 .1 .1 .1 .1 .0) - ((c .before .before .before .before .before .before .before .before .before .s2) .given .0 .1 .0)) ((c .before .before .before .before .before .before .before .before .before .before .before .before .before .before .before .next-pair) .last .1 .1 .1 .1 .1 .0) ((c .before .before .before .before .before .eq-value) .last .1 .1 .1 .1 .1 .1 .1 .1 .1 .1 .0) (omega arith)) (agree-mid ((c .before .before .before .before .before .before .before .before .before .s2) .given .0 .1 .1 .1 .0) (length ((c .before .before .before .before .before .before .before .before .before .before .before .before .before .before .before .next-pair) .last .1 .1 .1 .1 .1 .1 .1 .1 .1 .0) - ((c .before .before .before .before .before .before .before .before .before .s2) .given .0 .1 .1 .1 .0)) ((c .before .before .before .before .before .before .before .before .before .before .before .before .before .before .before .next-pair) .last .1 .1 .1 .1 .1 .1 .1 .1 .1 .0) ((c .before .before .before .before .before .eq-value) .last .1 .1 .1 .1 .1 .1 .1 .1 .1 .1 .1 .0) (omega arith)) ((c .before .before .before .before .before .before .before .before .before .before .before .before .before .before .before .next-pair) .ensures ((c .before .before .before .before .before .before .before .before .before .before .before .before .before .before .before .before .before .before .before .before .before .before .before .before .before .before .args) .parts .now)) ((c .before .before .before .before .before .before .before .before .before .s2) .given .1) ((c .before .before .before .before .before .eq-value) .ensures) (not-true ((c .if2) .left))) .0, same-len-mid ((c .before .before .before .before .before .before .before .before .before .s2) .given .0 .1 .0) (length ((c .before .before .before .before .before .before .before .before .before .before .before .before .before .before .before .next-pair) .last .1 .1 .1 .1 .1 .0) - ((c .before .before .before .before .before .before .before .before .before .s2) .given .0 .1 .0)) ((c .before .before .before .before .before .before .before .before .before .before .before .before .before .before .before .next-pair) .last .1 .1 .1 .1 .1 .0) ((c .before .before .before .before .before .eq-value) .last .1 .1 .1 .1 .1 .1 .1 .1 .1 .1 .0) ((c .before .before .before .before .before .eq-value) .kept .1 .1 .1 .1 .1 .1 .1 .1 .1 .1 .0) ∙ ((c .before .before .before .before .before .before .before .before .before .before .before .before .before .before .before .next-pair) .kept .1 .1 .1 .1 .1 .0) ∙ (c .before .before .before .before .before .before .before .before .before .before .before .before .before .before .before .before .before .before .loop) .inv .1, same-len-mid ((c .before .before .before .before .before .before .before .before .before .s2) .given .0 .1 .1 .1 .0) (length ((c .before .before .before .before .before .before .before .before .before .before .before .before .before .before .before .next-pair) .last .1 .1 .1 .1 .1 .1 .1 .1 .1 .0) - ((c .before .before .before .before .before .before .before .before .before .s2) .given .0 .1 .1 .1 .0)) ((c .before .before .before .before .before .before .before .before .before .before .before .before .before .before .before .next-pair) .last .1 .1 .1 .1 .1 .1 .1 .1 .1 .0) ((c .before .before .before .before .before .eq-value) .last .1 .1 .1 .1 .1 .1 .1 .1 .1 .1 .1 .0) ((c .before .before .before .before .before .eq-value) .kept .1 .1 .1 .1 .1 .1 .1 .1 .1 .1 .1 .0) ∙ ((c .before .before .before .before .before .before .before .before .before .before .before .before .before .before .before .next-pair) .kept .1 .1 .1 .1 .1 .1 .1 .1 .1 .0) ∙ (c .before .before .before .before .before .before .before .before .before .before .before .before .before .before .before .before .before .before .loop) .inv .2)
 
 -- src/lib.rt:575:27
@@ -1215,20 +1155,11 @@ eq-stack-mul-eq-value-3 : (t : ℕ) → eq-stack-lts.Need-mul-eq-value-3 (
   eq-value.Post,
 ) (eq-stack-at t) eq-stack.Post eq-stack-Inv-loop eq-stack-μ-loop
 eq-stack-mul-eq-value-3 t c =
-    let w = (given-low (tab ((c .before .before .before .before .before .before .before .before .before .before .before .before .before .before .before .before .before .before .args) .rows .now) ((c .before .before .before .before .before .before .before .before .before .before .before .before .before .before .before .before .before .before .args) .parts .now)) (argsOf (tab ((c .before .before .before .before .before .before .before .before .before .before .before .before .before .before .before .before .before .before .args) .rows .now) ((c .before .before .before .before .before .before .before .before .before .before .before .before .before .before .before .before .before .before .args) .parts .now)) ((c .before .before .before .before .before .before .before .before .before .before .before .before .before .before .before .before .before .before .args) .args .now) ((c .before .before .before .before .before .before .before .before .before .before .before .before .before .before .before .before .before .before .args) .m)) ((c .before .before .before .before .before .before .before .before .before .before .before .before .before .before .before .before .before .before .args) .m) ((c .before .before .before .before .before .before .before .before .before .before .before .before .before .before .before .before .before .before .args) .by) ((c .before .before .before .before .before .before .before .before .before .before .before .before .before .before .before .before .before .before .args) .d) ((c .before .before .before .before .before .before .before .before .before .before .before .before .before .before .before .before .before .before .args) .l) ((c .before .before .before .before .before .before .before .before .before .before .before .before .before .before .before .before .before .before .args) .by2) ((c .before .before .before .before .before .before .before .before .before .before .before .before .before .before .before .before .before .before .args) .d2) ((c .before .before .before .before .before .before .before .before .before .before .before .before .before .before .before .before .before .before .args) .r) ((c .before .before .before .before .before .before .before .before .before .before .loop) .left) ((c .before .before .before .before .before .before .before .before .before .before .loop) .i) ((c .before .before .before .before .before .before .before .before .before .before .loop) .right) ((c .before .before .before .before .before .before .before .before .before .before .loop) .j) ((c .before .before .before .before .before .before .before .before .before .before .loop) .inv .0) ((c .before .before .before .before .before .before .before .next-pair) .last .1 .1 .1 .1 .1 .0) ((c .before .before .before .before .before .before .before .next-pair) .last .1 .1 .1 .1 .1 .1 .1 .1 .1 .0) ((c .before .before .before .before .before .before .before .next-pair) .result) ((c .before .s3) .given .0 .0) ((c .before .s3) .given .0 .1 .0) ((c .before .s3) .given .0 .1 .1 .0) ((c .before .s3) .given .0 .1 .1 .1 .0) ((c .before .before .before .before .before .before .before .next-pair) .ensures ((c .before .before .before .before .before .before .before .before .before .before .before .before .before .before .before .before .before .before .args) .parts .now)) ((c .before .s3) .given .1)) in
+    let w = given-room ((c .before .before .before .before .before .before .before .before .before .before .before .before .before .before .before .before .before .before .args) .m) ((c .before .before .before .before .before .before .before .before .before .before .before .before .before .before .before .before .before .before .args) .l) (given-low (tab ((c .before .before .before .before .before .before .before .before .before .before .before .before .before .before .before .before .before .before .args) .rows .now) ((c .before .before .before .before .before .before .before .before .before .before .before .before .before .before .before .before .before .before .args) .parts .now)) (argsOf (tab ((c .before .before .before .before .before .before .before .before .before .before .before .before .before .before .before .before .before .before .args) .rows .now) ((c .before .before .before .before .before .before .before .before .before .before .before .before .before .before .before .before .before .before .args) .parts .now)) ((c .before .before .before .before .before .before .before .before .before .before .before .before .before .before .before .before .before .before .args) .args .now) ((c .before .before .before .before .before .before .before .before .before .before .before .before .before .before .before .before .before .before .args) .m)) ((c .before .before .before .before .before .before .before .before .before .before .before .before .before .before .before .before .before .before .args) .m) ((c .before .before .before .before .before .before .before .before .before .before .before .before .before .before .before .before .before .before .args) .by) ((c .before .before .before .before .before .before .before .before .before .before .before .before .before .before .before .before .before .before .args) .d) ((c .before .before .before .before .before .before .before .before .before .before .before .before .before .before .before .before .before .before .args) .l) ((c .before .before .before .before .before .before .before .before .before .before .before .before .before .before .before .before .before .before .args) .by2) ((c .before .before .before .before .before .before .before .before .before .before .before .before .before .before .before .before .before .before .args) .d2) ((c .before .before .before .before .before .before .before .before .before .before .before .before .before .before .before .before .before .before .args) .r) ((c .before .before .before .before .before .before .before .before .before .before .loop) .left) ((c .before .before .before .before .before .before .before .before .before .before .loop) .i) ((c .before .before .before .before .before .before .before .before .before .before .loop) .right) ((c .before .before .before .before .before .before .before .before .before .before .loop) .j) ((c .before .before .before .before .before .before .before .before .before .before .loop) .inv .0) ((c .before .before .before .before .before .before .before .next-pair) .last .1 .1 .1 .1 .1 .0) ((c .before .before .before .before .before .before .before .next-pair) .last .1 .1 .1 .1 .1 .1 .1 .1 .1 .0) ((c .before .before .before .before .before .before .before .next-pair) .result) ((c .before .s3) .given .0 .0) ((c .before .s3) .given .0 .1 .0) ((c .before .s3) .given .0 .1 .1 .0) ((c .before .s3) .given .0 .1 .1 .1 .0) ((c .before .before .before .before .before .before .before .next-pair) .ensures ((c .before .before .before .before .before .before .before .before .before .before .before .before .before .before .before .before .before .before .args) .parts .now)) ((c .before .s3) .given .1)) ((c .before .before .before .before .before .before .before .before .before .before .before .before .before .before .before .before .before .before .pre) .1 .3) (((c .before .before .before .before .before .before .before .next-pair) .kept .1 .1 .1 .1 .1 .0) ∙ (c .before .before .before .before .before .before .before .before .before .before .loop) .inv .1 ∙ length-set ((c .before .before .before .before .before .before .before .before .before .before .before .before .before .before .before .before .before .before .args) .left .now) 0 ((c .before .before .before .before .before .before .before .before .before .before .before .before .before .before .before .before .before .before .args) .l)) (((c .before .before .before .before .before .before .before .next-pair) .kept .1 .1 .1 .1 .1 .1 .1 .1 .1 .0) ∙ (c .before .before .before .before .before .before .before .before .before .before .loop) .inv .2 ∙ length-set ((c .before .before .before .before .before .before .before .before .before .before .before .before .before .before .before .before .before .before .args) .right .now) 0 ((c .before .before .before .before .before .before .before .before .before .before .before .before .before .before .before .before .before .before .args) .r)) in
     let w0 = w .0 in
     let w1 = w .1 in
     let w2 = w .2 in
     let w3 = w .3 in
-    let rm = room-of 0 ((c .before .before .before .before .before .before .before .before .before .before .before .before .before .before .before .before .before .before .args) .m) w0 in
-    let s0 = (c .before .before .before .before .before .before .before .before .before .before .before .before .before .before .before .before .before .before .pre) .1 .3 .0 in
-    let s1 = (c .before .before .before .before .before .before .before .before .before .before .before .before .before .before .before .before .before .before .pre) .1 .3 .1 in
-    let s2 = (c .before .before .before .before .before .before .before .before .before .before .before .before .before .before .before .before .before .before .pre) .1 .3 .2 in
-    let s3 = (c .before .before .before .before .before .before .before .before .before .before .before .before .before .before .before .before .before .before .pre) .1 .3 .3 in
-    let i1 = (c .before .before .before .before .before .before .before .before .before .before .loop) .inv .1 ∙ length-set ((c .before .before .before .before .before .before .before .before .before .before .before .before .before .before .before .before .before .before .args) .left .now) 0 ((c .before .before .before .before .before .before .before .before .before .before .before .before .before .before .before .before .before .before .args) .l) in
-    let i2 = (c .before .before .before .before .before .before .before .before .before .before .loop) .inv .2 ∙ length-set ((c .before .before .before .before .before .before .before .before .before .before .before .before .before .before .before .before .before .before .args) .right .now) 0 ((c .before .before .before .before .before .before .before .before .before .before .before .before .before .before .before .before .before .before .args) .r) in
-    let k1 = ((c .before .before .before .before .before .before .before .next-pair) .kept .1 .1 .1 .1 .1 .0) in
-    let k2 = ((c .before .before .before .before .before .before .before .next-pair) .kept .1 .1 .1 .1 .1 .1 .1 .1 .1 .0) in
     record { fits = omega arith }
 
 -- src/lib.rt:587:21
@@ -1241,20 +1172,11 @@ eq-stack-sub-eq-value-3 : (t : ℕ) → eq-stack-lts.Need-sub-eq-value-3 (
   eq-value.Post,
 ) (eq-stack-at t) eq-stack.Post eq-stack-Inv-loop eq-stack-μ-loop
 eq-stack-sub-eq-value-3 t c =
-    let w = (given-low (tab ((c .before .before .before .before .before .before .before .before .before .before .before .before .before .before .before .before .before .before .args) .rows .now) ((c .before .before .before .before .before .before .before .before .before .before .before .before .before .before .before .before .before .before .args) .parts .now)) (argsOf (tab ((c .before .before .before .before .before .before .before .before .before .before .before .before .before .before .before .before .before .before .args) .rows .now) ((c .before .before .before .before .before .before .before .before .before .before .before .before .before .before .before .before .before .before .args) .parts .now)) ((c .before .before .before .before .before .before .before .before .before .before .before .before .before .before .before .before .before .before .args) .args .now) ((c .before .before .before .before .before .before .before .before .before .before .before .before .before .before .before .before .before .before .args) .m)) ((c .before .before .before .before .before .before .before .before .before .before .before .before .before .before .before .before .before .before .args) .m) ((c .before .before .before .before .before .before .before .before .before .before .before .before .before .before .before .before .before .before .args) .by) ((c .before .before .before .before .before .before .before .before .before .before .before .before .before .before .before .before .before .before .args) .d) ((c .before .before .before .before .before .before .before .before .before .before .before .before .before .before .before .before .before .before .args) .l) ((c .before .before .before .before .before .before .before .before .before .before .before .before .before .before .before .before .before .before .args) .by2) ((c .before .before .before .before .before .before .before .before .before .before .before .before .before .before .before .before .before .before .args) .d2) ((c .before .before .before .before .before .before .before .before .before .before .before .before .before .before .before .before .before .before .args) .r) ((c .before .before .before .before .before .before .before .before .before .before .loop) .left) ((c .before .before .before .before .before .before .before .before .before .before .loop) .i) ((c .before .before .before .before .before .before .before .before .before .before .loop) .right) ((c .before .before .before .before .before .before .before .before .before .before .loop) .j) ((c .before .before .before .before .before .before .before .before .before .before .loop) .inv .0) ((c .before .before .before .before .before .before .before .next-pair) .last .1 .1 .1 .1 .1 .0) ((c .before .before .before .before .before .before .before .next-pair) .last .1 .1 .1 .1 .1 .1 .1 .1 .1 .0) ((c .before .before .before .before .before .before .before .next-pair) .result) ((c .before .s3) .given .0 .0) ((c .before .s3) .given .0 .1 .0) ((c .before .s3) .given .0 .1 .1 .0) ((c .before .s3) .given .0 .1 .1 .1 .0) ((c .before .before .before .before .before .before .before .next-pair) .ensures ((c .before .before .before .before .before .before .before .before .before .before .before .before .before .before .before .before .before .before .args) .parts .now)) ((c .before .s3) .given .1)) in
+    let w = given-room ((c .before .before .before .before .before .before .before .before .before .before .before .before .before .before .before .before .before .before .args) .m) ((c .before .before .before .before .before .before .before .before .before .before .before .before .before .before .before .before .before .before .args) .l) (given-low (tab ((c .before .before .before .before .before .before .before .before .before .before .before .before .before .before .before .before .before .before .args) .rows .now) ((c .before .before .before .before .before .before .before .before .before .before .before .before .before .before .before .before .before .before .args) .parts .now)) (argsOf (tab ((c .before .before .before .before .before .before .before .before .before .before .before .before .before .before .before .before .before .before .args) .rows .now) ((c .before .before .before .before .before .before .before .before .before .before .before .before .before .before .before .before .before .before .args) .parts .now)) ((c .before .before .before .before .before .before .before .before .before .before .before .before .before .before .before .before .before .before .args) .args .now) ((c .before .before .before .before .before .before .before .before .before .before .before .before .before .before .before .before .before .before .args) .m)) ((c .before .before .before .before .before .before .before .before .before .before .before .before .before .before .before .before .before .before .args) .m) ((c .before .before .before .before .before .before .before .before .before .before .before .before .before .before .before .before .before .before .args) .by) ((c .before .before .before .before .before .before .before .before .before .before .before .before .before .before .before .before .before .before .args) .d) ((c .before .before .before .before .before .before .before .before .before .before .before .before .before .before .before .before .before .before .args) .l) ((c .before .before .before .before .before .before .before .before .before .before .before .before .before .before .before .before .before .before .args) .by2) ((c .before .before .before .before .before .before .before .before .before .before .before .before .before .before .before .before .before .before .args) .d2) ((c .before .before .before .before .before .before .before .before .before .before .before .before .before .before .before .before .before .before .args) .r) ((c .before .before .before .before .before .before .before .before .before .before .loop) .left) ((c .before .before .before .before .before .before .before .before .before .before .loop) .i) ((c .before .before .before .before .before .before .before .before .before .before .loop) .right) ((c .before .before .before .before .before .before .before .before .before .before .loop) .j) ((c .before .before .before .before .before .before .before .before .before .before .loop) .inv .0) ((c .before .before .before .before .before .before .before .next-pair) .last .1 .1 .1 .1 .1 .0) ((c .before .before .before .before .before .before .before .next-pair) .last .1 .1 .1 .1 .1 .1 .1 .1 .1 .0) ((c .before .before .before .before .before .before .before .next-pair) .result) ((c .before .s3) .given .0 .0) ((c .before .s3) .given .0 .1 .0) ((c .before .s3) .given .0 .1 .1 .0) ((c .before .s3) .given .0 .1 .1 .1 .0) ((c .before .before .before .before .before .before .before .next-pair) .ensures ((c .before .before .before .before .before .before .before .before .before .before .before .before .before .before .before .before .before .before .args) .parts .now)) ((c .before .s3) .given .1)) ((c .before .before .before .before .before .before .before .before .before .before .before .before .before .before .before .before .before .before .pre) .1 .3) (((c .before .before .before .before .before .before .before .next-pair) .kept .1 .1 .1 .1 .1 .0) ∙ (c .before .before .before .before .before .before .before .before .before .before .loop) .inv .1 ∙ length-set ((c .before .before .before .before .before .before .before .before .before .before .before .before .before .before .before .before .before .before .args) .left .now) 0 ((c .before .before .before .before .before .before .before .before .before .before .before .before .before .before .before .before .before .before .args) .l)) (((c .before .before .before .before .before .before .before .next-pair) .kept .1 .1 .1 .1 .1 .1 .1 .1 .1 .0) ∙ (c .before .before .before .before .before .before .before .before .before .before .loop) .inv .2 ∙ length-set ((c .before .before .before .before .before .before .before .before .before .before .before .before .before .before .before .before .before .before .args) .right .now) 0 ((c .before .before .before .before .before .before .before .before .before .before .before .before .before .before .before .before .before .before .args) .r)) in
     let w0 = w .0 in
     let w1 = w .1 in
     let w2 = w .2 in
     let w3 = w .3 in
-    let rm = room-of 0 ((c .before .before .before .before .before .before .before .before .before .before .before .before .before .before .before .before .before .before .args) .m) w0 in
-    let s0 = (c .before .before .before .before .before .before .before .before .before .before .before .before .before .before .before .before .before .before .pre) .1 .3 .0 in
-    let s1 = (c .before .before .before .before .before .before .before .before .before .before .before .before .before .before .before .before .before .before .pre) .1 .3 .1 in
-    let s2 = (c .before .before .before .before .before .before .before .before .before .before .before .before .before .before .before .before .before .before .pre) .1 .3 .2 in
-    let s3 = (c .before .before .before .before .before .before .before .before .before .before .before .before .before .before .before .before .before .before .pre) .1 .3 .3 in
-    let i1 = (c .before .before .before .before .before .before .before .before .before .before .loop) .inv .1 ∙ length-set ((c .before .before .before .before .before .before .before .before .before .before .before .before .before .before .before .before .before .before .args) .left .now) 0 ((c .before .before .before .before .before .before .before .before .before .before .before .before .before .before .before .before .before .before .args) .l) in
-    let i2 = (c .before .before .before .before .before .before .before .before .before .before .loop) .inv .2 ∙ length-set ((c .before .before .before .before .before .before .before .before .before .before .before .before .before .before .before .before .before .before .args) .right .now) 0 ((c .before .before .before .before .before .before .before .before .before .before .before .before .before .before .before .before .before .before .args) .r) in
-    let k1 = ((c .before .before .before .before .before .before .before .next-pair) .kept .1 .1 .1 .1 .1 .0) in
-    let k2 = ((c .before .before .before .before .before .before .before .next-pair) .kept .1 .1 .1 .1 .1 .1 .1 .1 .1 .0) in
     omega arith
 
 -- src/lib.rt:587:21
@@ -1267,20 +1189,11 @@ eq-stack-part-eq-value-start-3 : (t : ℕ) → eq-stack-lts.Need-part-eq-value-s
   eq-value.Post,
 ) (eq-stack-at t) eq-stack.Post eq-stack-Inv-loop eq-stack-μ-loop
 eq-stack-part-eq-value-start-3 t c =
-    let w = (given-low (tab ((c .before .before .before .before .before .before .before .before .before .before .before .before .before .before .before .before .before .before .args) .rows .now) ((c .before .before .before .before .before .before .before .before .before .before .before .before .before .before .before .before .before .before .args) .parts .now)) (argsOf (tab ((c .before .before .before .before .before .before .before .before .before .before .before .before .before .before .before .before .before .before .args) .rows .now) ((c .before .before .before .before .before .before .before .before .before .before .before .before .before .before .before .before .before .before .args) .parts .now)) ((c .before .before .before .before .before .before .before .before .before .before .before .before .before .before .before .before .before .before .args) .args .now) ((c .before .before .before .before .before .before .before .before .before .before .before .before .before .before .before .before .before .before .args) .m)) ((c .before .before .before .before .before .before .before .before .before .before .before .before .before .before .before .before .before .before .args) .m) ((c .before .before .before .before .before .before .before .before .before .before .before .before .before .before .before .before .before .before .args) .by) ((c .before .before .before .before .before .before .before .before .before .before .before .before .before .before .before .before .before .before .args) .d) ((c .before .before .before .before .before .before .before .before .before .before .before .before .before .before .before .before .before .before .args) .l) ((c .before .before .before .before .before .before .before .before .before .before .before .before .before .before .before .before .before .before .args) .by2) ((c .before .before .before .before .before .before .before .before .before .before .before .before .before .before .before .before .before .before .args) .d2) ((c .before .before .before .before .before .before .before .before .before .before .before .before .before .before .before .before .before .before .args) .r) ((c .before .before .before .before .before .before .before .before .before .before .loop) .left) ((c .before .before .before .before .before .before .before .before .before .before .loop) .i) ((c .before .before .before .before .before .before .before .before .before .before .loop) .right) ((c .before .before .before .before .before .before .before .before .before .before .loop) .j) ((c .before .before .before .before .before .before .before .before .before .before .loop) .inv .0) ((c .before .before .before .before .before .before .before .next-pair) .last .1 .1 .1 .1 .1 .0) ((c .before .before .before .before .before .before .before .next-pair) .last .1 .1 .1 .1 .1 .1 .1 .1 .1 .0) ((c .before .before .before .before .before .before .before .next-pair) .result) ((c .before .s3) .given .0 .0) ((c .before .s3) .given .0 .1 .0) ((c .before .s3) .given .0 .1 .1 .0) ((c .before .s3) .given .0 .1 .1 .1 .0) ((c .before .before .before .before .before .before .before .next-pair) .ensures ((c .before .before .before .before .before .before .before .before .before .before .before .before .before .before .before .before .before .before .args) .parts .now)) ((c .before .s3) .given .1)) in
+    let w = given-room ((c .before .before .before .before .before .before .before .before .before .before .before .before .before .before .before .before .before .before .args) .m) ((c .before .before .before .before .before .before .before .before .before .before .before .before .before .before .before .before .before .before .args) .l) (given-low (tab ((c .before .before .before .before .before .before .before .before .before .before .before .before .before .before .before .before .before .before .args) .rows .now) ((c .before .before .before .before .before .before .before .before .before .before .before .before .before .before .before .before .before .before .args) .parts .now)) (argsOf (tab ((c .before .before .before .before .before .before .before .before .before .before .before .before .before .before .before .before .before .before .args) .rows .now) ((c .before .before .before .before .before .before .before .before .before .before .before .before .before .before .before .before .before .before .args) .parts .now)) ((c .before .before .before .before .before .before .before .before .before .before .before .before .before .before .before .before .before .before .args) .args .now) ((c .before .before .before .before .before .before .before .before .before .before .before .before .before .before .before .before .before .before .args) .m)) ((c .before .before .before .before .before .before .before .before .before .before .before .before .before .before .before .before .before .before .args) .m) ((c .before .before .before .before .before .before .before .before .before .before .before .before .before .before .before .before .before .before .args) .by) ((c .before .before .before .before .before .before .before .before .before .before .before .before .before .before .before .before .before .before .args) .d) ((c .before .before .before .before .before .before .before .before .before .before .before .before .before .before .before .before .before .before .args) .l) ((c .before .before .before .before .before .before .before .before .before .before .before .before .before .before .before .before .before .before .args) .by2) ((c .before .before .before .before .before .before .before .before .before .before .before .before .before .before .before .before .before .before .args) .d2) ((c .before .before .before .before .before .before .before .before .before .before .before .before .before .before .before .before .before .before .args) .r) ((c .before .before .before .before .before .before .before .before .before .before .loop) .left) ((c .before .before .before .before .before .before .before .before .before .before .loop) .i) ((c .before .before .before .before .before .before .before .before .before .before .loop) .right) ((c .before .before .before .before .before .before .before .before .before .before .loop) .j) ((c .before .before .before .before .before .before .before .before .before .before .loop) .inv .0) ((c .before .before .before .before .before .before .before .next-pair) .last .1 .1 .1 .1 .1 .0) ((c .before .before .before .before .before .before .before .next-pair) .last .1 .1 .1 .1 .1 .1 .1 .1 .1 .0) ((c .before .before .before .before .before .before .before .next-pair) .result) ((c .before .s3) .given .0 .0) ((c .before .s3) .given .0 .1 .0) ((c .before .s3) .given .0 .1 .1 .0) ((c .before .s3) .given .0 .1 .1 .1 .0) ((c .before .before .before .before .before .before .before .next-pair) .ensures ((c .before .before .before .before .before .before .before .before .before .before .before .before .before .before .before .before .before .before .args) .parts .now)) ((c .before .s3) .given .1)) ((c .before .before .before .before .before .before .before .before .before .before .before .before .before .before .before .before .before .before .pre) .1 .3) (((c .before .before .before .before .before .before .before .next-pair) .kept .1 .1 .1 .1 .1 .0) ∙ (c .before .before .before .before .before .before .before .before .before .before .loop) .inv .1 ∙ length-set ((c .before .before .before .before .before .before .before .before .before .before .before .before .before .before .before .before .before .before .args) .left .now) 0 ((c .before .before .before .before .before .before .before .before .before .before .before .before .before .before .before .before .before .before .args) .l)) (((c .before .before .before .before .before .before .before .next-pair) .kept .1 .1 .1 .1 .1 .1 .1 .1 .1 .0) ∙ (c .before .before .before .before .before .before .before .before .before .before .loop) .inv .2 ∙ length-set ((c .before .before .before .before .before .before .before .before .before .before .before .before .before .before .before .before .before .before .args) .right .now) 0 ((c .before .before .before .before .before .before .before .before .before .before .before .before .before .before .before .before .before .before .args) .r)) in
     let w0 = w .0 in
     let w1 = w .1 in
     let w2 = w .2 in
     let w3 = w .3 in
-    let rm = room-of 0 ((c .before .before .before .before .before .before .before .before .before .before .before .before .before .before .before .before .before .before .args) .m) w0 in
-    let s0 = (c .before .before .before .before .before .before .before .before .before .before .before .before .before .before .before .before .before .before .pre) .1 .3 .0 in
-    let s1 = (c .before .before .before .before .before .before .before .before .before .before .before .before .before .before .before .before .before .before .pre) .1 .3 .1 in
-    let s2 = (c .before .before .before .before .before .before .before .before .before .before .before .before .before .before .before .before .before .before .pre) .1 .3 .2 in
-    let s3 = (c .before .before .before .before .before .before .before .before .before .before .before .before .before .before .before .before .before .before .pre) .1 .3 .3 in
-    let i1 = (c .before .before .before .before .before .before .before .before .before .before .loop) .inv .1 ∙ length-set ((c .before .before .before .before .before .before .before .before .before .before .before .before .before .before .before .before .before .before .args) .left .now) 0 ((c .before .before .before .before .before .before .before .before .before .before .before .before .before .before .before .before .before .before .args) .l) in
-    let i2 = (c .before .before .before .before .before .before .before .before .before .before .loop) .inv .2 ∙ length-set ((c .before .before .before .before .before .before .before .before .before .before .before .before .before .before .before .before .before .before .args) .right .now) 0 ((c .before .before .before .before .before .before .before .before .before .before .before .before .before .before .before .before .before .before .args) .r) in
-    let k1 = ((c .before .before .before .before .before .before .before .next-pair) .kept .1 .1 .1 .1 .1 .0) in
-    let k2 = ((c .before .before .before .before .before .before .before .next-pair) .kept .1 .1 .1 .1 .1 .1 .1 .1 .1 .0) in
     omega arith
 
 -- src/lib.rt:587:21
@@ -1293,20 +1206,11 @@ eq-stack-part-eq-value-end-3 : (t : ℕ) → eq-stack-lts.Need-part-eq-value-end
   eq-value.Post,
 ) (eq-stack-at t) eq-stack.Post eq-stack-Inv-loop eq-stack-μ-loop
 eq-stack-part-eq-value-end-3 t c =
-    let w = (given-low (tab ((c .before .before .before .before .before .before .before .before .before .before .before .before .before .before .before .before .before .before .args) .rows .now) ((c .before .before .before .before .before .before .before .before .before .before .before .before .before .before .before .before .before .before .args) .parts .now)) (argsOf (tab ((c .before .before .before .before .before .before .before .before .before .before .before .before .before .before .before .before .before .before .args) .rows .now) ((c .before .before .before .before .before .before .before .before .before .before .before .before .before .before .before .before .before .before .args) .parts .now)) ((c .before .before .before .before .before .before .before .before .before .before .before .before .before .before .before .before .before .before .args) .args .now) ((c .before .before .before .before .before .before .before .before .before .before .before .before .before .before .before .before .before .before .args) .m)) ((c .before .before .before .before .before .before .before .before .before .before .before .before .before .before .before .before .before .before .args) .m) ((c .before .before .before .before .before .before .before .before .before .before .before .before .before .before .before .before .before .before .args) .by) ((c .before .before .before .before .before .before .before .before .before .before .before .before .before .before .before .before .before .before .args) .d) ((c .before .before .before .before .before .before .before .before .before .before .before .before .before .before .before .before .before .before .args) .l) ((c .before .before .before .before .before .before .before .before .before .before .before .before .before .before .before .before .before .before .args) .by2) ((c .before .before .before .before .before .before .before .before .before .before .before .before .before .before .before .before .before .before .args) .d2) ((c .before .before .before .before .before .before .before .before .before .before .before .before .before .before .before .before .before .before .args) .r) ((c .before .before .before .before .before .before .before .before .before .before .loop) .left) ((c .before .before .before .before .before .before .before .before .before .before .loop) .i) ((c .before .before .before .before .before .before .before .before .before .before .loop) .right) ((c .before .before .before .before .before .before .before .before .before .before .loop) .j) ((c .before .before .before .before .before .before .before .before .before .before .loop) .inv .0) ((c .before .before .before .before .before .before .before .next-pair) .last .1 .1 .1 .1 .1 .0) ((c .before .before .before .before .before .before .before .next-pair) .last .1 .1 .1 .1 .1 .1 .1 .1 .1 .0) ((c .before .before .before .before .before .before .before .next-pair) .result) ((c .before .s3) .given .0 .0) ((c .before .s3) .given .0 .1 .0) ((c .before .s3) .given .0 .1 .1 .0) ((c .before .s3) .given .0 .1 .1 .1 .0) ((c .before .before .before .before .before .before .before .next-pair) .ensures ((c .before .before .before .before .before .before .before .before .before .before .before .before .before .before .before .before .before .before .args) .parts .now)) ((c .before .s3) .given .1)) in
+    let w = given-room ((c .before .before .before .before .before .before .before .before .before .before .before .before .before .before .before .before .before .before .args) .m) ((c .before .before .before .before .before .before .before .before .before .before .before .before .before .before .before .before .before .before .args) .l) (given-low (tab ((c .before .before .before .before .before .before .before .before .before .before .before .before .before .before .before .before .before .before .args) .rows .now) ((c .before .before .before .before .before .before .before .before .before .before .before .before .before .before .before .before .before .before .args) .parts .now)) (argsOf (tab ((c .before .before .before .before .before .before .before .before .before .before .before .before .before .before .before .before .before .before .args) .rows .now) ((c .before .before .before .before .before .before .before .before .before .before .before .before .before .before .before .before .before .before .args) .parts .now)) ((c .before .before .before .before .before .before .before .before .before .before .before .before .before .before .before .before .before .before .args) .args .now) ((c .before .before .before .before .before .before .before .before .before .before .before .before .before .before .before .before .before .before .args) .m)) ((c .before .before .before .before .before .before .before .before .before .before .before .before .before .before .before .before .before .before .args) .m) ((c .before .before .before .before .before .before .before .before .before .before .before .before .before .before .before .before .before .before .args) .by) ((c .before .before .before .before .before .before .before .before .before .before .before .before .before .before .before .before .before .before .args) .d) ((c .before .before .before .before .before .before .before .before .before .before .before .before .before .before .before .before .before .before .args) .l) ((c .before .before .before .before .before .before .before .before .before .before .before .before .before .before .before .before .before .before .args) .by2) ((c .before .before .before .before .before .before .before .before .before .before .before .before .before .before .before .before .before .before .args) .d2) ((c .before .before .before .before .before .before .before .before .before .before .before .before .before .before .before .before .before .before .args) .r) ((c .before .before .before .before .before .before .before .before .before .before .loop) .left) ((c .before .before .before .before .before .before .before .before .before .before .loop) .i) ((c .before .before .before .before .before .before .before .before .before .before .loop) .right) ((c .before .before .before .before .before .before .before .before .before .before .loop) .j) ((c .before .before .before .before .before .before .before .before .before .before .loop) .inv .0) ((c .before .before .before .before .before .before .before .next-pair) .last .1 .1 .1 .1 .1 .0) ((c .before .before .before .before .before .before .before .next-pair) .last .1 .1 .1 .1 .1 .1 .1 .1 .1 .0) ((c .before .before .before .before .before .before .before .next-pair) .result) ((c .before .s3) .given .0 .0) ((c .before .s3) .given .0 .1 .0) ((c .before .s3) .given .0 .1 .1 .0) ((c .before .s3) .given .0 .1 .1 .1 .0) ((c .before .before .before .before .before .before .before .next-pair) .ensures ((c .before .before .before .before .before .before .before .before .before .before .before .before .before .before .before .before .before .before .args) .parts .now)) ((c .before .s3) .given .1)) ((c .before .before .before .before .before .before .before .before .before .before .before .before .before .before .before .before .before .before .pre) .1 .3) (((c .before .before .before .before .before .before .before .next-pair) .kept .1 .1 .1 .1 .1 .0) ∙ (c .before .before .before .before .before .before .before .before .before .before .loop) .inv .1 ∙ length-set ((c .before .before .before .before .before .before .before .before .before .before .before .before .before .before .before .before .before .before .args) .left .now) 0 ((c .before .before .before .before .before .before .before .before .before .before .before .before .before .before .before .before .before .before .args) .l)) (((c .before .before .before .before .before .before .before .next-pair) .kept .1 .1 .1 .1 .1 .1 .1 .1 .1 .0) ∙ (c .before .before .before .before .before .before .before .before .before .before .loop) .inv .2 ∙ length-set ((c .before .before .before .before .before .before .before .before .before .before .before .before .before .before .before .before .before .before .args) .right .now) 0 ((c .before .before .before .before .before .before .before .before .before .before .before .before .before .before .before .before .before .before .args) .r)) in
     let w0 = w .0 in
     let w1 = w .1 in
     let w2 = w .2 in
     let w3 = w .3 in
-    let rm = room-of 0 ((c .before .before .before .before .before .before .before .before .before .before .before .before .before .before .before .before .before .before .args) .m) w0 in
-    let s0 = (c .before .before .before .before .before .before .before .before .before .before .before .before .before .before .before .before .before .before .pre) .1 .3 .0 in
-    let s1 = (c .before .before .before .before .before .before .before .before .before .before .before .before .before .before .before .before .before .before .pre) .1 .3 .1 in
-    let s2 = (c .before .before .before .before .before .before .before .before .before .before .before .before .before .before .before .before .before .before .pre) .1 .3 .2 in
-    let s3 = (c .before .before .before .before .before .before .before .before .before .before .before .before .before .before .before .before .before .before .pre) .1 .3 .3 in
-    let i1 = (c .before .before .before .before .before .before .before .before .before .before .loop) .inv .1 ∙ length-set ((c .before .before .before .before .before .before .before .before .before .before .before .before .before .before .before .before .before .before .args) .left .now) 0 ((c .before .before .before .before .before .before .before .before .before .before .before .before .before .before .before .before .before .before .args) .l) in
-    let i2 = (c .before .before .before .before .before .before .before .before .before .before .loop) .inv .2 ∙ length-set ((c .before .before .before .before .before .before .before .before .before .before .before .before .before .before .before .before .before .before .args) .right .now) 0 ((c .before .before .before .before .before .before .before .before .before .before .before .before .before .before .before .before .before .before .args) .r) in
-    let k1 = ((c .before .before .before .before .before .before .before .next-pair) .kept .1 .1 .1 .1 .1 .0) in
-    let k2 = ((c .before .before .before .before .before .before .before .next-pair) .kept .1 .1 .1 .1 .1 .1 .1 .1 .1 .0) in
     omega arith
 
 -- src/lib.rt:588:21
@@ -1319,20 +1223,11 @@ eq-stack-mul-eq-value-4 : (t : ℕ) → eq-stack-lts.Need-mul-eq-value-4 (
   eq-value.Post,
 ) (eq-stack-at t) eq-stack.Post eq-stack-Inv-loop eq-stack-μ-loop
 eq-stack-mul-eq-value-4 t c =
-    let w = (given-low (tab ((c .before .before .before .before .before .before .before .before .before .before .before .before .before .before .before .before .before .before .before .args) .rows .now) ((c .before .before .before .before .before .before .before .before .before .before .before .before .before .before .before .before .before .before .before .args) .parts .now)) (argsOf (tab ((c .before .before .before .before .before .before .before .before .before .before .before .before .before .before .before .before .before .before .before .args) .rows .now) ((c .before .before .before .before .before .before .before .before .before .before .before .before .before .before .before .before .before .before .before .args) .parts .now)) ((c .before .before .before .before .before .before .before .before .before .before .before .before .before .before .before .before .before .before .before .args) .args .now) ((c .before .before .before .before .before .before .before .before .before .before .before .before .before .before .before .before .before .before .before .args) .m)) ((c .before .before .before .before .before .before .before .before .before .before .before .before .before .before .before .before .before .before .before .args) .m) ((c .before .before .before .before .before .before .before .before .before .before .before .before .before .before .before .before .before .before .before .args) .by) ((c .before .before .before .before .before .before .before .before .before .before .before .before .before .before .before .before .before .before .before .args) .d) ((c .before .before .before .before .before .before .before .before .before .before .before .before .before .before .before .before .before .before .before .args) .l) ((c .before .before .before .before .before .before .before .before .before .before .before .before .before .before .before .before .before .before .before .args) .by2) ((c .before .before .before .before .before .before .before .before .before .before .before .before .before .before .before .before .before .before .before .args) .d2) ((c .before .before .before .before .before .before .before .before .before .before .before .before .before .before .before .before .before .before .before .args) .r) ((c .before .before .before .before .before .before .before .before .before .before .before .loop) .left) ((c .before .before .before .before .before .before .before .before .before .before .before .loop) .i) ((c .before .before .before .before .before .before .before .before .before .before .before .loop) .right) ((c .before .before .before .before .before .before .before .before .before .before .before .loop) .j) ((c .before .before .before .before .before .before .before .before .before .before .before .loop) .inv .0) ((c .before .before .before .before .before .before .before .before .next-pair) .last .1 .1 .1 .1 .1 .0) ((c .before .before .before .before .before .before .before .before .next-pair) .last .1 .1 .1 .1 .1 .1 .1 .1 .1 .0) ((c .before .before .before .before .before .before .before .before .next-pair) .result) ((c .before .before .s3) .given .0 .0) ((c .before .before .s3) .given .0 .1 .0) ((c .before .before .s3) .given .0 .1 .1 .0) ((c .before .before .s3) .given .0 .1 .1 .1 .0) ((c .before .before .before .before .before .before .before .before .next-pair) .ensures ((c .before .before .before .before .before .before .before .before .before .before .before .before .before .before .before .before .before .before .before .args) .parts .now)) ((c .before .before .s3) .given .1)) in
+    let w = given-room ((c .before .before .before .before .before .before .before .before .before .before .before .before .before .before .before .before .before .before .before .args) .m) ((c .before .before .before .before .before .before .before .before .before .before .before .before .before .before .before .before .before .before .before .args) .l) (given-low (tab ((c .before .before .before .before .before .before .before .before .before .before .before .before .before .before .before .before .before .before .before .args) .rows .now) ((c .before .before .before .before .before .before .before .before .before .before .before .before .before .before .before .before .before .before .before .args) .parts .now)) (argsOf (tab ((c .before .before .before .before .before .before .before .before .before .before .before .before .before .before .before .before .before .before .before .args) .rows .now) ((c .before .before .before .before .before .before .before .before .before .before .before .before .before .before .before .before .before .before .before .args) .parts .now)) ((c .before .before .before .before .before .before .before .before .before .before .before .before .before .before .before .before .before .before .before .args) .args .now) ((c .before .before .before .before .before .before .before .before .before .before .before .before .before .before .before .before .before .before .before .args) .m)) ((c .before .before .before .before .before .before .before .before .before .before .before .before .before .before .before .before .before .before .before .args) .m) ((c .before .before .before .before .before .before .before .before .before .before .before .before .before .before .before .before .before .before .before .args) .by) ((c .before .before .before .before .before .before .before .before .before .before .before .before .before .before .before .before .before .before .before .args) .d) ((c .before .before .before .before .before .before .before .before .before .before .before .before .before .before .before .before .before .before .before .args) .l) ((c .before .before .before .before .before .before .before .before .before .before .before .before .before .before .before .before .before .before .before .args) .by2) ((c .before .before .before .before .before .before .before .before .before .before .before .before .before .before .before .before .before .before .before .args) .d2) ((c .before .before .before .before .before .before .before .before .before .before .before .before .before .before .before .before .before .before .before .args) .r) ((c .before .before .before .before .before .before .before .before .before .before .before .loop) .left) ((c .before .before .before .before .before .before .before .before .before .before .before .loop) .i) ((c .before .before .before .before .before .before .before .before .before .before .before .loop) .right) ((c .before .before .before .before .before .before .before .before .before .before .before .loop) .j) ((c .before .before .before .before .before .before .before .before .before .before .before .loop) .inv .0) ((c .before .before .before .before .before .before .before .before .next-pair) .last .1 .1 .1 .1 .1 .0) ((c .before .before .before .before .before .before .before .before .next-pair) .last .1 .1 .1 .1 .1 .1 .1 .1 .1 .0) ((c .before .before .before .before .before .before .before .before .next-pair) .result) ((c .before .before .s3) .given .0 .0) ((c .before .before .s3) .given .0 .1 .0) ((c .before .before .s3) .given .0 .1 .1 .0) ((c .before .before .s3) .given .0 .1 .1 .1 .0) ((c .before .before .before .before .before .before .before .before .next-pair) .ensures ((c .before .before .before .before .before .before .before .before .before .before .before .before .before .before .before .before .before .before .before .args) .parts .now)) ((c .before .before .s3) .given .1)) ((c .before .before .before .before .before .before .before .before .before .before .before .before .before .before .before .before .before .before .before .pre) .1 .3) (((c .before .before .before .before .before .before .before .before .next-pair) .kept .1 .1 .1 .1 .1 .0) ∙ (c .before .before .before .before .before .before .before .before .before .before .before .loop) .inv .1 ∙ length-set ((c .before .before .before .before .before .before .before .before .before .before .before .before .before .before .before .before .before .before .before .args) .left .now) 0 ((c .before .before .before .before .before .before .before .before .before .before .before .before .before .before .before .before .before .before .before .args) .l)) (((c .before .before .before .before .before .before .before .before .next-pair) .kept .1 .1 .1 .1 .1 .1 .1 .1 .1 .0) ∙ (c .before .before .before .before .before .before .before .before .before .before .before .loop) .inv .2 ∙ length-set ((c .before .before .before .before .before .before .before .before .before .before .before .before .before .before .before .before .before .before .before .args) .right .now) 0 ((c .before .before .before .before .before .before .before .before .before .before .before .before .before .before .before .before .before .before .before .args) .r)) in
     let w0 = w .0 in
     let w1 = w .1 in
     let w2 = w .2 in
     let w3 = w .3 in
-    let rm = room-of 0 ((c .before .before .before .before .before .before .before .before .before .before .before .before .before .before .before .before .before .before .before .args) .m) w0 in
-    let s0 = (c .before .before .before .before .before .before .before .before .before .before .before .before .before .before .before .before .before .before .before .pre) .1 .3 .0 in
-    let s1 = (c .before .before .before .before .before .before .before .before .before .before .before .before .before .before .before .before .before .before .before .pre) .1 .3 .1 in
-    let s2 = (c .before .before .before .before .before .before .before .before .before .before .before .before .before .before .before .before .before .before .before .pre) .1 .3 .2 in
-    let s3 = (c .before .before .before .before .before .before .before .before .before .before .before .before .before .before .before .before .before .before .before .pre) .1 .3 .3 in
-    let i1 = (c .before .before .before .before .before .before .before .before .before .before .before .loop) .inv .1 ∙ length-set ((c .before .before .before .before .before .before .before .before .before .before .before .before .before .before .before .before .before .before .before .args) .left .now) 0 ((c .before .before .before .before .before .before .before .before .before .before .before .before .before .before .before .before .before .before .before .args) .l) in
-    let i2 = (c .before .before .before .before .before .before .before .before .before .before .before .loop) .inv .2 ∙ length-set ((c .before .before .before .before .before .before .before .before .before .before .before .before .before .before .before .before .before .before .before .args) .right .now) 0 ((c .before .before .before .before .before .before .before .before .before .before .before .before .before .before .before .before .before .before .before .args) .r) in
-    let k1 = ((c .before .before .before .before .before .before .before .before .next-pair) .kept .1 .1 .1 .1 .1 .0) in
-    let k2 = ((c .before .before .before .before .before .before .before .before .next-pair) .kept .1 .1 .1 .1 .1 .1 .1 .1 .1 .0) in
     record { fits = omega arith }
 
 -- src/lib.rt:588:21
@@ -1345,20 +1240,11 @@ eq-stack-sub-eq-value-4 : (t : ℕ) → eq-stack-lts.Need-sub-eq-value-4 (
   eq-value.Post,
 ) (eq-stack-at t) eq-stack.Post eq-stack-Inv-loop eq-stack-μ-loop
 eq-stack-sub-eq-value-4 t c =
-    let w = (given-low (tab ((c .before .before .before .before .before .before .before .before .before .before .before .before .before .before .before .before .before .before .before .args) .rows .now) ((c .before .before .before .before .before .before .before .before .before .before .before .before .before .before .before .before .before .before .before .args) .parts .now)) (argsOf (tab ((c .before .before .before .before .before .before .before .before .before .before .before .before .before .before .before .before .before .before .before .args) .rows .now) ((c .before .before .before .before .before .before .before .before .before .before .before .before .before .before .before .before .before .before .before .args) .parts .now)) ((c .before .before .before .before .before .before .before .before .before .before .before .before .before .before .before .before .before .before .before .args) .args .now) ((c .before .before .before .before .before .before .before .before .before .before .before .before .before .before .before .before .before .before .before .args) .m)) ((c .before .before .before .before .before .before .before .before .before .before .before .before .before .before .before .before .before .before .before .args) .m) ((c .before .before .before .before .before .before .before .before .before .before .before .before .before .before .before .before .before .before .before .args) .by) ((c .before .before .before .before .before .before .before .before .before .before .before .before .before .before .before .before .before .before .before .args) .d) ((c .before .before .before .before .before .before .before .before .before .before .before .before .before .before .before .before .before .before .before .args) .l) ((c .before .before .before .before .before .before .before .before .before .before .before .before .before .before .before .before .before .before .before .args) .by2) ((c .before .before .before .before .before .before .before .before .before .before .before .before .before .before .before .before .before .before .before .args) .d2) ((c .before .before .before .before .before .before .before .before .before .before .before .before .before .before .before .before .before .before .before .args) .r) ((c .before .before .before .before .before .before .before .before .before .before .before .loop) .left) ((c .before .before .before .before .before .before .before .before .before .before .before .loop) .i) ((c .before .before .before .before .before .before .before .before .before .before .before .loop) .right) ((c .before .before .before .before .before .before .before .before .before .before .before .loop) .j) ((c .before .before .before .before .before .before .before .before .before .before .before .loop) .inv .0) ((c .before .before .before .before .before .before .before .before .next-pair) .last .1 .1 .1 .1 .1 .0) ((c .before .before .before .before .before .before .before .before .next-pair) .last .1 .1 .1 .1 .1 .1 .1 .1 .1 .0) ((c .before .before .before .before .before .before .before .before .next-pair) .result) ((c .before .before .s3) .given .0 .0) ((c .before .before .s3) .given .0 .1 .0) ((c .before .before .s3) .given .0 .1 .1 .0) ((c .before .before .s3) .given .0 .1 .1 .1 .0) ((c .before .before .before .before .before .before .before .before .next-pair) .ensures ((c .before .before .before .before .before .before .before .before .before .before .before .before .before .before .before .before .before .before .before .args) .parts .now)) ((c .before .before .s3) .given .1)) in
+    let w = given-room ((c .before .before .before .before .before .before .before .before .before .before .before .before .before .before .before .before .before .before .before .args) .m) ((c .before .before .before .before .before .before .before .before .before .before .before .before .before .before .before .before .before .before .before .args) .l) (given-low (tab ((c .before .before .before .before .before .before .before .before .before .before .before .before .before .before .before .before .before .before .before .args) .rows .now) ((c .before .before .before .before .before .before .before .before .before .before .before .before .before .before .before .before .before .before .before .args) .parts .now)) (argsOf (tab ((c .before .before .before .before .before .before .before .before .before .before .before .before .before .before .before .before .before .before .before .args) .rows .now) ((c .before .before .before .before .before .before .before .before .before .before .before .before .before .before .before .before .before .before .before .args) .parts .now)) ((c .before .before .before .before .before .before .before .before .before .before .before .before .before .before .before .before .before .before .before .args) .args .now) ((c .before .before .before .before .before .before .before .before .before .before .before .before .before .before .before .before .before .before .before .args) .m)) ((c .before .before .before .before .before .before .before .before .before .before .before .before .before .before .before .before .before .before .before .args) .m) ((c .before .before .before .before .before .before .before .before .before .before .before .before .before .before .before .before .before .before .before .args) .by) ((c .before .before .before .before .before .before .before .before .before .before .before .before .before .before .before .before .before .before .before .args) .d) ((c .before .before .before .before .before .before .before .before .before .before .before .before .before .before .before .before .before .before .before .args) .l) ((c .before .before .before .before .before .before .before .before .before .before .before .before .before .before .before .before .before .before .before .args) .by2) ((c .before .before .before .before .before .before .before .before .before .before .before .before .before .before .before .before .before .before .before .args) .d2) ((c .before .before .before .before .before .before .before .before .before .before .before .before .before .before .before .before .before .before .before .args) .r) ((c .before .before .before .before .before .before .before .before .before .before .before .loop) .left) ((c .before .before .before .before .before .before .before .before .before .before .before .loop) .i) ((c .before .before .before .before .before .before .before .before .before .before .before .loop) .right) ((c .before .before .before .before .before .before .before .before .before .before .before .loop) .j) ((c .before .before .before .before .before .before .before .before .before .before .before .loop) .inv .0) ((c .before .before .before .before .before .before .before .before .next-pair) .last .1 .1 .1 .1 .1 .0) ((c .before .before .before .before .before .before .before .before .next-pair) .last .1 .1 .1 .1 .1 .1 .1 .1 .1 .0) ((c .before .before .before .before .before .before .before .before .next-pair) .result) ((c .before .before .s3) .given .0 .0) ((c .before .before .s3) .given .0 .1 .0) ((c .before .before .s3) .given .0 .1 .1 .0) ((c .before .before .s3) .given .0 .1 .1 .1 .0) ((c .before .before .before .before .before .before .before .before .next-pair) .ensures ((c .before .before .before .before .before .before .before .before .before .before .before .before .before .before .before .before .before .before .before .args) .parts .now)) ((c .before .before .s3) .given .1)) ((c .before .before .before .before .before .before .before .before .before .before .before .before .before .before .before .before .before .before .before .pre) .1 .3) (((c .before .before .before .before .before .before .before .before .next-pair) .kept .1 .1 .1 .1 .1 .0) ∙ (c .before .before .before .before .before .before .before .before .before .before .before .loop) .inv .1 ∙ length-set ((c .before .before .before .before .before .before .before .before .before .before .before .before .before .before .before .before .before .before .before .args) .left .now) 0 ((c .before .before .before .before .before .before .before .before .before .before .before .before .before .before .before .before .before .before .before .args) .l)) (((c .before .before .before .before .before .before .before .before .next-pair) .kept .1 .1 .1 .1 .1 .1 .1 .1 .1 .0) ∙ (c .before .before .before .before .before .before .before .before .before .before .before .loop) .inv .2 ∙ length-set ((c .before .before .before .before .before .before .before .before .before .before .before .before .before .before .before .before .before .before .before .args) .right .now) 0 ((c .before .before .before .before .before .before .before .before .before .before .before .before .before .before .before .before .before .before .before .args) .r)) in
     let w0 = w .0 in
     let w1 = w .1 in
     let w2 = w .2 in
     let w3 = w .3 in
-    let rm = room-of 0 ((c .before .before .before .before .before .before .before .before .before .before .before .before .before .before .before .before .before .before .before .args) .m) w0 in
-    let s0 = (c .before .before .before .before .before .before .before .before .before .before .before .before .before .before .before .before .before .before .before .pre) .1 .3 .0 in
-    let s1 = (c .before .before .before .before .before .before .before .before .before .before .before .before .before .before .before .before .before .before .before .pre) .1 .3 .1 in
-    let s2 = (c .before .before .before .before .before .before .before .before .before .before .before .before .before .before .before .before .before .before .before .pre) .1 .3 .2 in
-    let s3 = (c .before .before .before .before .before .before .before .before .before .before .before .before .before .before .before .before .before .before .before .pre) .1 .3 .3 in
-    let i1 = (c .before .before .before .before .before .before .before .before .before .before .before .loop) .inv .1 ∙ length-set ((c .before .before .before .before .before .before .before .before .before .before .before .before .before .before .before .before .before .before .before .args) .left .now) 0 ((c .before .before .before .before .before .before .before .before .before .before .before .before .before .before .before .before .before .before .before .args) .l) in
-    let i2 = (c .before .before .before .before .before .before .before .before .before .before .before .loop) .inv .2 ∙ length-set ((c .before .before .before .before .before .before .before .before .before .before .before .before .before .before .before .before .before .before .before .args) .right .now) 0 ((c .before .before .before .before .before .before .before .before .before .before .before .before .before .before .before .before .before .before .before .args) .r) in
-    let k1 = ((c .before .before .before .before .before .before .before .before .next-pair) .kept .1 .1 .1 .1 .1 .0) in
-    let k2 = ((c .before .before .before .before .before .before .before .before .next-pair) .kept .1 .1 .1 .1 .1 .1 .1 .1 .1 .0) in
     omega arith
 
 -- src/lib.rt:588:21
@@ -1371,20 +1257,11 @@ eq-stack-part-eq-value-start-4 : (t : ℕ) → eq-stack-lts.Need-part-eq-value-s
   eq-value.Post,
 ) (eq-stack-at t) eq-stack.Post eq-stack-Inv-loop eq-stack-μ-loop
 eq-stack-part-eq-value-start-4 t c =
-    let w = (given-low (tab ((c .before .before .before .before .before .before .before .before .before .before .before .before .before .before .before .before .before .before .before .args) .rows .now) ((c .before .before .before .before .before .before .before .before .before .before .before .before .before .before .before .before .before .before .before .args) .parts .now)) (argsOf (tab ((c .before .before .before .before .before .before .before .before .before .before .before .before .before .before .before .before .before .before .before .args) .rows .now) ((c .before .before .before .before .before .before .before .before .before .before .before .before .before .before .before .before .before .before .before .args) .parts .now)) ((c .before .before .before .before .before .before .before .before .before .before .before .before .before .before .before .before .before .before .before .args) .args .now) ((c .before .before .before .before .before .before .before .before .before .before .before .before .before .before .before .before .before .before .before .args) .m)) ((c .before .before .before .before .before .before .before .before .before .before .before .before .before .before .before .before .before .before .before .args) .m) ((c .before .before .before .before .before .before .before .before .before .before .before .before .before .before .before .before .before .before .before .args) .by) ((c .before .before .before .before .before .before .before .before .before .before .before .before .before .before .before .before .before .before .before .args) .d) ((c .before .before .before .before .before .before .before .before .before .before .before .before .before .before .before .before .before .before .before .args) .l) ((c .before .before .before .before .before .before .before .before .before .before .before .before .before .before .before .before .before .before .before .args) .by2) ((c .before .before .before .before .before .before .before .before .before .before .before .before .before .before .before .before .before .before .before .args) .d2) ((c .before .before .before .before .before .before .before .before .before .before .before .before .before .before .before .before .before .before .before .args) .r) ((c .before .before .before .before .before .before .before .before .before .before .before .loop) .left) ((c .before .before .before .before .before .before .before .before .before .before .before .loop) .i) ((c .before .before .before .before .before .before .before .before .before .before .before .loop) .right) ((c .before .before .before .before .before .before .before .before .before .before .before .loop) .j) ((c .before .before .before .before .before .before .before .before .before .before .before .loop) .inv .0) ((c .before .before .before .before .before .before .before .before .next-pair) .last .1 .1 .1 .1 .1 .0) ((c .before .before .before .before .before .before .before .before .next-pair) .last .1 .1 .1 .1 .1 .1 .1 .1 .1 .0) ((c .before .before .before .before .before .before .before .before .next-pair) .result) ((c .before .before .s3) .given .0 .0) ((c .before .before .s3) .given .0 .1 .0) ((c .before .before .s3) .given .0 .1 .1 .0) ((c .before .before .s3) .given .0 .1 .1 .1 .0) ((c .before .before .before .before .before .before .before .before .next-pair) .ensures ((c .before .before .before .before .before .before .before .before .before .before .before .before .before .before .before .before .before .before .before .args) .parts .now)) ((c .before .before .s3) .given .1)) in
+    let w = given-room ((c .before .before .before .before .before .before .before .before .before .before .before .before .before .before .before .before .before .before .before .args) .m) ((c .before .before .before .before .before .before .before .before .before .before .before .before .before .before .before .before .before .before .before .args) .l) (given-low (tab ((c .before .before .before .before .before .before .before .before .before .before .before .before .before .before .before .before .before .before .before .args) .rows .now) ((c .before .before .before .before .before .before .before .before .before .before .before .before .before .before .before .before .before .before .before .args) .parts .now)) (argsOf (tab ((c .before .before .before .before .before .before .before .before .before .before .before .before .before .before .before .before .before .before .before .args) .rows .now) ((c .before .before .before .before .before .before .before .before .before .before .before .before .before .before .before .before .before .before .before .args) .parts .now)) ((c .before .before .before .before .before .before .before .before .before .before .before .before .before .before .before .before .before .before .before .args) .args .now) ((c .before .before .before .before .before .before .before .before .before .before .before .before .before .before .before .before .before .before .before .args) .m)) ((c .before .before .before .before .before .before .before .before .before .before .before .before .before .before .before .before .before .before .before .args) .m) ((c .before .before .before .before .before .before .before .before .before .before .before .before .before .before .before .before .before .before .before .args) .by) ((c .before .before .before .before .before .before .before .before .before .before .before .before .before .before .before .before .before .before .before .args) .d) ((c .before .before .before .before .before .before .before .before .before .before .before .before .before .before .before .before .before .before .before .args) .l) ((c .before .before .before .before .before .before .before .before .before .before .before .before .before .before .before .before .before .before .before .args) .by2) ((c .before .before .before .before .before .before .before .before .before .before .before .before .before .before .before .before .before .before .before .args) .d2) ((c .before .before .before .before .before .before .before .before .before .before .before .before .before .before .before .before .before .before .before .args) .r) ((c .before .before .before .before .before .before .before .before .before .before .before .loop) .left) ((c .before .before .before .before .before .before .before .before .before .before .before .loop) .i) ((c .before .before .before .before .before .before .before .before .before .before .before .loop) .right) ((c .before .before .before .before .before .before .before .before .before .before .before .loop) .j) ((c .before .before .before .before .before .before .before .before .before .before .before .loop) .inv .0) ((c .before .before .before .before .before .before .before .before .next-pair) .last .1 .1 .1 .1 .1 .0) ((c .before .before .before .before .before .before .before .before .next-pair) .last .1 .1 .1 .1 .1 .1 .1 .1 .1 .0) ((c .before .before .before .before .before .before .before .before .next-pair) .result) ((c .before .before .s3) .given .0 .0) ((c .before .before .s3) .given .0 .1 .0) ((c .before .before .s3) .given .0 .1 .1 .0) ((c .before .before .s3) .given .0 .1 .1 .1 .0) ((c .before .before .before .before .before .before .before .before .next-pair) .ensures ((c .before .before .before .before .before .before .before .before .before .before .before .before .before .before .before .before .before .before .before .args) .parts .now)) ((c .before .before .s3) .given .1)) ((c .before .before .before .before .before .before .before .before .before .before .before .before .before .before .before .before .before .before .before .pre) .1 .3) (((c .before .before .before .before .before .before .before .before .next-pair) .kept .1 .1 .1 .1 .1 .0) ∙ (c .before .before .before .before .before .before .before .before .before .before .before .loop) .inv .1 ∙ length-set ((c .before .before .before .before .before .before .before .before .before .before .before .before .before .before .before .before .before .before .before .args) .left .now) 0 ((c .before .before .before .before .before .before .before .before .before .before .before .before .before .before .before .before .before .before .before .args) .l)) (((c .before .before .before .before .before .before .before .before .next-pair) .kept .1 .1 .1 .1 .1 .1 .1 .1 .1 .0) ∙ (c .before .before .before .before .before .before .before .before .before .before .before .loop) .inv .2 ∙ length-set ((c .before .before .before .before .before .before .before .before .before .before .before .before .before .before .before .before .before .before .before .args) .right .now) 0 ((c .before .before .before .before .before .before .before .before .before .before .before .before .before .before .before .before .before .before .before .args) .r)) in
     let w0 = w .0 in
     let w1 = w .1 in
     let w2 = w .2 in
     let w3 = w .3 in
-    let rm = room-of 0 ((c .before .before .before .before .before .before .before .before .before .before .before .before .before .before .before .before .before .before .before .args) .m) w0 in
-    let s0 = (c .before .before .before .before .before .before .before .before .before .before .before .before .before .before .before .before .before .before .before .pre) .1 .3 .0 in
-    let s1 = (c .before .before .before .before .before .before .before .before .before .before .before .before .before .before .before .before .before .before .before .pre) .1 .3 .1 in
-    let s2 = (c .before .before .before .before .before .before .before .before .before .before .before .before .before .before .before .before .before .before .before .pre) .1 .3 .2 in
-    let s3 = (c .before .before .before .before .before .before .before .before .before .before .before .before .before .before .before .before .before .before .before .pre) .1 .3 .3 in
-    let i1 = (c .before .before .before .before .before .before .before .before .before .before .before .loop) .inv .1 ∙ length-set ((c .before .before .before .before .before .before .before .before .before .before .before .before .before .before .before .before .before .before .before .args) .left .now) 0 ((c .before .before .before .before .before .before .before .before .before .before .before .before .before .before .before .before .before .before .before .args) .l) in
-    let i2 = (c .before .before .before .before .before .before .before .before .before .before .before .loop) .inv .2 ∙ length-set ((c .before .before .before .before .before .before .before .before .before .before .before .before .before .before .before .before .before .before .before .args) .right .now) 0 ((c .before .before .before .before .before .before .before .before .before .before .before .before .before .before .before .before .before .before .before .args) .r) in
-    let k1 = ((c .before .before .before .before .before .before .before .before .next-pair) .kept .1 .1 .1 .1 .1 .0) in
-    let k2 = ((c .before .before .before .before .before .before .before .before .next-pair) .kept .1 .1 .1 .1 .1 .1 .1 .1 .1 .0) in
     omega arith
 
 -- src/lib.rt:588:21
@@ -1397,20 +1274,11 @@ eq-stack-part-eq-value-end-4 : (t : ℕ) → eq-stack-lts.Need-part-eq-value-end
   eq-value.Post,
 ) (eq-stack-at t) eq-stack.Post eq-stack-Inv-loop eq-stack-μ-loop
 eq-stack-part-eq-value-end-4 t c =
-    let w = (given-low (tab ((c .before .before .before .before .before .before .before .before .before .before .before .before .before .before .before .before .before .before .before .args) .rows .now) ((c .before .before .before .before .before .before .before .before .before .before .before .before .before .before .before .before .before .before .before .args) .parts .now)) (argsOf (tab ((c .before .before .before .before .before .before .before .before .before .before .before .before .before .before .before .before .before .before .before .args) .rows .now) ((c .before .before .before .before .before .before .before .before .before .before .before .before .before .before .before .before .before .before .before .args) .parts .now)) ((c .before .before .before .before .before .before .before .before .before .before .before .before .before .before .before .before .before .before .before .args) .args .now) ((c .before .before .before .before .before .before .before .before .before .before .before .before .before .before .before .before .before .before .before .args) .m)) ((c .before .before .before .before .before .before .before .before .before .before .before .before .before .before .before .before .before .before .before .args) .m) ((c .before .before .before .before .before .before .before .before .before .before .before .before .before .before .before .before .before .before .before .args) .by) ((c .before .before .before .before .before .before .before .before .before .before .before .before .before .before .before .before .before .before .before .args) .d) ((c .before .before .before .before .before .before .before .before .before .before .before .before .before .before .before .before .before .before .before .args) .l) ((c .before .before .before .before .before .before .before .before .before .before .before .before .before .before .before .before .before .before .before .args) .by2) ((c .before .before .before .before .before .before .before .before .before .before .before .before .before .before .before .before .before .before .before .args) .d2) ((c .before .before .before .before .before .before .before .before .before .before .before .before .before .before .before .before .before .before .before .args) .r) ((c .before .before .before .before .before .before .before .before .before .before .before .loop) .left) ((c .before .before .before .before .before .before .before .before .before .before .before .loop) .i) ((c .before .before .before .before .before .before .before .before .before .before .before .loop) .right) ((c .before .before .before .before .before .before .before .before .before .before .before .loop) .j) ((c .before .before .before .before .before .before .before .before .before .before .before .loop) .inv .0) ((c .before .before .before .before .before .before .before .before .next-pair) .last .1 .1 .1 .1 .1 .0) ((c .before .before .before .before .before .before .before .before .next-pair) .last .1 .1 .1 .1 .1 .1 .1 .1 .1 .0) ((c .before .before .before .before .before .before .before .before .next-pair) .result) ((c .before .before .s3) .given .0 .0) ((c .before .before .s3) .given .0 .1 .0) ((c .before .before .s3) .given .0 .1 .1 .0) ((c .before .before .s3) .given .0 .1 .1 .1 .0) ((c .before .before .before .before .before .before .before .before .next-pair) .ensures ((c .before .before .before .before .before .before .before .before .before .before .before .before .before .before .before .before .before .before .before .args) .parts .now)) ((c .before .before .s3) .given .1)) in
+    let w = given-room ((c .before .before .before .before .before .before .before .before .before .before .before .before .before .before .before .before .before .before .before .args) .m) ((c .before .before .before .before .before .before .before .before .before .before .before .before .before .before .before .before .before .before .before .args) .l) (given-low (tab ((c .before .before .before .before .before .before .before .before .before .before .before .before .before .before .before .before .before .before .before .args) .rows .now) ((c .before .before .before .before .before .before .before .before .before .before .before .before .before .before .before .before .before .before .before .args) .parts .now)) (argsOf (tab ((c .before .before .before .before .before .before .before .before .before .before .before .before .before .before .before .before .before .before .before .args) .rows .now) ((c .before .before .before .before .before .before .before .before .before .before .before .before .before .before .before .before .before .before .before .args) .parts .now)) ((c .before .before .before .before .before .before .before .before .before .before .before .before .before .before .before .before .before .before .before .args) .args .now) ((c .before .before .before .before .before .before .before .before .before .before .before .before .before .before .before .before .before .before .before .args) .m)) ((c .before .before .before .before .before .before .before .before .before .before .before .before .before .before .before .before .before .before .before .args) .m) ((c .before .before .before .before .before .before .before .before .before .before .before .before .before .before .before .before .before .before .before .args) .by) ((c .before .before .before .before .before .before .before .before .before .before .before .before .before .before .before .before .before .before .before .args) .d) ((c .before .before .before .before .before .before .before .before .before .before .before .before .before .before .before .before .before .before .before .args) .l) ((c .before .before .before .before .before .before .before .before .before .before .before .before .before .before .before .before .before .before .before .args) .by2) ((c .before .before .before .before .before .before .before .before .before .before .before .before .before .before .before .before .before .before .before .args) .d2) ((c .before .before .before .before .before .before .before .before .before .before .before .before .before .before .before .before .before .before .before .args) .r) ((c .before .before .before .before .before .before .before .before .before .before .before .loop) .left) ((c .before .before .before .before .before .before .before .before .before .before .before .loop) .i) ((c .before .before .before .before .before .before .before .before .before .before .before .loop) .right) ((c .before .before .before .before .before .before .before .before .before .before .before .loop) .j) ((c .before .before .before .before .before .before .before .before .before .before .before .loop) .inv .0) ((c .before .before .before .before .before .before .before .before .next-pair) .last .1 .1 .1 .1 .1 .0) ((c .before .before .before .before .before .before .before .before .next-pair) .last .1 .1 .1 .1 .1 .1 .1 .1 .1 .0) ((c .before .before .before .before .before .before .before .before .next-pair) .result) ((c .before .before .s3) .given .0 .0) ((c .before .before .s3) .given .0 .1 .0) ((c .before .before .s3) .given .0 .1 .1 .0) ((c .before .before .s3) .given .0 .1 .1 .1 .0) ((c .before .before .before .before .before .before .before .before .next-pair) .ensures ((c .before .before .before .before .before .before .before .before .before .before .before .before .before .before .before .before .before .before .before .args) .parts .now)) ((c .before .before .s3) .given .1)) ((c .before .before .before .before .before .before .before .before .before .before .before .before .before .before .before .before .before .before .before .pre) .1 .3) (((c .before .before .before .before .before .before .before .before .next-pair) .kept .1 .1 .1 .1 .1 .0) ∙ (c .before .before .before .before .before .before .before .before .before .before .before .loop) .inv .1 ∙ length-set ((c .before .before .before .before .before .before .before .before .before .before .before .before .before .before .before .before .before .before .before .args) .left .now) 0 ((c .before .before .before .before .before .before .before .before .before .before .before .before .before .before .before .before .before .before .before .args) .l)) (((c .before .before .before .before .before .before .before .before .next-pair) .kept .1 .1 .1 .1 .1 .1 .1 .1 .1 .0) ∙ (c .before .before .before .before .before .before .before .before .before .before .before .loop) .inv .2 ∙ length-set ((c .before .before .before .before .before .before .before .before .before .before .before .before .before .before .before .before .before .before .before .args) .right .now) 0 ((c .before .before .before .before .before .before .before .before .before .before .before .before .before .before .before .before .before .before .before .args) .r)) in
     let w0 = w .0 in
     let w1 = w .1 in
     let w2 = w .2 in
     let w3 = w .3 in
-    let rm = room-of 0 ((c .before .before .before .before .before .before .before .before .before .before .before .before .before .before .before .before .before .before .before .args) .m) w0 in
-    let s0 = (c .before .before .before .before .before .before .before .before .before .before .before .before .before .before .before .before .before .before .before .pre) .1 .3 .0 in
-    let s1 = (c .before .before .before .before .before .before .before .before .before .before .before .before .before .before .before .before .before .before .before .pre) .1 .3 .1 in
-    let s2 = (c .before .before .before .before .before .before .before .before .before .before .before .before .before .before .before .before .before .before .before .pre) .1 .3 .2 in
-    let s3 = (c .before .before .before .before .before .before .before .before .before .before .before .before .before .before .before .before .before .before .before .pre) .1 .3 .3 in
-    let i1 = (c .before .before .before .before .before .before .before .before .before .before .before .loop) .inv .1 ∙ length-set ((c .before .before .before .before .before .before .before .before .before .before .before .before .before .before .before .before .before .before .before .args) .left .now) 0 ((c .before .before .before .before .before .before .before .before .before .before .before .before .before .before .before .before .before .before .before .args) .l) in
-    let i2 = (c .before .before .before .before .before .before .before .before .before .before .before .loop) .inv .2 ∙ length-set ((c .before .before .before .before .before .before .before .before .before .before .before .before .before .before .before .before .before .before .before .args) .right .now) 0 ((c .before .before .before .before .before .before .before .before .before .before .before .before .before .before .before .before .before .before .before .args) .r) in
-    let k1 = ((c .before .before .before .before .before .before .before .before .next-pair) .kept .1 .1 .1 .1 .1 .0) in
-    let k2 = ((c .before .before .before .before .before .before .before .before .next-pair) .kept .1 .1 .1 .1 .1 .1 .1 .1 .1 .0) in
     omega arith
 
 -- src/lib.rt:576:21
@@ -1478,20 +1346,11 @@ eq-stack-loop-less-3 : (t : ℕ) → eq-stack-lts.Need-loop-less-3 (
   eq-value.Post,
 ) (eq-stack-at t) eq-stack.Post eq-stack-Inv-loop eq-stack-μ-loop
 eq-stack-loop-less-3 t c =
-    let w = (given-low (tab ((c .before .before .before .before .before .before .before .before .before .before .before .before .before .before .before .before .before .before .before .before .before .before .before .before .before .before .args) .rows .now) ((c .before .before .before .before .before .before .before .before .before .before .before .before .before .before .before .before .before .before .before .before .before .before .before .before .before .before .args) .parts .now)) (argsOf (tab ((c .before .before .before .before .before .before .before .before .before .before .before .before .before .before .before .before .before .before .before .before .before .before .before .before .before .before .args) .rows .now) ((c .before .before .before .before .before .before .before .before .before .before .before .before .before .before .before .before .before .before .before .before .before .before .before .before .before .before .args) .parts .now)) ((c .before .before .before .before .before .before .before .before .before .before .before .before .before .before .before .before .before .before .before .before .before .before .before .before .before .before .args) .args .now) ((c .before .before .before .before .before .before .before .before .before .before .before .before .before .before .before .before .before .before .before .before .before .before .before .before .before .before .args) .m)) ((c .before .before .before .before .before .before .before .before .before .before .before .before .before .before .before .before .before .before .before .before .before .before .before .before .before .before .args) .m) ((c .before .before .before .before .before .before .before .before .before .before .before .before .before .before .before .before .before .before .before .before .before .before .before .before .before .before .args) .by) ((c .before .before .before .before .before .before .before .before .before .before .before .before .before .before .before .before .before .before .before .before .before .before .before .before .before .before .args) .d) ((c .before .before .before .before .before .before .before .before .before .before .before .before .before .before .before .before .before .before .before .before .before .before .before .before .before .before .args) .l) ((c .before .before .before .before .before .before .before .before .before .before .before .before .before .before .before .before .before .before .before .before .before .before .before .before .before .before .args) .by2) ((c .before .before .before .before .before .before .before .before .before .before .before .before .before .before .before .before .before .before .before .before .before .before .before .before .before .before .args) .d2) ((c .before .before .before .before .before .before .before .before .before .before .before .before .before .before .before .before .before .before .before .before .before .before .before .before .before .before .args) .r) ((c .before .before .before .before .before .before .before .before .before .before .before .before .before .before .before .before .before .before .loop) .left) ((c .before .before .before .before .before .before .before .before .before .before .before .before .before .before .before .before .before .before .loop) .i) ((c .before .before .before .before .before .before .before .before .before .before .before .before .before .before .before .before .before .before .loop) .right) ((c .before .before .before .before .before .before .before .before .before .before .before .before .before .before .before .before .before .before .loop) .j) ((c .before .before .before .before .before .before .before .before .before .before .before .before .before .before .before .before .before .before .loop) .inv .0) ((c .before .before .before .before .before .before .before .before .before .before .before .before .before .before .before .next-pair) .last .1 .1 .1 .1 .1 .0) ((c .before .before .before .before .before .before .before .before .before .before .before .before .before .before .before .next-pair) .last .1 .1 .1 .1 .1 .1 .1 .1 .1 .0) ((c .before .before .before .before .before .before .before .before .before .before .before .before .before .before .before .next-pair) .result) ((c .before .before .before .before .before .before .before .before .before .s3) .given .0 .0) ((c .before .before .before .before .before .before .before .before .before .s3) .given .0 .1 .0) ((c .before .before .before .before .before .before .before .before .before .s3) .given .0 .1 .1 .0) ((c .before .before .before .before .before .before .before .before .before .s3) .given .0 .1 .1 .1 .0) ((c .before .before .before .before .before .before .before .before .before .before .before .before .before .before .before .next-pair) .ensures ((c .before .before .before .before .before .before .before .before .before .before .before .before .before .before .before .before .before .before .before .before .before .before .before .before .before .before .args) .parts .now)) ((c .before .before .before .before .before .before .before .before .before .s3) .given .1)) in
+    let w = given-room ((c .before .before .before .before .before .before .before .before .before .before .before .before .before .before .before .before .before .before .before .before .before .before .before .before .before .before .args) .m) ((c .before .before .before .before .before .before .before .before .before .before .before .before .before .before .before .before .before .before .before .before .before .before .before .before .before .before .args) .l) (given-low (tab ((c .before .before .before .before .before .before .before .before .before .before .before .before .before .before .before .before .before .before .before .before .before .before .before .before .before .before .args) .rows .now) ((c .before .before .before .before .before .before .before .before .before .before .before .before .before .before .before .before .before .before .before .before .before .before .before .before .before .before .args) .parts .now)) (argsOf (tab ((c .before .before .before .before .before .before .before .before .before .before .before .before .before .before .before .before .before .before .before .before .before .before .before .before .before .before .args) .rows .now) ((c .before .before .before .before .before .before .before .before .before .before .before .before .before .before .before .before .before .before .before .before .before .before .before .before .before .before .args) .parts .now)) ((c .before .before .before .before .before .before .before .before .before .before .before .before .before .before .before .before .before .before .before .before .before .before .before .before .before .before .args) .args .now) ((c .before .before .before .before .before .before .before .before .before .before .before .before .before .before .before .before .before .before .before .before .before .before .before .before .before .before .args) .m)) ((c .before .before .before .before .before .before .before .before .before .before .before .before .before .before .before .before .before .before .before .before .before .before .before .before .before .before .args) .m) ((c .before .before .before .before .before .before .before .before .before .before .before .before .before .before .before .before .before .before .before .before .before .before .before .before .before .before .args) .by) ((c .before .before .before .before .before .before .before .before .before .before .before .before .before .before .before .before .before .before .before .before .before .before .before .before .before .before .args) .d) ((c .before .before .before .before .before .before .before .before .before .before .before .before .before .before .before .before .before .before .before .before .before .before .before .before .before .before .args) .l) ((c .before .before .before .before .before .before .before .before .before .before .before .before .before .before .before .before .before .before .before .before .before .before .before .before .before .before .args) .by2) ((c .before .before .before .before .before .before .before .before .before .before .before .before .before .before .before .before .before .before .before .before .before .before .before .before .before .before .args) .d2) ((c .before .before .before .before .before .before .before .before .before .before .before .before .before .before .before .before .before .before .before .before .before .before .before .before .before .before .args) .r) ((c .before .before .before .before .before .before .before .before .before .before .before .before .before .before .before .before .before .before .loop) .left) ((c .before .before .before .before .before .before .before .before .before .before .before .before .before .before .before .before .before .before .loop) .i) ((c .before .before .before .before .before .before .before .before .before .before .before .before .before .before .before .before .before .before .loop) .right) ((c .before .before .before .before .before .before .before .before .before .before .before .before .before .before .before .before .before .before .loop) .j) ((c .before .before .before .before .before .before .before .before .before .before .before .before .before .before .before .before .before .before .loop) .inv .0) ((c .before .before .before .before .before .before .before .before .before .before .before .before .before .before .before .next-pair) .last .1 .1 .1 .1 .1 .0) ((c .before .before .before .before .before .before .before .before .before .before .before .before .before .before .before .next-pair) .last .1 .1 .1 .1 .1 .1 .1 .1 .1 .0) ((c .before .before .before .before .before .before .before .before .before .before .before .before .before .before .before .next-pair) .result) ((c .before .before .before .before .before .before .before .before .before .s3) .given .0 .0) ((c .before .before .before .before .before .before .before .before .before .s3) .given .0 .1 .0) ((c .before .before .before .before .before .before .before .before .before .s3) .given .0 .1 .1 .0) ((c .before .before .before .before .before .before .before .before .before .s3) .given .0 .1 .1 .1 .0) ((c .before .before .before .before .before .before .before .before .before .before .before .before .before .before .before .next-pair) .ensures ((c .before .before .before .before .before .before .before .before .before .before .before .before .before .before .before .before .before .before .before .before .before .before .before .before .before .before .args) .parts .now)) ((c .before .before .before .before .before .before .before .before .before .s3) .given .1)) ((c .before .before .before .before .before .before .before .before .before .before .before .before .before .before .before .before .before .before .before .before .before .before .before .before .before .before .pre) .1 .3) (((c .before .before .before .before .before .before .before .before .before .before .before .before .before .before .before .next-pair) .kept .1 .1 .1 .1 .1 .0) ∙ (c .before .before .before .before .before .before .before .before .before .before .before .before .before .before .before .before .before .before .loop) .inv .1 ∙ length-set ((c .before .before .before .before .before .before .before .before .before .before .before .before .before .before .before .before .before .before .before .before .before .before .before .before .before .before .args) .left .now) 0 ((c .before .before .before .before .before .before .before .before .before .before .before .before .before .before .before .before .before .before .before .before .before .before .before .before .before .before .args) .l)) (((c .before .before .before .before .before .before .before .before .before .before .before .before .before .before .before .next-pair) .kept .1 .1 .1 .1 .1 .1 .1 .1 .1 .0) ∙ (c .before .before .before .before .before .before .before .before .before .before .before .before .before .before .before .before .before .before .loop) .inv .2 ∙ length-set ((c .before .before .before .before .before .before .before .before .before .before .before .before .before .before .before .before .before .before .before .before .before .before .before .before .before .before .args) .right .now) 0 ((c .before .before .before .before .before .before .before .before .before .before .before .before .before .before .before .before .before .before .before .before .before .before .before .before .before .before .args) .r)) in
     let w0 = w .0 in
     let w1 = w .1 in
     let w2 = w .2 in
     let w3 = w .3 in
-    let rm = room-of 0 ((c .before .before .before .before .before .before .before .before .before .before .before .before .before .before .before .before .before .before .before .before .before .before .before .before .before .before .args) .m) w0 in
-    let s0 = (c .before .before .before .before .before .before .before .before .before .before .before .before .before .before .before .before .before .before .before .before .before .before .before .before .before .before .pre) .1 .3 .0 in
-    let s1 = (c .before .before .before .before .before .before .before .before .before .before .before .before .before .before .before .before .before .before .before .before .before .before .before .before .before .before .pre) .1 .3 .1 in
-    let s2 = (c .before .before .before .before .before .before .before .before .before .before .before .before .before .before .before .before .before .before .before .before .before .before .before .before .before .before .pre) .1 .3 .2 in
-    let s3 = (c .before .before .before .before .before .before .before .before .before .before .before .before .before .before .before .before .before .before .before .before .before .before .before .before .before .before .pre) .1 .3 .3 in
-    let i1 = (c .before .before .before .before .before .before .before .before .before .before .before .before .before .before .before .before .before .before .loop) .inv .1 ∙ length-set ((c .before .before .before .before .before .before .before .before .before .before .before .before .before .before .before .before .before .before .before .before .before .before .before .before .before .before .args) .left .now) 0 ((c .before .before .before .before .before .before .before .before .before .before .before .before .before .before .before .before .before .before .before .before .before .before .before .before .before .before .args) .l) in
-    let i2 = (c .before .before .before .before .before .before .before .before .before .before .before .before .before .before .before .before .before .before .loop) .inv .2 ∙ length-set ((c .before .before .before .before .before .before .before .before .before .before .before .before .before .before .before .before .before .before .before .before .before .before .before .before .before .before .args) .right .now) 0 ((c .before .before .before .before .before .before .before .before .before .before .before .before .before .before .before .before .before .before .before .before .before .before .before .before .before .before .args) .r) in
-    let k1 = ((c .before .before .before .before .before .before .before .before .before .before .before .before .before .before .before .next-pair) .kept .1 .1 .1 .1 .1 .0) in
-    let k2 = ((c .before .before .before .before .before .before .before .before .before .before .before .before .before .before .before .next-pair) .kept .1 .1 .1 .1 .1 .1 .1 .1 .1 .0) in
     (match-given (tab ((c .before .before .before .before .before .before .before .before .before .before .before .before .before .before .before .before .before .before .before .before .before .before .before .before .before .before .args) .rows .now) ((c .before .before .before .before .before .before .before .before .before .before .before .before .before .before .before .before .before .before .before .before .before .before .before .before .before .before .args) .parts .now)) (argsOf (tab ((c .before .before .before .before .before .before .before .before .before .before .before .before .before .before .before .before .before .before .before .before .before .before .before .before .before .before .args) .rows .now) ((c .before .before .before .before .before .before .before .before .before .before .before .before .before .before .before .before .before .before .before .before .before .before .before .before .before .before .args) .parts .now)) ((c .before .before .before .before .before .before .before .before .before .before .before .before .before .before .before .before .before .before .before .before .before .before .before .before .before .before .args) .args .now) ((c .before .before .before .before .before .before .before .before .before .before .before .before .before .before .before .before .before .before .before .before .before .before .before .before .before .before .args) .m)) ((c .before .before .before .before .before .before .before .before .before .before .before .before .before .before .before .before .before .before .before .before .before .before .before .before .before .before .args) .m) ((c .before .before .before .before .before .before .before .before .before .before .before .before .before .before .before .before .before .before .before .before .before .before .before .before .before .before .args) .by) ((c .before .before .before .before .before .before .before .before .before .before .before .before .before .before .before .before .before .before .before .before .before .before .before .before .before .before .args) .d) ((c .before .before .before .before .before .before .before .before .before .before .before .before .before .before .before .before .before .before .before .before .before .before .before .before .before .before .args) .l) ((c .before .before .before .before .before .before .before .before .before .before .before .before .before .before .before .before .before .before .before .before .before .before .before .before .before .before .args) .by2) ((c .before .before .before .before .before .before .before .before .before .before .before .before .before .before .before .before .before .before .before .before .before .before .before .before .before .before .args) .d2) ((c .before .before .before .before .before .before .before .before .before .before .before .before .before .before .before .before .before .before .before .before .before .before .before .before .before .before .args) .r) ((c .before .before .before .before .before .before .before .before .before .before .before .before .before .before .before .before .before .before .loop) .left) ((c .before .before .before .before .before .before .before .before .before .before .before .before .before .before .before .before .before .before .loop) .i) ((c .before .before .before .before .before .before .before .before .before .before .before .before .before .before .before .before .before .before .loop) .right) ((c .before .before .before .before .before .before .before .before .before .before .before .before .before .before .before .before .before .before .loop) .j) ((c .before .before .before .before .before .before .before .before .before .before .before .before .before .before .before .before .before .before .loop) .inv .0) ((c .before .before .before .before .before .before .before .before .before .before .before .before .before .before .before .next-pair) .last .1 .1 .1 .1 .1 .0) ((c .before .before .before .before .before .before .before .before .before .before .before .before .before .before .before .next-pair) .last .1 .1 .1 .1 .1 .1 .1 .1 .1 .0) (putMid ((c .before .before .before .before .before .before .before .before .before .s3) .given .0 .1 .0) (length ((c .before .before .before .before .before .before .before .before .before .before .before .before .before .before .before .next-pair) .last .1 .1 .1 .1 .1 .0) - ((c .before .before .before .before .before .before .before .before .before .s3) .given .0 .1 .0)) ((c .before .before .before .before .before .before .before .before .before .before .before .before .before .before .before .next-pair) .last .1 .1 .1 .1 .1 .0) ((c .before .before .before .before .before .eq-value2) .last .1 .1 .1 .1 .1 .1 .1 .1 .1 .1 .0)) (putMid ((c .before .before .before .before .before .before .before .before .before .s3) .given .0 .1 .1 .1 .0) (length ((c .before .before .before .before .before .before .before .before .before .before .before .before .before .before .before .next-pair) .last .1 .1 .1 .1 .1 .1 .1 .1 .1 .0) - ((c .before .before .before .before .before .before .before .before .before .s3) .given .0 .1 .1 .1 .0)) ((c .before .before .before .before .before .before .before .before .before .before .before .before .before .before .before .next-pair) .last .1 .1 .1 .1 .1 .1 .1 .1 .1 .0) ((c .before .before .before .before .before .eq-value2) .last .1 .1 .1 .1 .1 .1 .1 .1 .1 .1 .1 .0)) ((c .before .before .before .before .before .before .before .before .before .before .before .before .before .before .before .next-pair) .result) ((c .before .before .before .before .before .before .before .before .before .s3) .given .0 .0) ((c .before .before .before .before .before .before .before .before .before .s3) .given .0 .1 .0) ((c .before .before .before .before .before .before .before .before .before .s3) .given .0 .1 .1 .0) ((c .before .before .before .before .before .before .before .before .before .s3) .given .0 .1 .1 .1 .0) (agree-mid ((c .before .before .before .before .before .before .before .before .before .s3) .given .0 .1 .0) (length ((c .before .before .before .before .before .before .before .before .before .before .before .before .before .before .before .next-pair) .last .1 .1 .1 .1 .1 .0) - ((c .before .before .before .before .before .before .before .before .before .s3) .given .0 .1 .0)) ((c .before .before .before .before .before .before .before .before .before .before .before .before .before .before .before .next-pair) .last .1 .1 .1 .1 .1 .0) ((c .before .before .before .before .before .eq-value2) .last .1 .1 .1 .1 .1 .1 .1 .1 .1 .1 .0) (omega arith)) (agree-mid ((c .before .before .before .before .before .before .before .before .before .s3) .given .0 .1 .1 .1 .0) (length ((c .before .before .before .before .before .before .before .before .before .before .before .before .before .before .before .next-pair) .last .1 .1 .1 .1 .1 .1 .1 .1 .1 .0) - ((c .before .before .before .before .before .before .before .before .before .s3) .given .0 .1 .1 .1 .0)) ((c .before .before .before .before .before .before .before .before .before .before .before .before .before .before .before .next-pair) .last .1 .1 .1 .1 .1 .1 .1 .1 .1 .0) ((c .before .before .before .before .before .eq-value2) .last .1 .1 .1 .1 .1 .1 .1 .1 .1 .1 .1 .0) (omega arith)) ((c .before .before .before .before .before .before .before .before .before .before .before .before .before .before .before .next-pair) .ensures ((c .before .before .before .before .before .before .before .before .before .before .before .before .before .before .before .before .before .before .before .before .before .before .before .before .before .before .args) .parts .now)) ((c .before .before .before .before .before .before .before .before .before .s3) .given .1) ((c .before .before .before .before .before .eq-value2) .ensures ∙ plain-args (tab ((c .before .before .before .before .before .before .before .before .before .before .before .before .before .before .before .before .before .before .before .before .before .before .before .before .before .before .args) .rows .now) ((c .before .before .before .before .before .before .before .before .before .before .before .before .before .before .before .before .before .before .before .before .before .before .before .before .before .before .args) .parts .now)) ((c .before .before .before .before .before .before .before .before .before .before .before .before .before .before .before .before .before .before .before .before .before .before .before .before .before .before .args) .args .now) ((c .before .before .before .before .before .before .before .before .before .before .before .before .before .before .before .before .before .before .before .before .before .before .before .before .before .before .args) .d) ((c .before .before .before .before .before .before .before .before .before .s3) .given .0 .0) ((c .before .before .before .before .before .before .before .before .before .before .before .before .before .before .before .before .before .before .before .before .before .before .before .before .before .before .args) .by2) ((c .before .before .before .before .before .before .before .before .before .before .before .before .before .before .before .before .before .before .before .before .before .before .before .before .before .before .args) .d2) ((c .before .before .before .before .before .before .before .before .before .s3) .given .0 .1 .1 .0)) (not-true ((c .if3) .left))) .1
 
 -- src/lib.rt:540:5
@@ -1504,20 +1363,11 @@ eq-stack-loop-again-3 : (t : ℕ) → eq-stack-lts.Need-loop-again-3 (
   eq-value.Post,
 ) (eq-stack-at t) eq-stack.Post eq-stack-Inv-loop eq-stack-μ-loop
 eq-stack-loop-again-3 t c =
-    let w = (given-low (tab ((c .before .before .before .before .before .before .before .before .before .before .before .before .before .before .before .before .before .before .before .before .before .before .before .before .before .before .args) .rows .now) ((c .before .before .before .before .before .before .before .before .before .before .before .before .before .before .before .before .before .before .before .before .before .before .before .before .before .before .args) .parts .now)) (argsOf (tab ((c .before .before .before .before .before .before .before .before .before .before .before .before .before .before .before .before .before .before .before .before .before .before .before .before .before .before .args) .rows .now) ((c .before .before .before .before .before .before .before .before .before .before .before .before .before .before .before .before .before .before .before .before .before .before .before .before .before .before .args) .parts .now)) ((c .before .before .before .before .before .before .before .before .before .before .before .before .before .before .before .before .before .before .before .before .before .before .before .before .before .before .args) .args .now) ((c .before .before .before .before .before .before .before .before .before .before .before .before .before .before .before .before .before .before .before .before .before .before .before .before .before .before .args) .m)) ((c .before .before .before .before .before .before .before .before .before .before .before .before .before .before .before .before .before .before .before .before .before .before .before .before .before .before .args) .m) ((c .before .before .before .before .before .before .before .before .before .before .before .before .before .before .before .before .before .before .before .before .before .before .before .before .before .before .args) .by) ((c .before .before .before .before .before .before .before .before .before .before .before .before .before .before .before .before .before .before .before .before .before .before .before .before .before .before .args) .d) ((c .before .before .before .before .before .before .before .before .before .before .before .before .before .before .before .before .before .before .before .before .before .before .before .before .before .before .args) .l) ((c .before .before .before .before .before .before .before .before .before .before .before .before .before .before .before .before .before .before .before .before .before .before .before .before .before .before .args) .by2) ((c .before .before .before .before .before .before .before .before .before .before .before .before .before .before .before .before .before .before .before .before .before .before .before .before .before .before .args) .d2) ((c .before .before .before .before .before .before .before .before .before .before .before .before .before .before .before .before .before .before .before .before .before .before .before .before .before .before .args) .r) ((c .before .before .before .before .before .before .before .before .before .before .before .before .before .before .before .before .before .before .loop) .left) ((c .before .before .before .before .before .before .before .before .before .before .before .before .before .before .before .before .before .before .loop) .i) ((c .before .before .before .before .before .before .before .before .before .before .before .before .before .before .before .before .before .before .loop) .right) ((c .before .before .before .before .before .before .before .before .before .before .before .before .before .before .before .before .before .before .loop) .j) ((c .before .before .before .before .before .before .before .before .before .before .before .before .before .before .before .before .before .before .loop) .inv .0) ((c .before .before .before .before .before .before .before .before .before .before .before .before .before .before .before .next-pair) .last .1 .1 .1 .1 .1 .0) ((c .before .before .before .before .before .before .before .before .before .before .before .before .before .before .before .next-pair) .last .1 .1 .1 .1 .1 .1 .1 .1 .1 .0) ((c .before .before .before .before .before .before .before .before .before .before .before .before .before .before .before .next-pair) .result) ((c .before .before .before .before .before .before .before .before .before .s3) .given .0 .0) ((c .before .before .before .before .before .before .before .before .before .s3) .given .0 .1 .0) ((c .before .before .before .before .before .before .before .before .before .s3) .given .0 .1 .1 .0) ((c .before .before .before .before .before .before .before .before .before .s3) .given .0 .1 .1 .1 .0) ((c .before .before .before .before .before .before .before .before .before .before .before .before .before .before .before .next-pair) .ensures ((c .before .before .before .before .before .before .before .before .before .before .before .before .before .before .before .before .before .before .before .before .before .before .before .before .before .before .args) .parts .now)) ((c .before .before .before .before .before .before .before .before .before .s3) .given .1)) in
+    let w = given-room ((c .before .before .before .before .before .before .before .before .before .before .before .before .before .before .before .before .before .before .before .before .before .before .before .before .before .before .args) .m) ((c .before .before .before .before .before .before .before .before .before .before .before .before .before .before .before .before .before .before .before .before .before .before .before .before .before .before .args) .l) (given-low (tab ((c .before .before .before .before .before .before .before .before .before .before .before .before .before .before .before .before .before .before .before .before .before .before .before .before .before .before .args) .rows .now) ((c .before .before .before .before .before .before .before .before .before .before .before .before .before .before .before .before .before .before .before .before .before .before .before .before .before .before .args) .parts .now)) (argsOf (tab ((c .before .before .before .before .before .before .before .before .before .before .before .before .before .before .before .before .before .before .before .before .before .before .before .before .before .before .args) .rows .now) ((c .before .before .before .before .before .before .before .before .before .before .before .before .before .before .before .before .before .before .before .before .before .before .before .before .before .before .args) .parts .now)) ((c .before .before .before .before .before .before .before .before .before .before .before .before .before .before .before .before .before .before .before .before .before .before .before .before .before .before .args) .args .now) ((c .before .before .before .before .before .before .before .before .before .before .before .before .before .before .before .before .before .before .before .before .before .before .before .before .before .before .args) .m)) ((c .before .before .before .before .before .before .before .before .before .before .before .before .before .before .before .before .before .before .before .before .before .before .before .before .before .before .args) .m) ((c .before .before .before .before .before .before .before .before .before .before .before .before .before .before .before .before .before .before .before .before .before .before .before .before .before .before .args) .by) ((c .before .before .before .before .before .before .before .before .before .before .before .before .before .before .before .before .before .before .before .before .before .before .before .before .before .before .args) .d) ((c .before .before .before .before .before .before .before .before .before .before .before .before .before .before .before .before .before .before .before .before .before .before .before .before .before .before .args) .l) ((c .before .before .before .before .before .before .before .before .before .before .before .before .before .before .before .before .before .before .before .before .before .before .before .before .before .before .args) .by2) ((c .before .before .before .before .before .before .before .before .before .before .before .before .before .before .before .before .before .before .before .before .before .before .before .before .before .before .args) .d2) ((c .before .before .before .before .before .before .before .before .before .before .before .before .before .before .before .before .before .before .before .before .before .before .before .before .before .before .args) .r) ((c .before .before .before .before .before .before .before .before .before .before .before .before .before .before .before .before .before .before .loop) .left) ((c .before .before .before .before .before .before .before .before .before .before .before .before .before .before .before .before .before .before .loop) .i) ((c .before .before .before .before .before .before .before .before .before .before .before .before .before .before .before .before .before .before .loop) .right) ((c .before .before .before .before .before .before .before .before .before .before .before .before .before .before .before .before .before .before .loop) .j) ((c .before .before .before .before .before .before .before .before .before .before .before .before .before .before .before .before .before .before .loop) .inv .0) ((c .before .before .before .before .before .before .before .before .before .before .before .before .before .before .before .next-pair) .last .1 .1 .1 .1 .1 .0) ((c .before .before .before .before .before .before .before .before .before .before .before .before .before .before .before .next-pair) .last .1 .1 .1 .1 .1 .1 .1 .1 .1 .0) ((c .before .before .before .before .before .before .before .before .before .before .before .before .before .before .before .next-pair) .result) ((c .before .before .before .before .before .before .before .before .before .s3) .given .0 .0) ((c .before .before .before .before .before .before .before .before .before .s3) .given .0 .1 .0) ((c .before .before .before .before .before .before .before .before .before .s3) .given .0 .1 .1 .0) ((c .before .before .before .before .before .before .before .before .before .s3) .given .0 .1 .1 .1 .0) ((c .before .before .before .before .before .before .before .before .before .before .before .before .before .before .before .next-pair) .ensures ((c .before .before .before .before .before .before .before .before .before .before .before .before .before .before .before .before .before .before .before .before .before .before .before .before .before .before .args) .parts .now)) ((c .before .before .before .before .before .before .before .before .before .s3) .given .1)) ((c .before .before .before .before .before .before .before .before .before .before .before .before .before .before .before .before .before .before .before .before .before .before .before .before .before .before .pre) .1 .3) (((c .before .before .before .before .before .before .before .before .before .before .before .before .before .before .before .next-pair) .kept .1 .1 .1 .1 .1 .0) ∙ (c .before .before .before .before .before .before .before .before .before .before .before .before .before .before .before .before .before .before .loop) .inv .1 ∙ length-set ((c .before .before .before .before .before .before .before .before .before .before .before .before .before .before .before .before .before .before .before .before .before .before .before .before .before .before .args) .left .now) 0 ((c .before .before .before .before .before .before .before .before .before .before .before .before .before .before .before .before .before .before .before .before .before .before .before .before .before .before .args) .l)) (((c .before .before .before .before .before .before .before .before .before .before .before .before .before .before .before .next-pair) .kept .1 .1 .1 .1 .1 .1 .1 .1 .1 .0) ∙ (c .before .before .before .before .before .before .before .before .before .before .before .before .before .before .before .before .before .before .loop) .inv .2 ∙ length-set ((c .before .before .before .before .before .before .before .before .before .before .before .before .before .before .before .before .before .before .before .before .before .before .before .before .before .before .args) .right .now) 0 ((c .before .before .before .before .before .before .before .before .before .before .before .before .before .before .before .before .before .before .before .before .before .before .before .before .before .before .args) .r)) in
     let w0 = w .0 in
     let w1 = w .1 in
     let w2 = w .2 in
     let w3 = w .3 in
-    let rm = room-of 0 ((c .before .before .before .before .before .before .before .before .before .before .before .before .before .before .before .before .before .before .before .before .before .before .before .before .before .before .args) .m) w0 in
-    let s0 = (c .before .before .before .before .before .before .before .before .before .before .before .before .before .before .before .before .before .before .before .before .before .before .before .before .before .before .pre) .1 .3 .0 in
-    let s1 = (c .before .before .before .before .before .before .before .before .before .before .before .before .before .before .before .before .before .before .before .before .before .before .before .before .before .before .pre) .1 .3 .1 in
-    let s2 = (c .before .before .before .before .before .before .before .before .before .before .before .before .before .before .before .before .before .before .before .before .before .before .before .before .before .before .pre) .1 .3 .2 in
-    let s3 = (c .before .before .before .before .before .before .before .before .before .before .before .before .before .before .before .before .before .before .before .before .before .before .before .before .before .before .pre) .1 .3 .3 in
-    let i1 = (c .before .before .before .before .before .before .before .before .before .before .before .before .before .before .before .before .before .before .loop) .inv .1 ∙ length-set ((c .before .before .before .before .before .before .before .before .before .before .before .before .before .before .before .before .before .before .before .before .before .before .before .before .before .before .args) .left .now) 0 ((c .before .before .before .before .before .before .before .before .before .before .before .before .before .before .before .before .before .before .before .before .before .before .before .before .before .before .args) .l) in
-    let i2 = (c .before .before .before .before .before .before .before .before .before .before .before .before .before .before .before .before .before .before .loop) .inv .2 ∙ length-set ((c .before .before .before .before .before .before .before .before .before .before .before .before .before .before .before .before .before .before .before .before .before .before .before .before .before .before .args) .right .now) 0 ((c .before .before .before .before .before .before .before .before .before .before .before .before .before .before .before .before .before .before .before .before .before .before .before .before .before .before .args) .r) in
-    let k1 = ((c .before .before .before .before .before .before .before .before .before .before .before .before .before .before .before .next-pair) .kept .1 .1 .1 .1 .1 .0) in
-    let k2 = ((c .before .before .before .before .before .before .before .before .before .before .before .before .before .before .before .next-pair) .kept .1 .1 .1 .1 .1 .1 .1 .1 .1 .0) in
     ((match-given (tab ((c .before .before .before .before .before .before .before .before .before .before .before .before .before .before .before .before .before .before .before .before .before .before .before .before .before .before .args) .rows .now) ((c .before .before .before .before .before .before .before .before .before .before .before .before .before .before .before .before .before .before .before .before .before .before .before .before .before .before .args) .parts .now)) (argsOf (tab ((c .before .before .before .before .before .before .before .before .before .before .before .before .before .before .before .before .before .before .before .before .before .before .before .before .before .before .args) .rows .now) ((c .before .before .before .before .before .before .before .before .before .before .before .before .before .before .before .before .before .before .before .before .before .before .before .before .before .before .args) .parts .now)) ((c .before .before .before .before .before .before .before .before .before .before .before .before .before .before .before .before .before .before .before .before .before .before .before .before .before .before .args) .args .now) ((c .before .before .before .before .before .before .before .before .before .before .before .before .before .before .before .before .before .before .before .before .before .before .before .before .before .before .args) .m)) ((c .before .before .before .before .before .before .before .before .before .before .before .before .before .before .before .before .before .before .before .before .before .before .before .before .before .before .args) .m) ((c .before .before .before .before .before .before .before .before .before .before .before .before .before .before .before .before .before .before .before .before .before .before .before .before .before .before .args) .by) ((c .before .before .before .before .before .before .before .before .before .before .before .before .before .before .before .before .before .before .before .before .before .before .before .before .before .before .args) .d) ((c .before .before .before .before .before .before .before .before .before .before .before .before .before .before .before .before .before .before .before .before .before .before .before .before .before .before .args) .l) ((c .before .before .before .before .before .before .before .before .before .before .before .before .before .before .before .before .before .before .before .before .before .before .before .before .before .before .args) .by2) ((c .before .before .before .before .before .before .before .before .before .before .before .before .before .before .before .before .before .before .before .before .before .before .before .before .before .before .args) .d2) ((c .before .before .before .before .before .before .before .before .before .before .before .before .before .before .before .before .before .before .before .before .before .before .before .before .before .before .args) .r) ((c .before .before .before .before .before .before .before .before .before .before .before .before .before .before .before .before .before .before .loop) .left) ((c .before .before .before .before .before .before .before .before .before .before .before .before .before .before .before .before .before .before .loop) .i) ((c .before .before .before .before .before .before .before .before .before .before .before .before .before .before .before .before .before .before .loop) .right) ((c .before .before .before .before .before .before .before .before .before .before .before .before .before .before .before .before .before .before .loop) .j) ((c .before .before .before .before .before .before .before .before .before .before .before .before .before .before .before .before .before .before .loop) .inv .0) ((c .before .before .before .before .before .before .before .before .before .before .before .before .before .before .before .next-pair) .last .1 .1 .1 .1 .1 .0) ((c .before .before .before .before .before .before .before .before .before .before .before .before .before .before .before .next-pair) .last .1 .1 .1 .1 .1 .1 .1 .1 .1 .0) (putMid ((c .before .before .before .before .before .before .before .before .before .s3) .given .0 .1 .0) (length ((c .before .before .before .before .before .before .before .before .before .before .before .before .before .before .before .next-pair) .last .1 .1 .1 .1 .1 .0) - ((c .before .before .before .before .before .before .before .before .before .s3) .given .0 .1 .0)) ((c .before .before .before .before .before .before .before .before .before .before .before .before .before .before .before .next-pair) .last .1 .1 .1 .1 .1 .0) ((c .before .before .before .before .before .eq-value2) .last .1 .1 .1 .1 .1 .1 .1 .1 .1 .1 .0)) (putMid ((c .before .before .before .before .before .before .before .before .before .s3) .given .0 .1 .1 .1 .0) (length ((c .before .before .before .before .before .before .before .before .before .before .before .before .before .before .before .next-pair) .last .1 .1 .1 .1 .1 .1 .1 .1 .1 .0) - ((c .before .before .before .before .before .before .before .before .before .s3) .given .0 .1 .1 .1 .0)) ((c .before .before .before .before .before .before .before .before .before .before .before .before .before .before .before .next-pair) .last .1 .1 .1 .1 .1 .1 .1 .1 .1 .0) ((c .before .before .before .before .before .eq-value2) .last .1 .1 .1 .1 .1 .1 .1 .1 .1 .1 .1 .0)) ((c .before .before .before .before .before .before .before .before .before .before .before .before .before .before .before .next-pair) .result) ((c .before .before .before .before .before .before .before .before .before .s3) .given .0 .0) ((c .before .before .before .before .before .before .before .before .before .s3) .given .0 .1 .0) ((c .before .before .before .before .before .before .before .before .before .s3) .given .0 .1 .1 .0) ((c .before .before .before .before .before .before .before .before .before .s3) .given .0 .1 .1 .1 .0) (agree-mid ((c .before .before .before .before .before .before .before .before .before .s3) .given .0 .1 .0) (length ((c .before .before .before .before .before .before .before .before .before .before .before .before .before .before .before .next-pair) .last .1 .1 .1 .1 .1 .0) - ((c .before .before .before .before .before .before .before .before .before .s3) .given .0 .1 .0)) ((c .before .before .before .before .before .before .before .before .before .before .before .before .before .before .before .next-pair) .last .1 .1 .1 .1 .1 .0) ((c .before .before .before .before .before .eq-value2) .last .1 .1 .1 .1 .1 .1 .1 .1 .1 .1 .0) (omega arith)) (agree-mid ((c .before .before .before .before .before .before .before .before .before .s3) .given .0 .1 .1 .1 .0) (length ((c .before .before .before .before .before .before .before .before .before .before .before .before .before .before .before .next-pair) .last .1 .1 .1 .1 .1 .1 .1 .1 .1 .0) - ((c .before .before .before .before .before .before .before .before .before .s3) .given .0 .1 .1 .1 .0)) ((c .before .before .before .before .before .before .before .before .before .before .before .before .before .before .before .next-pair) .last .1 .1 .1 .1 .1 .1 .1 .1 .1 .0) ((c .before .before .before .before .before .eq-value2) .last .1 .1 .1 .1 .1 .1 .1 .1 .1 .1 .1 .0) (omega arith)) ((c .before .before .before .before .before .before .before .before .before .before .before .before .before .before .before .next-pair) .ensures ((c .before .before .before .before .before .before .before .before .before .before .before .before .before .before .before .before .before .before .before .before .before .before .before .before .before .before .args) .parts .now)) ((c .before .before .before .before .before .before .before .before .before .s3) .given .1) ((c .before .before .before .before .before .eq-value2) .ensures ∙ plain-args (tab ((c .before .before .before .before .before .before .before .before .before .before .before .before .before .before .before .before .before .before .before .before .before .before .before .before .before .before .args) .rows .now) ((c .before .before .before .before .before .before .before .before .before .before .before .before .before .before .before .before .before .before .before .before .before .before .before .before .before .before .args) .parts .now)) ((c .before .before .before .before .before .before .before .before .before .before .before .before .before .before .before .before .before .before .before .before .before .before .before .before .before .before .args) .args .now) ((c .before .before .before .before .before .before .before .before .before .before .before .before .before .before .before .before .before .before .before .before .before .before .before .before .before .before .args) .d) ((c .before .before .before .before .before .before .before .before .before .s3) .given .0 .0) ((c .before .before .before .before .before .before .before .before .before .before .before .before .before .before .before .before .before .before .before .before .before .before .before .before .before .before .args) .by2) ((c .before .before .before .before .before .before .before .before .before .before .before .before .before .before .before .before .before .before .before .before .before .before .before .before .before .before .args) .d2) ((c .before .before .before .before .before .before .before .before .before .s3) .given .0 .1 .1 .0)) (not-true ((c .if3) .left))) .0, same-len-mid ((c .before .before .before .before .before .before .before .before .before .s3) .given .0 .1 .0) (length ((c .before .before .before .before .before .before .before .before .before .before .before .before .before .before .before .next-pair) .last .1 .1 .1 .1 .1 .0) - ((c .before .before .before .before .before .before .before .before .before .s3) .given .0 .1 .0)) ((c .before .before .before .before .before .before .before .before .before .before .before .before .before .before .before .next-pair) .last .1 .1 .1 .1 .1 .0) ((c .before .before .before .before .before .eq-value2) .last .1 .1 .1 .1 .1 .1 .1 .1 .1 .1 .0) ((c .before .before .before .before .before .eq-value2) .kept .1 .1 .1 .1 .1 .1 .1 .1 .1 .1 .0) ∙ ((c .before .before .before .before .before .before .before .before .before .before .before .before .before .before .before .next-pair) .kept .1 .1 .1 .1 .1 .0) ∙ (c .before .before .before .before .before .before .before .before .before .before .before .before .before .before .before .before .before .before .loop) .inv .1, same-len-mid ((c .before .before .before .before .before .before .before .before .before .s3) .given .0 .1 .1 .1 .0) (length ((c .before .before .before .before .before .before .before .before .before .before .before .before .before .before .before .next-pair) .last .1 .1 .1 .1 .1 .1 .1 .1 .1 .0) - ((c .before .before .before .before .before .before .before .before .before .s3) .given .0 .1 .1 .1 .0)) ((c .before .before .before .before .before .before .before .before .before .before .before .before .before .before .before .next-pair) .last .1 .1 .1 .1 .1 .1 .1 .1 .1 .0) ((c .before .before .before .before .before .eq-value2) .last .1 .1 .1 .1 .1 .1 .1 .1 .1 .1 .1 .0) ((c .before .before .before .before .before .eq-value2) .kept .1 .1 .1 .1 .1 .1 .1 .1 .1 .1 .1 .0) ∙ ((c .before .before .before .before .before .before .before .before .before .before .before .before .before .before .before .next-pair) .kept .1 .1 .1 .1 .1 .1 .1 .1 .1 .0) ∙ (c .before .before .before .before .before .before .before .before .before .before .before .before .before .before .before .before .before .before .loop) .inv .2)
 
 -- src/lib.rt:353:8

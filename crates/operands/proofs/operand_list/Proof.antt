@@ -21,7 +21,7 @@ use Rattle.operands.proofs.operand_list.Tie as tie
 use Rattle.operands.proofs.operand_list.Reads as reads
 use Rattle.operands.proofs.operand_list.Lts as lts
 use Rattle.context.proofs.least.Reads as least-reads
-use Rattle.operands.proofs.listed_operand.Reads as listed-operand-reads
+use Rattle.operands.proofs.operand.Reads as operand-reads
 
 abbrev Inv-loop : tie.InvT-loop
 Inv-loop rows parts n uses tops blocks nb operands numbers args v c q l regs back₀ found₀ f₀ i₀ back found f i = (i ≤ c) × (length back ≡ length back₀) × (length found ≡ length found₀) × ((P : Program) → Holds (tab rows parts) n blocks nb P → toldOf (components P (map letterOf (span parts l q)) (regsOf (typesIn rows parts n) regs) (operandsAt (operandTable operands numbers args) (v + i) (c - i))) ≡ answer f (typesFrom (typesIn rows parts n) found i (c - i)))
@@ -34,23 +34,23 @@ loop-holds : tie.Need-loop-holds Inv-loop μ-loop
 loop-holds c = let a = (c .before .before .before .before .before .before .before .before .before .before .before .args) in (omega arith, refl, refl, λ P h. list-none (typesIn (a .rows .now) (a .parts .now) (a .n)) P (map letterOf (span (a .parts .now) (a .l) (a .q))) (regsOf (typesIn (a .rows .now) (a .parts .now) (a .n)) (a .regs .now)) (operandTable (a .operands .now) (a .numbers .now) (a .args .now)) (a .v) (a .c) (a .found .now))
 
 -- src/lib.rt:326:13
-add-listed-operand : tie.Need-add-listed-operand Inv-loop μ-loop
-add-listed-operand c = omega (arith, (c .before .before .before .before .before .before .before .before .before .before .before .before .before .pre) .3, (c .before .loop) .inv .0)
+add-operand : tie.Need-add-operand Inv-loop μ-loop
+add-operand c = omega (arith, (c .before .before .before .before .before .before .before .before .before .before .before .before .before .pre) .3, (c .before .loop) .inv .0)
 
 -- src/lib.rt:326:13
-sub-listed-operand : tie.Need-sub-listed-operand Inv-loop μ-loop
-sub-listed-operand c = omega (arith, (c .loop-test) .taken)
+sub-operand : tie.Need-sub-operand Inv-loop μ-loop
+sub-operand c = omega (arith, (c .loop-test) .taken)
 
 -- src/lib.rt:315:13
-listed-operand-requires : tie.Need-listed-operand-requires Inv-loop μ-loop
-listed-operand-requires c κs =
+operand-requires : tie.Need-operand-requires Inv-loop μ-loop
+operand-requires c κs =
     let a = (c .before .before .before .before .before .before .before .before .before .before .before .before .before .before .args) in
     let l = (c .before .before .loop) in
     ((c .before .before .before .before .before .before .before .before .before .before .before .before .before .before .pre) .0, (c .before .before .before .before .before .before .before .before .before .before .before .before .before .before .pre) .1, short-before (operandTable (a .operands .now) (a .numbers .now) (a .args .now)) (a .v) (a .c) (l .i) ((c .before .before .before .before .before .before .before .before .before .before .before .before .before .before .pre) .2) ((c .before .loop-test) .taken) (l .inv .0), omega (arith, (c .before .before .before .before .before .before .before .before .before .before .before .before .before .before .pre) .3, l .inv .0), omega (arith, (c .before .before .before .before .before .before .before .before .before .before .before .before .before .before .pre) .4, l .inv .1))
 
 -- src/lib.rt:332:24
 cast-found : tie.Need-cast-found Inv-loop μ-loop
-cast-found c = omega (arith, (c .before .before .before .listed-operand) .ensures .1, (c .before .before .before .before .before .before .before .before .before .before .before .before .before .before .before .before .before .before .pre) .0 .few)
+cast-found c = omega (arith, (c .before .before .before .operand) .ensures .1, (c .before .before .before .before .before .before .before .before .before .before .before .before .before .before .before .before .before .before .pre) .0 .few)
 
 -- src/lib.rt:332:15
 sub-found : tie.Need-sub-found Inv-loop μ-loop
@@ -84,7 +84,7 @@ loop-again c =
     let T : List Arg = typesIn (a .rows .now) (a .parts .now) (a .n) in
     let Δ : List Kind = map letterOf (span (a .parts .now) (a .l) (a .q)) in
     let z : l .i ≤ length (l .found) = omega (arith, l .inv .0, l .inv .2, (c .before .before .before .before .before .before .before .before .before .before .before .before .before .before .before .before .before .before .before .pre) .5) in
-    (omega (arith, l .inv .0), (c .before .before .before .before .listed-operand) .kept .1 .1 .1 .1 .1 .1 .1 .1 .1 .1 .1 .1 .1 .1 .0 ∙ l .inv .1, simp length-set (l .inv .2), λ P h. list-next T P Δ (regsOf T (a .regs .now)) (operandTable (a .operands .now) (a .numbers .now) (a .args .now)) (a .v) (a .c) (l .i) ((c .before .before .before .before .listed-operand) .result .fault) (l .f) ((c .before .before .before .before .listed-operand) .result .row) (l .found) ((c .before .before .before .before .before .before .loop-test) .taken) (l .inv .0) z ((c .before .before .before .before .listed-operand) .ensures .0 P (fault 10) h ten) (l .inv .3 P h) ∙ ap (λ (k : ℕ). answer k (typesFrom T (set (l .found) (l .i - 1) ((c .before .before .before .before .listed-operand) .result .row)) (l .i - 1) (a .c - (l .i - 1)))) (sym ((c .least) .ensures)))
+    (omega (arith, l .inv .0), (c .before .before .before .before .operand) .kept .1 .1 .1 .1 .1 .1 .1 .1 .1 .1 .1 .1 .1 .1 .0 ∙ l .inv .1, simp length-set (l .inv .2), λ P h. list-next T P Δ (regsOf T (a .regs .now)) (operandTable (a .operands .now) (a .numbers .now) (a .args .now)) (a .v) (a .c) (l .i) ((c .before .before .before .before .operand) .result .fault) (l .f) ((c .before .before .before .before .operand) .result .row) (l .found) ((c .before .before .before .before .before .before .loop-test) .taken) (l .inv .0) z ((c .before .before .before .before .operand) .ensures .0 P (fault 10) h ten) (l .inv .3 P h) ∙ ap (λ (k : ℕ). answer k (typesFrom T (set (l .found) (l .i - 1) ((c .before .before .before .before .operand) .result .row)) (l .i - 1) (a .c - (l .i - 1)))) (sym ((c .least) .ensures)))
 
 -- src/lib.rt:290:1
 same-length : tie.Need-same-length Inv-loop μ-loop
@@ -108,9 +108,9 @@ operand-list-spec =
     Inv-loop
     μ-loop
     loop-holds
-    add-listed-operand
-    sub-listed-operand
-    listed-operand-requires
+    add-operand
+    sub-operand
+    operand-requires
     cast-found
     sub-found
     mul-found
