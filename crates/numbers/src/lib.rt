@@ -10,7 +10,7 @@ ghost use lib.Dec.{eqb, leb, ltb};
 ghost use Rattle.syntax.specs.Bits.{modulus};
 ghost use Rattle.syntax.specs.Partial.{bind, when};
 ghost use Rattle.text.specs.Bytes.{number, literal};
-ghost use Rattle.text.specs.Grammar.{rowNumber, index, amount, register};
+ghost use Rattle.text.specs.Grammar.{rowNumber, index, register};
 ghost use Rattle.lines.specs.Parts.{fieldIn, InLine};
 ghost use Rattle.numbers.specs.Numbers.{numberOf, digitOf, upTo, zeroLed, noScan, DigitIs, ScanIs};
 
@@ -168,13 +168,6 @@ pub fn index(s: &[u8]) -> Number
     ensures { λ r. ⌜ numberOf r ≡ index (now (s .entry)) ⌝ }
 {
     number_in(s, 0, 63)
-}
-
-// A count of stack words, 0 to 64.
-pub fn amount(s: &[u8]) -> Number
-    ensures { λ r. ⌜ numberOf r ≡ amount (now (s .entry)) ⌝ }
-{
-    number_in(s, 0, 64)
 }
 
 // A number read from a place of a line on, and where its field ends.
