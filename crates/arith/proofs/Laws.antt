@@ -15,7 +15,7 @@ use mir.Val.{SFits, toZ, ofZ}
 use mir.Facts.{toZ-ofZ}
 use borrow.Author.Tests.{lt-ltb, le-ltb, ltb-true, ltb-false, eq-eqb, ne-eqb}
 use Rattle.syntax.specs.Bits.{half, signed}
-use Rattle.syntax.specs.Syntax.{Branch}
+use Rattle.syntax.specs.Syntax.{add, sub, Branch}
 use Rattle.exec.specs.Machine.{compute, Sign, negative, null, positive, signOf, taken}
 use Rattle.arith.specs.Codes.{arithOf, branchOf, signAt, column}
 use Rattle.arith.proofs.Table.{at2}
@@ -44,6 +44,11 @@ module _ (x y r : ℕ) where
   multiplies zero n m h = absurd (n refl)
   multiplies (suc zero) n m h = absurd (m refl)
   multiplies (suc (suc k)) n m h = h
+
+-- a difference is the sum with the number taken from 0
+pub sub-is-add : (x y : ℕ) → compute sub x y ≡ compute add x (compute sub 0 y)
+unfolding compute
+sub-is-add x y = omega arith
 
 -- ---- the signed reading
 -- -1 - n, of a number n

@@ -1,12 +1,12 @@
 -- The three passes, put together.
-use Prim.Native.Nat.{ℕ, zero, suc, _+_, _-_, _*_, _≤_, _<_}
+use Prim.Native.Nat.{ℕ, zero, suc, _+_, _-_, _≤_, _<_}
 use native.Mathlib.Omega.{arith}
 use mathlib.Core.Path.{_≡_, refl, ap, ap₂, sym, subst, _∙_}
 use mathlib.Core.Bool.{Bool, true, false, cond}
 use mathlib.Core.Option.{Option, none, some}
 use mathlib.Core.List.{List, [], _∷_, _++_}
 use lib.Dec.{eqb, ltb}
-use lib.ListN.{length, replicate, length-replicate}
+use lib.ListN.{length}
 use borrow.Author.Tests.{ne-eqb, eq-eqb, lt-ltb, le-ltb, eqb-true, ltb-true, ltb-false}
 use Rattle.syntax.specs.Syntax.{value, stack}
 use Rattle.syntax.specs.Fault.{Refusal, lowestLine, orElse, earliest}
@@ -21,9 +21,9 @@ use Rattle.valid.specs.PassThree.{passThree}
 use Rattle.valid.specs.Verdict.{Verdict, accepted, refused, instrCount, answer, passTwoOf, passes, check}
 use Rattle.valid.proofs.Order.{body-of}
 use Rattle.premises.specs.Answers.{In, ItemIs, Holds}
-use Rattle.decode_store.specs.Store.{Store, store, rowTable, operandsOf}
+use Rattle.decode_store.specs.Store.{Store, rowTable, operandsOf}
 use Rattle.load.specs.declared.Loaded.{Loaded}
-use Rattle.load.specs.Loaded.{Space, IsLoaded}
+use Rattle.load.specs.Loaded.{IsLoaded}
 use Rattle.share.specs.Shared.{Shared}
 use Rattle.pass_three.specs.declared.Finding.{Finding}
 use Rattle.pass_three.specs.Found.{Tables, Tells, Refuses}
@@ -220,23 +220,3 @@ module _ (text : List ℕ) (σ : Store) (uses tops : List ℕ) (r : Loaded) (d :
 
 pub none-low : (text : List ℕ) (r : Loaded) → cond (eqb (r .fault) 0) none (some (record { number = r .fault; line = r .line; items = [] })) ≡ low text → r .fault ≡ 0 → none ≡ low text
 none-low text r e z = ap (λ (b : Bool). cond b none (some (record { number = r .fault; line = r .line; items = [] }))) (sym (eq-eqb (r .fault) 0 z)) ∙ e
-
--- ---- the tables on the stack are long enough
-pub zeros-long : (n m : ℕ) → m ≤ n → m ≤ length (replicate {A = ℕ} n 0)
-zeros-long n m h = let e = length-replicate {A = ℕ} n 0 in omega arith
-
-pub zeros-space : Space (store (replicate 2056 0) (replicate 8738 0) (replicate 65600 0) (replicate 16400 0) (replicate 131200 0) (replicate 8200 0) (replicate 130 0)) (length (replicate {A = ℕ} 32768 0)) (length (replicate {A = ℕ} 512 0))
-zeros-space = record {
-  room = record {
-    rows = zeros-long 2056 (4 * 513) (omega arith);
-    parts = zeros-long 8738 (17 * 513) (omega arith);
-    operands = zeros-long 65600 (4 * 16400) (omega arith);
-    numbers = zeros-long 16400 16400 (omega arith);
-    args = zeros-long 131200 (8 * 16400) (omega arith);
-    instrs = zeros-long 8200 (8 * 1025) (omega arith);
-    blocks = zeros-long 130 (2 * 65) (omega arith);
-  };
-  rows = zeros-long 2056 (4 * 514) (omega arith);
-  uses = zeros-long 32768 (64 * 512) (omega arith);
-  tops = zeros-long 512 512 (omega arith);
-}

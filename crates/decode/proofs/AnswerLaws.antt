@@ -1,14 +1,32 @@
 -- Laws of the small answers: a line's fault, what is in use behind it, and the answer at the end of the text.
 -- Assumes nothing.
-use mathlib.Core.Path.{_≡_, ap, sym, _∙_}
-use mathlib.Core.Bool.{Bool, true, false, not, cond}
+use mathlib.Core.Path.{_≡_, refl, ap, sym, _∙_}
+use mathlib.Core.Bool.{Bool, true, false, not, cond, true≢false}
 use Prim.Native.Nat.{ℕ, _≤_}
-use borrow.Author.Tests.{eq-eqb, ne-eqb, not-true, not-false}
+use lib.Dec.{eqb, leb}
+use borrow.Author.Tests.{leb-true, le-leb, eq-eqb, ne-eqb, not-true, not-false}
 use Rattle.decode_store.specs.Lines.{operandCount, usedAfter}
 use Rattle.decode_store.specs.declared.Used.{Used}
 use Rattle.decode_store.specs.declared.Line.{Line}
-use Rattle.decode.specs.Decoded.{faultyRead, lastRead, faultOf, lineFault}
+use Rattle.decode.specs.Decoded.{faultyRead, goodRead, lastRead, faultOf, lineFault, Fitting}
 use Rattle.decode.specs.declared.Read.{Read}
+
+-- ---- a text that fits, and one that does not
+pub fits : {R A : Type 0} {b : Bool} → b ≡ true → A → Fitting R b A
+fits e a = record { enough = λ r. e; answered = λ w. a }
+
+pub fits-not : {R A : Type 0} {b : Bool} → b ≡ false → (R → ⊥) → Fitting R b A
+fits-not e n = record { enough = λ r. absurd (n r); answered = λ w. absurd (true≢false (sym w ∙ e)) }
+
+pub failed : {R : Type 0} (b : Bool) → (R → b ≡ true) → not b ≡ true → R → ⊥
+failed b h e r = true≢false (sym (h r) ∙ not-true b e)
+
+-- ---- a test of P that has failed, and one that decides P
+pub refuted : {P : Type 0} → (P → ⊥) → (false ≡ true → P) × (P → false ≡ true)
+refuted n = (λ w. absurd (true≢false (sym w)), λ p. absurd (n p))
+
+pub decided : {P : Type 0} (m n : ℕ) → (m ≤ n → P) → (P → m ≤ n) → (leb m n ≡ true → P) × (P → leb m n ≡ true)
+decided m n f g = (λ w. f (leb-true m n w), λ p. le-leb m n (g p))
 
 -- ---- order before number
 pub out-of-order : (i t : Bool) → not i ≡ true → 2 ≡ faultOf i t
@@ -34,8 +52,15 @@ pub count-as : {l m : Line} → l ≡ m → operandCount l ≤ 16 → operandCou
 count-as {l} {m} e h = rw (← e) h
 
 -- ---- at the end of the text
-pub end-inside : (p n : ℕ) (u : Used) (r : Read) → p ≡ 1 → r ≡ faultyRead 2 n → r ≡ lastRead p n u
-end-inside p n u r e h = h ∙ ap (λ (b : Bool). cond b (faultyRead 2 n) (record { fault = 0; line = 0; rows = u .rows; blocks = u .blocks; instrs = u .instrs })) (sym (eq-eqb p 1 e))
+pub last-fits : (p n : ℕ) (u : Used) (r : Read) → r ≡ lastRead p n u → r .fits ≡ true
+last-fits p n u r e = ap (λ (x : Read). x .fits) e ∙ go (eqb p 1)
+  where
+    go : (t : Bool) → cond t (faultyRead 2 n) (goodRead u) .fits ≡ true
+    go true = refl
+    go false = refl
 
-pub end-outside : (p n : ℕ) (u : Used) → (p ≡ 1 → ⊥) → record { fault = 0; line = 0; rows = u .rows; blocks = u .blocks; instrs = u .instrs } ≡ lastRead p n u
-end-outside p n u e = ap (λ (b : Bool). cond b (faultyRead 2 n) (record { fault = 0; line = 0; rows = u .rows; blocks = u .blocks; instrs = u .instrs })) (sym (ne-eqb p 1 e))
+pub end-inside : (p n : ℕ) (u : Used) (r : Read) → p ≡ 1 → r ≡ faultyRead 2 n → r ≡ lastRead p n u
+end-inside p n u r e h = h ∙ ap (λ (b : Bool). cond b (faultyRead 2 n) (goodRead u)) (sym (eq-eqb p 1 e))
+
+pub end-outside : (p n : ℕ) (u : Used) → (p ≡ 1 → ⊥) → goodRead u ≡ lastRead p n u
+end-outside p n u e = ap (λ (b : Bool). cond b (faultyRead 2 n) (goodRead u)) (sym (ne-eqb p 1 e))

@@ -17,7 +17,7 @@ use Rattle.text.specs.Bytes.{linesOf}
 use Rattle.text.specs.Grammar.{parse}
 use Rattle.text.specs.PassOne.{isLast, Place, placeAfter, inOrder, mayEnd, Counts, counted, tooMany, lineFaults, after, with-one, linesFaults, passOne}
 use Rattle.decode_store.specs.Lines.{usedAfter}
-use Rattle.decode.specs.Decoded.{refusalOf, noneUsed, faultyRead, lastRead, placeOf, placeBehind, faultOf, lineFault}
+use Rattle.decode.specs.Decoded.{refusalOf, noneUsed, faultyRead, goodRead, lastRead, placeOf, placeBehind, faultOf, lineFault}
 use Rattle.decode_store.specs.declared.Used.{Used}
 use Rattle.decode_store.specs.declared.Line.{Line}
 use Rattle.decode_store.specs.declared.Line.the-variants as line
@@ -148,7 +148,7 @@ pub fault-end : (n p : ℕ) (u : Used) → refusalOf (lastRead p n u) ≡ lowest
 unfolding linesFaults
 fault-end n p u = go (eqb p 1) ∙ ap (λ (t : Bool). lowestLine n (given (not t) 2 ∷ [])) (sym (may-end p))
   where
-    go : (t : Bool) → refusalOf (cond t (faultyRead 2 n) (record { fault = 0; line = 0; rows = u .rows; blocks = u .blocks; instrs = u .instrs })) ≡ lowestLine n (given (not (not t)) 2 ∷ [])
+    go : (t : Bool) → refusalOf (cond t (faultyRead 2 n) (goodRead u)) ≡ lowestLine n (given (not (not t)) 2 ∷ [])
     go true = unfold lowestLine given lowest numberOf in refl
     go false = unfold lowestLine given in refl
 

@@ -7,28 +7,30 @@ use mathlib.Core.Option.{Option, none, some}
 use Prim.Native.Nat.{ℕ, zero, suc, _+_, _-_, _*_, _<_, _≤_, zero-le}
 use native.Mathlib.Omega.{arith}
 use native.Mathlib.Nat.{add-zero, add-suc}
-use lib.Dec.{eqb, leb}
+use lib.Dec.{eqb, leb, ltb}
 use lib.ListN.{length, take, drop}
-use borrow.Author.Tests.{eqb-true, eqb-false, leb-false, not-true}
+use borrow.Author.Tests.{eqb-true, eqb-false, leb-false, ltb-true, ltb-false, not-true}
 use Rattle.syntax.specs.Syntax.{Row, Instr, Entry, row, block, instr}
 use Rattle.syntax.specs.Fault.{fault, lowestLine}
 use Rattle.text.specs.Bytes.{Line, fieldsOf, linesOf}
 use Rattle.text.specs.Grammar.{entryOf, parse}
 use Rattle.text.specs.PassOne.{linesFaults, passOne, said, entriesOf, rowsOf, grouped, listingsOf}
 use Rattle.tables.specs.Tables.{cell, rowAt, rowsFrom, instrAt, blocksFrom}
+use Rattle.tables.proofs.Spans.{same-at}
 use Rattle.lines.specs.Parts.{firstPart, lineIn, InLine, LastEnd}
 use Rattle.lines.proofs.Parts.{line-ended, line-unended, lines-none, end-from, part-is}
 use Rattle.lines.proofs.InLine.{line-there, line-before}
-use Rattle.decode_store.specs.Store.{Store, rowTable, operandsOf, Room, Few, Same}
-use Rattle.decode_store.specs.Lines.{usedAfter, endsBlock, LineIs, LineEnds}
-use Rattle.decode.specs.Decoded.{refusalOf, noneUsed, faultyRead, lastRead, Decoded, ReadIs, placeOf, placeBehind, faultOf, lineFault}
+use Rattle.decode_store.specs.Store.{Store, rowTable, operandsOf, Room, RoomFor, Few, Same}
+use Rattle.decode_store.specs.Lines.{operandCount, usedAfter, endsBlock, Listed, LineIs, LineEnds}
+use Rattle.decode.specs.Decoded.{refusalOf, noneUsed, faultyRead, goodRead, lastRead, Decoded, ReadIs, placeOf, placeBehind, faultOf, lineFault}
 use Rattle.decode_store.specs.declared.Used.{Used}
 use Rattle.decode_store.specs.declared.LineRead.{LineRead}
 use Rattle.decode.specs.declared.Read.{Read}
 use Rattle.decode_store.specs.declared.Line as decoded
 use Rattle.decode_store.specs.declared.Line.the-variants as line
-use Rattle.decode_store.proofs.LineLaws.{same-refl}
+use Rattle.decode_store.proofs.LineLaws.{same-refl, room-for}
 use Rattle.decode_store.proofs.PutLaws.{part-from}
+use Rattle.decode.proofs.AnswerLaws.{failed}
 use Rattle.decode.proofs.FaultLaws.{countsOf, Kin, no-form, a-row, a-block, an-instr, a-last, fault-behind, fault-here, fault-end, fault-long, fault-start}
 use Rattle.decode.proofs.GrowthLaws.{Says, says-row, says-block, says-instr, Starts, starts-row, starts-instr, starts-block}
 
@@ -42,7 +44,7 @@ pub record AsLong (σ π : Store) : Type 0 where
   pub instrs : length (σ .instrs) ≡ length (π .instrs)
   pub blocks : length (σ .blocks) ≡ length (π .blocks)
 
-pub room-still : (σ π : Store) → AsLong σ π → Room π → Room σ
+room-still : (σ π : Store) → AsLong σ π → Room π → Room σ
 room-still σ π a r = record {
   rows = omega (arith, a .rows, r .rows);
   parts = omega (arith, a .parts, r .parts);
@@ -52,6 +54,48 @@ room-still σ π a r = record {
   instrs = omega (arith, a .instrs, r .instrs);
   blocks = omega (arith, a .blocks, r .blocks);
 }
+
+-- ---- what is in use stands in the tables
+pub record Held (u : Used) (σ : Store) : Type 0 where
+  pub parts : 17 * u .rows ≤ length (σ .parts)
+  pub instrs : 8 * u .instrs ≤ length (σ .instrs)
+  pub numbers : u .operands ≤ length (σ .numbers)
+  pub operands : 4 * u .operands ≤ length (σ .operands)
+  pub listed : (j : ℕ) → j < u .instrs → cell 8 (σ .instrs) j 5 + cell 8 (σ .instrs) j 6 ≤ u .operands
+
+-- one line more
+module _ (u : Used) (σ π : Store) (h : Held u σ) (room : RoomFor u σ) (a : AsLong π σ) (kept : Same u π σ) where
+  listed-still : (j : ℕ) → j < u .instrs → cell 8 (π .instrs) j 5 + cell 8 (π .instrs) j 6 ≤ u .operands
+  listed-still j k =
+      let f : cell 8 (π .instrs) j 5 ≡ cell 8 (σ .instrs) j 5 = same-at (8 * u .instrs) (π .instrs) (σ .instrs) (8 * j + 5) (omega arith) (kept .instrs) in
+      let s : cell 8 (π .instrs) j 6 ≡ cell 8 (σ .instrs) j 6 = same-at (8 * u .instrs) (π .instrs) (σ .instrs) (8 * j + 6) (omega arith) (kept .instrs) in
+      omega (arith, h .listed j k)
+
+  held-by : (v : Used) → v .rows ≤ u .rows + 1 → v .instrs ≤ u .instrs + 1 → v .operands ≤ u .operands + 16 → ((j : ℕ) → j < v .instrs → cell 8 (π .instrs) j 5 + cell 8 (π .instrs) j 6 ≤ v .operands) → Held v π
+  held-by v r i o l = record {
+    parts = omega (arith, room .parts, a .parts);
+    instrs = omega (arith, room .instrs, a .instrs);
+    numbers = omega (arith, room .operands .bases, a .numbers);
+    operands = omega (arith, room .operands .kinds, a .operands);
+    listed = l;
+  }
+
+  held-instr : (n : ℕ) → n ≤ 16 → cell 8 (π .instrs) (u .instrs) 5 + cell 8 (π .instrs) (u .instrs) 6 ≡ u .operands + n → Held (usedAfter u (line.Instruction n)) π
+  held-instr n few e = held-by (usedAfter u (line.Instruction n)) (omega arith) (omega arith) (omega arith) (λ j k. go j k (ltb j (u .instrs)) refl)
+    where
+      go : (j : ℕ) → j < u .instrs + 1 → (t : Bool) → ltb j (u .instrs) ≡ t → cell 8 (π .instrs) j 5 + cell 8 (π .instrs) j 6 ≤ u .operands + n
+      go j k true q = omega (arith, listed-still j (ltb-true j (u .instrs) q))
+      go j k false q =
+          let w = ltb-false j (u .instrs) q in
+          let s : j ≡ u .instrs = omega arith in
+          omega (arith, ap (λ (i : ℕ). cell 8 (π .instrs) i 5 + cell 8 (π .instrs) i 6) s)
+
+  held-on : (l : decoded.Line) → operandCount l ≤ 16 → Listed u π l → Held (usedAfter u l) π
+  held-on line.NoForm few e = held-by u (omega arith) (omega arith) (omega arith) listed-still
+  held-on line.Row few e = held-by (usedAfter u line.Row) (omega arith) (omega arith) (omega arith) listed-still
+  held-on line.Block few e = held-by (usedAfter u line.Block) (omega arith) (omega arith) (omega arith) listed-still
+  held-on (line.Instruction n) few e = held-instr n few e
+  held-on (line.Last n) few e = held-instr n few e
 
 -- ---- the lines before `at` are read, as es, and no fault was found
 pub record Going (text : List ℕ) (at line place : ℕ) (u : Used) (σ : Store) : Type 0 where
@@ -64,6 +108,7 @@ pub record Going (text : List ℕ) (at line place : ℕ) (u : Used) (σ : Store)
   pub entries : entriesOf text ≡ es ++ said (map parse (linesOf (drop at text)))
   pub says : Says u σ es
   pub starts : Starts place u (σ .blocks)
+  pub held : Held u σ
 
 pub going-start : (text : List ℕ) (σ : Store) → length text ≤ 65536 → Going text 0 1 0 noneUsed σ
 unfolding entriesOf rowsFrom rowsOf blocksFrom listingsOf grouped
@@ -77,6 +122,7 @@ going-start text σ h = record {
   entries = refl;
   says = record { rows = λ ρ s. refl; blocks = λ ρ s. refl };
   starts = record { first = λ k. absurd (omega arith); rising = λ l k. absurd (omega arith); last = (refl, refl) };
+  held = record { parts = zero-le; instrs = zero-le; numbers = zero-le; operands = zero-le; listed = λ j k. absurd (omega arith) };
 }
 
 -- ---- one line
@@ -141,7 +187,7 @@ module _ (text : List ℕ) (at number place : ℕ) (u : Used) (σ : Store) (g : 
     unfolding said
     all-entries = g .entries ∙ ap (λ (ls : List Line). g .es ++ said (map parse ls)) none-left ∙ append-nil (g .es)
 
-    decoded-here : (place ≡ 1 → ⊥) → Decoded text σ (record { fault = 0; line = 0; rows = u .rows; blocks = u .blocks; instrs = u .instrs })
+    decoded-here : (place ≡ 1 → ⊥) → Decoded text σ (goodRead u)
     decoded-here p = record {
       rows = g .says .rows σ (same-refl u σ) ∙ ap rowsOf (sym all-entries);
       blocks = g .says .blocks σ (same-refl u σ) ∙ ap listingsOf (sym all-entries);
@@ -151,9 +197,12 @@ module _ (text : List ℕ) (at number place : ℕ) (u : Used) (σ : Store) (g : 
       first = g .starts .first;
       rising = g .starts .rising;
       within = all-within place u (σ .blocks) p (g .starts);
+      room-parts = g .held .parts;
+      room-instrs = g .held .instrs;
+      room-operands = λ j h. let k = g .held .listed j h in (omega (arith, g .held .numbers), omega (arith, g .held .operands));
     }
 
-    ending : (t : Bool) → eqb place 1 ≡ t → (r : Read) → r ≡ cond t (faultyRead 2 number) (record { fault = 0; line = 0; rows = u .rows; blocks = u .blocks; instrs = u .instrs }) → r .fault ≡ 0 → Decoded text σ r
+    ending : (t : Bool) → eqb place 1 ≡ t → (r : Read) → r ≡ cond t (faultyRead 2 number) (goodRead u) → r .fault ≡ 0 → Decoded text σ r
     ending true w r e z = absurd (let y : r .fault ≡ 2 = ap (λ (x : Read). x .fault) e in omega arith)
     ending false w r e z = rw e (decoded-here (eqb-false place 1 w))
 
@@ -182,9 +231,9 @@ module _ (text : List ℕ) (at number place : ℕ) (u : Used) (σ : Store) (g : 
       pub at-fault : (f : ℕ) → f ≡ lineFault l place u → (f ≡ 0 → ⊥) → (r : Read) → r ≡ faultyRead f number → ReadIs text π r
       at-fault f w z r q = faulty-read f (entryOf (fieldsOf (take (e - at) (drop at text)))) (map parse (linesOf (drop (e + 1) text))) l here (kin (take (e - at) (drop at text)) u σ π l i) w z π r q
 
-      moved : (x : Entry) → entryOf (fieldsOf (take (e - at) (drop at text))) ≡ some x → lineFault l place u ≡ 0 → Few (usedAfter u l) → Says (usedAfter u l) π (g .es ++ (x ∷ [])) → Starts (placeBehind l place) (usedAfter u l) (π .blocks) → Going text (e + 1) (number + 1) (placeBehind l place) (usedAfter u l) π
+      moved : (x : Entry) → entryOf (fieldsOf (take (e - at) (drop at text))) ≡ some x → lineFault l place u ≡ 0 → RoomFor u σ → AsLong π σ → Few (usedAfter u l) → Says (usedAfter u l) π (g .es ++ (x ∷ [])) → Starts (placeBehind l place) (usedAfter u l) (π .blocks) → Going text (e + 1) (number + 1) (placeBehind l place) (usedAfter u l) π
       unfolding said
-      moved x w z few says starts = record {
+      moved x w z room long few says starts = record {
         within = omega arith;
         short = g .short;
         counts = let c = g .counts in let b = end-from 10 text at e is in omega arith;
@@ -194,16 +243,17 @@ module _ (text : List ℕ) (at number place : ℕ) (u : Used) (σ : Store) (g : 
         entries = g .entries ∙ ap (λ (os : List (Option Entry)). g .es ++ said os) (here ∙ ap (λ (o : Option Entry). o ∷ map parse (linesOf (drop (e + 1) text))) w) ∙ sym (append-assoc (g .es) (x ∷ []) (said (map parse (linesOf (drop (e + 1) text)))));
         says = says;
         starts = starts;
+        held = held-on u σ π (g .held) room long (i .kept) l (i .few) (i .listed);
       }
 
-    module _ (h : e < length text) (π : Store) where
+    module _ (h : e < length text) (π : Store) (room : RoomFor u σ) (long : AsLong π σ) where
       on-row : LineIs (take (e - at) (drop at text)) u σ π line.Row → lineFault line.Row place u ≡ 0 → Going text (e + 1) (number + 1) 0 (usedAfter u line.Row) π
       on-row i z =
           let f = free (eqb place 0) (leb 512 (u .rows)) z in
           let p : place ≡ 0 = eqb-true place 0 (f .0) in
           let q : u .rows < 512 = leb-false 512 (u .rows) (f .1) in
           let there : entryOf (fieldsOf (take (e - at) (drop at text))) ≡ some (row (rowAt (rowTable π) (u .rows))) = sym (i .said π (same-refl (usedAfter u line.Row) π)) in
-          moved h π line.Row i (row (rowAt (rowTable π) (u .rows))) there z
+          moved h π line.Row i (row (rowAt (rowTable π) (u .rows))) there z room long
           (record { rows = omega arith; blocks = g .few .blocks; instrs = g .few .instrs; operands = g .few .operands })
           (says-row u σ π (g .es) (g .says) (i .kept) (rowAt (rowTable π) (u .rows)) (λ ρ s. ap (theRow (rowAt (rowTable π) (u .rows))) (i .said ρ s ∙ there)))
           (starts-row u (σ .blocks) (π .blocks) (i .kept .blocks) (subst (λ (k : ℕ). Starts k u (σ .blocks)) p (g .starts)))
@@ -214,7 +264,7 @@ module _ (text : List ℕ) (at number place : ℕ) (u : Used) (σ : Store) (g : 
           let p : place ≡ 1 → ⊥ = eqb-false place 1 (not-true (eqb place 1) (f .0)) in
           let q : u .blocks < 64 = leb-false 64 (u .blocks) (f .1) in
           let there : entryOf (fieldsOf (take (e - at) (drop at text))) ≡ some (block (cell 2 (π .blocks) (u .blocks) 0)) = sym (i .said π (same-refl (usedAfter u line.Block) π)) in
-          moved h π line.Block i (block (cell 2 (π .blocks) (u .blocks) 0)) there z
+          moved h π line.Block i (block (cell 2 (π .blocks) (u .blocks) 0)) there z room long
           (record { rows = g .few .rows; blocks = omega arith; instrs = g .few .instrs; operands = g .few .operands })
           (says-block u σ π (g .es) (g .says) (i .kept) (cell 2 (π .blocks) (u .blocks) 0) (λ ρ s. ap theBlock (i .said ρ s ∙ there)) (i .starts refl))
           (starts-block u (σ .blocks) (π .blocks) (i .kept .blocks) place p (g .starts) (i .starts refl))
@@ -238,12 +288,12 @@ module _ (text : List ℕ) (at number place : ℕ) (u : Used) (σ : Store) (g : 
 
         on-instr : LineIs (take (e - at) (drop at text)) u σ π (line.Instruction n) → Going text (e + 1) (number + 1) 1 (usedAfter u (line.Instruction n)) π
         on-instr i =
-            moved h π (line.Instruction n) i (instr (instrAt (π .instrs) (operandsOf π) (u .instrs))) (sym (i .said π (same-refl (usedAfter u (line.Instruction n)) π))) z
+            moved h π (line.Instruction n) i (instr (instrAt (π .instrs) (operandsOf π) (u .instrs))) (sym (i .said π (same-refl (usedAfter u (line.Instruction n)) π))) z room long
             (few-still (i .few)) (say-still (i .kept) (i .said)) (starts-instr u (σ .blocks) (π .blocks) (i .kept .blocks) n begun .0)
 
         on-last : LineIs (take (e - at) (drop at text)) u σ π (line.Last n) → Going text (e + 1) (number + 1) 2 (usedAfter u (line.Last n)) π
         on-last i =
-            moved h π (line.Last n) i (instr (instrAt (π .instrs) (operandsOf π) (u .instrs))) (sym (i .said π (same-refl (usedAfter u (line.Last n)) π))) z
+            moved h π (line.Last n) i (instr (instrAt (π .instrs) (operandsOf π) (u .instrs))) (sym (i .said π (same-refl (usedAfter u (line.Last n)) π))) z room long
             (few-still (i .few)) (say-still (i .kept) (i .said)) (starts-instr u (σ .blocks) (π .blocks) (i .kept .blocks) n begun .1)
 
       pub going-on : (l : decoded.Line) → LineIs (take (e - at) (drop at text)) u σ π l → lineFault l place u ≡ 0 → Going text (e + 1) (number + 1) (placeBehind l place) (usedAfter u l) π
@@ -289,6 +339,10 @@ pub open-end : (text : List ℕ) (at r : ℕ) → LastEnd text r → at ≤ r �
 open-end text at r l a b =
     let q : at ≡ r = omega arith in
     omega (arith, l .rest, ap (λ (k : ℕ). k + length (firstPart 10 (drop k text))) q)
+
+-- ---- tables that have no room for a line have none for every text
+pub no-room : (u : Used) (σ π : Store) (b : Bool) → Few u → AsLong σ π → (RoomFor u σ → b ≡ true) → not b ≡ true → Room π → ⊥
+no-room u σ π b few a h e = failed b (λ r. h (room-for u σ (room-still σ π a r) few)) e
 
 -- ---- a text that is too long
 pub read-long : (text : List ℕ) (σ : Store) → 65536 < length text → (r : Read) → r ≡ faultyRead 3 0 → ReadIs text σ r

@@ -1,10 +1,11 @@
 -- What decoding a text answers, and what it leaves in the tables.
-use Prim.Native.Nat.{ℕ, zero, suc, _≤_, _<_}
+use Prim.Native.Nat.{ℕ, zero, suc, _+_, _*_, _≤_, _<_}
 use mathlib.Core.Path.{_≡_}
-use mathlib.Core.Bool.{Bool, not, cond}
+use mathlib.Core.Bool.{Bool, true, false, not, cond}
 use mathlib.Core.Option.{Option, none, some}
 use mathlib.Core.List.{List, []}
 use lib.Dec.{eqb, leb}
+use lib.ListN.{length}
 use Rattle.syntax.specs.Fault.{Refusal, lowestLine}
 use Rattle.text.specs.PassOne.{Place, atRows, inBlock, behindBlock, passOne, entriesOf, rowsOf, listingsOf}
 use Rattle.tables.specs.Tables.{cell, rowsIn, blocksFrom}
@@ -22,13 +23,26 @@ noneUsed = record { rows = 0; blocks = 0; instrs = 0; operands = 0 }
 abbrev pub refusalOf : Read → Option Refusal
 refusalOf r = cond (eqb (r .fault) 0) none (some (record { number = r .fault; line = r .line; items = [] }))
 
+-- the answer where the text does not fit the tables
+abbrev pub unfitRead : Read
+unfitRead = record { fits = false; fault = 0; line = 0; rows = 0; blocks = 0; instrs = 0 }
+
 -- the answer that names fault n on a line
 abbrev pub faultyRead : ℕ → ℕ → Read
-faultyRead n line = record { fault = n; line = line; rows = 0; blocks = 0; instrs = 0 }
+faultyRead n line = record { fits = true; fault = n; line = line; rows = 0; blocks = 0; instrs = 0 }
+
+-- the answer that names none, with what is in use
+abbrev pub goodRead : Used → Read
+goodRead u = record { fits = true; fault = 0; line = 0; rows = u .rows; blocks = u .blocks; instrs = u .instrs }
 
 -- at the end of the text, at a place and with what is in use there
 abbrev pub lastRead : ℕ → ℕ → Used → Read
-lastRead place line u = cond (eqb place 1) (faultyRead 2 line) (record { fault = 0; line = 0; rows = u .rows; blocks = u .blocks; instrs = u .instrs })
+lastRead place line u = cond (eqb place 1) (faultyRead 2 line) (goodRead u)
+
+-- the operands of instruction j stand in the tables: entry 5 says where they start, entry 6 how many they are
+abbrev pub OperandsIn : Store → ℕ → Type 0
+OperandsIn σ j =
+    (cell 8 (σ .instrs) j 5 + cell 8 (σ .instrs) j 6 ≤ length (σ .numbers)) × (4 * (cell 8 (σ .instrs) j 5 + cell 8 (σ .instrs) j 6) ≤ length (σ .operands))
 
 -- The tables stand for the text. A block's second entry is where its instructions start: the first at 0, each later one behind an
 -- instruction of the block before it.
@@ -41,6 +55,14 @@ pub record Decoded (text : List ℕ) (σ : Store) (r : Read) : Type 0 where
   pub first : 0 < r .blocks → cell 2 (σ .blocks) 0 1 ≡ 0
   pub rising : (l : ℕ) → suc l < r .blocks → cell 2 (σ .blocks) l 1 < cell 2 (σ .blocks) (suc l) 1
   pub within : (l : ℕ) → l < r .blocks → cell 2 (σ .blocks) l 1 < r .instrs
+  pub room-parts : 17 * r .rows ≤ length (σ .parts)
+  pub room-instrs : 8 * r .instrs ≤ length (σ .instrs)
+  pub room-operands : (j : ℕ) → j < r .instrs → OperandsIn σ j
+
+-- A text may not fit the tables that are lent for it. With `room` in them every text does, and where one fits there is the answer.
+pub record Fitting (room : Type 0) (fits : Bool) (answer : Type 0) : Type 0 where
+  pub enough : room → fits ≡ true
+  pub answered : fits ≡ true → answer
 
 -- r names the fault of pass one; where there is none, the tables stand for the text
 pub record ReadIs (text : List ℕ) (σ : Store) (r : Read) : Type 0 where

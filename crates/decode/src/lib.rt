@@ -1,16 +1,20 @@
 // A text into tables, in one pass over its lines.
-// Promises: the answer names the fault of pass one that document 01 gives, on every text; where there is none, the tables
-// stand for the text (`ReadIs` of specs/Decoded.antt).
+// Promises: whether the text fits the tables that are lent, which every text does where they have `Room`. Where it fits, the answer names
+// the fault of pass one that document 01 gives; where there is none, the tables stand for the text (`ReadIs` of specs/Decoded.antt).
+// Nothing is asked.
 ghost use mathlib.Core.Path.{_≡_};
+ghost use mathlib.Core.Bool.{true};
 ghost use Prim.Native.Nat.{_≤_};
-ghost use Rattle.decode_store.specs.Store.{store, Room, Few};
+ghost use Rattle.decode_store.specs.Store.{store, Room, RoomFor, Few};
 ghost use Rattle.decode_store.specs.Lines.{operandCount, usedAfter};
-ghost use Rattle.decode.specs.Decoded.{faultOf, lineFault, placeBehind, noneUsed, faultyRead, lastRead, ReadIs};
+ghost use Rattle.decode.specs.Decoded.{faultOf, lineFault, placeBehind, noneUsed, unfitRead, faultyRead, lastRead, Fitting, ReadIs};
 use decode_store::Line;
 use decode_store::Used;
 
-// The fault of pass one and its line, 0 and 0 for none; then how many rows, blocks and instructions there are.
+// Whether the text fits the tables; the fault of pass one and its line, 0 and 0 for none; then how many rows, blocks and instructions
+// there are.
 pub struct Read {
+    pub fits: bool,
     pub fault: u8,
     pub line: usize,
     pub rows: usize,
@@ -92,10 +96,24 @@ fn used_after(u: Used, l: Line) -> Used
     }
 }
 
+fn unfit() -> Read
+    ensures { λ r. ⌜ r ≡ unfitRead ⌝ }
+{
+    Read {
+        fits: false,
+        fault: 0,
+        line: 0,
+        rows: 0,
+        blocks: 0,
+        instrs: 0,
+    }
+}
+
 fn faulty(fault: u8, line: usize) -> Read
     ensures { λ r. ⌜ r ≡ faultyRead fault line ⌝ }
 {
     Read {
+        fits: true,
         fault,
         line,
         rows: 0,
@@ -112,6 +130,7 @@ fn end_of_text(place: u8, line: usize, u: Used) -> Read
         return faulty(2, line);
     }
     Read {
+        fits: true,
         fault: 0,
         line: 0,
         rows: u.rows,
@@ -131,6 +150,41 @@ fn unused() -> Used
     }
 }
 
+// Whether the tables have room for one line more behind what is in use.
+fn has_room(
+    rows: &[u16],
+    parts: &[u16],
+    operands: &[u16],
+    numbers: &[u32],
+    args: &[u16],
+    instrs: &[u16],
+    blocks: &[u16],
+    u: Used,
+) -> bool
+    requires { ⌜ Few u ⌝ }
+    ensures { λ r. ⌜ (r ≡ true → RoomFor u (store (now (rows .entry)) (now (parts .entry)) (now (operands .entry)) (now (numbers .entry)) (now (args .entry)) (now (instrs .entry)) (now (blocks .entry)))) × (RoomFor u (store (now (rows .entry)) (now (parts .entry)) (now (operands .entry)) (now (numbers .entry)) (now (args .entry)) (now (instrs .entry)) (now (blocks .entry))) → r ≡ true) ⌝ }
+{
+    if rows.len() < 4 * (u.rows + 1) {
+        return false;
+    }
+    if parts.len() < 17 * (u.rows + 1) {
+        return false;
+    }
+    if operands.len() < 4 * (u.operands + 16) {
+        return false;
+    }
+    if numbers.len() < u.operands + 16 {
+        return false;
+    }
+    if args.len() < 8 * (u.operands + 16) {
+        return false;
+    }
+    if instrs.len() < 8 * (u.instrs + 1) {
+        return false;
+    }
+    2 * (u.blocks + 1) <= blocks.len()
+}
+
 // One pass over the text, line by line, into the tables. What stands behind the last LF is a line of no form.
 pub fn read_text(
     text: &[u8],
@@ -142,8 +196,7 @@ pub fn read_text(
     instrs: &mut [u16],
     blocks: &mut [u16],
 ) -> Read
-    requires { ⌜ Room (store (now rows) (now parts) (now operands) (now numbers) (now args) (now instrs) (now blocks)) ⌝ }
-    ensures { λ r. ⌜ ReadIs (now (text .entry)) (store (now (rows .exit)) (now (parts .exit)) (now (operands .exit)) (now (numbers .exit)) (now (args .exit)) (now (instrs .exit)) (now (blocks .exit))) r ⌝ }
+    ensures { λ r. ⌜ Fitting (Room (store (now (rows .entry)) (now (parts .entry)) (now (operands .entry)) (now (numbers .entry)) (now (args .entry)) (now (instrs .entry)) (now (blocks .entry)))) (r .fits) (ReadIs (now (text .entry)) (store (now (rows .exit)) (now (parts .exit)) (now (operands .exit)) (now (numbers .exit)) (now (args .exit)) (now (instrs .exit)) (now (blocks .exit))) r) ⌝ }
 {
     if 65536 < text.len() {
         return faulty(3, 0);
@@ -154,6 +207,9 @@ pub fn read_text(
     let mut line = 1;
     let mut place: u8 = 0;
     while at < end {
+        if !has_room(rows, parts, operands, numbers, args, instrs, blocks, u) {
+            return unfit();
+        }
         let s = &text[at..];
         let x = decode_store::read_line(s, rows, parts, operands, numbers, args, instrs, blocks, u);
         let l = x.line;

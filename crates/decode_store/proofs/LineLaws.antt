@@ -1,6 +1,6 @@
 -- Laws of one line: what its fields say and what is stored of them make what the tables then say.
 -- Assumes nothing.
-use mathlib.Core.Path.{_≡_, refl, ap, sym, _∙_}
+use mathlib.Core.Path.{_≡_, refl, ap, ap₂, sym, _∙_}
 use mathlib.Core.Bool.{Bool, true, false, cond}
 use mathlib.Core.List.{List, [], _∷_}
 use mathlib.Core.Option.{none, some}
@@ -22,8 +22,8 @@ use Rattle.decode_line.specs.Forms.{formCell, fewest, instrWith, entryWith}
 use Rattle.decode_line.specs.Answers.{SameOperands, operandTable, FormIs}
 use Rattle.decode_line.specs.declared.Said.{Said}
 use Rattle.decode_line.proofs.OperandLaws.{same-fewer}
-use Rattle.decode_store.specs.Store.{Store, store, rowTable, operandsOf, Room, Few, Same}
-use Rattle.decode_store.specs.Lines.{usedAfter, endsBlock, LineIs, Stored}
+use Rattle.decode_store.specs.Store.{Store, store, rowTable, operandsOf, RoomFor, Room, Few, Same}
+use Rattle.decode_store.specs.Lines.{usedAfter, endsBlock, Listed, LineIs, Stored}
 use Rattle.decode_store.specs.declared.Used.{Used}
 use Rattle.decode_store.specs.declared.Line.{Line}
 use Rattle.decode_store.specs.declared.Line.the-variants.{NoForm, Row, Block, Instruction, Last}
@@ -36,6 +36,20 @@ same-refl u σ = record {
   operands = record { kinds = refl; numbers = refl; args = refl };
   instrs = refl;
   blocks = refl;
+}
+
+-- tables with room for every text have room for one line more
+pub room-for : (u : Used) (σ : Store) → Room σ → Few u → RoomFor u σ
+room-for u σ r f = record {
+  rows = omega (arith, r .rows, f .rows);
+  parts = omega (arith, r .parts, f .rows);
+  operands = record {
+    kinds = omega (arith, r .operands, f .operands, f .instrs);
+    bases = omega (arith, r .numbers, f .operands, f .instrs);
+    rows = omega (arith, r .args, f .operands, f .instrs);
+  };
+  instrs = omega (arith, r .instrs, f .instrs);
+  blocks = omega (arith, r .blocks, f .blocks);
 }
 
 -- a store that changes what is past those in use
@@ -96,6 +110,7 @@ module _ (line : List ℕ) (u : Used) (σ : Store) (code : ℕ) (fs : List (List
         said = λ ρ s. sym q;
         last = sym (ap endsBlock q);
         starts = λ w. let z : _≡_ {A = ℕ} 0 1 = cc in absurd (omega arith);
+        listed = tt;
       }
 
   pub line-unnamed : 34 ≤ code → LineIs line u σ σ NoForm
@@ -111,7 +126,7 @@ module _ (line : List ℕ) (u : Used) (σ : Store) (code : ℕ) (fs : List (List
         (record { rows = refl; parts = form .kept-parts; operands = form .kept-operands; instrs = refl; blocks = refl })
         (sym (form .says parts′ (operandTable operands′ numbers′ args′) refl same-operands) ∙ simp e)
 
-    module _ (ok : s .ok ≡ true) (room : Room σ) (few : Few u) where
+    module _ (ok : s .ok ≡ true) (room : RoomFor u σ) where
       -- the entry, whatever the parts and operands past those in use
       entry-by : (ps : List ℕ) (ω : OperandTable) → take (17 * u .rows + 17) ps ≡ take (17 * u .rows + 17) parts′ → SameOperands (u .operands + s .count) ω (operandTable operands′ numbers′ args′) → some (entryWith code (s .a) (s .b) (s .c) (s .d) ps (operandsAt ω (u .operands) (s .count))) ≡ entryOf (fieldsOf line)
       entry-by ps ω p o = simp ok at (form .says ps ω p o) ∙ sym is
@@ -130,6 +145,7 @@ module _ (line : List ℕ) (u : Used) (σ : Store) (code : ℕ) (fs : List (List
         said = row-said;
         last = ap endsBlock (row-said σ′ (same-refl (usedAfter u Row) σ′));
         starts = λ w. let z : _≡_ {A = ℕ} 0 1 = cc in absurd (omega arith);
+        listed = tt;
       }
         where
           σ′ : Store
@@ -138,7 +154,7 @@ module _ (line : List ℕ) (u : Used) (σ : Store) (code : ℕ) (fs : List (List
           cells : (ρ : Store) → Same (usedAfter u Row) ρ σ′ → (k : ℕ) → k < 3 → cell 4 (ρ .rows) (u .rows) k ≡ getD (code ∷ s .a ∷ s .b ∷ []) k 0
           cells ρ t k l =
               same-at (4 * (u .rows + 1)) (ρ .rows) (σ′ .rows) (4 * u .rows + k) (omega arith) (t .rows)
-              ∙ sets-at (σ .rows) (4 * u .rows) (code ∷ s .a ∷ s .b ∷ []) k (omega (arith, room .rows, few .rows)) l
+              ∙ sets-at (σ .rows) (4 * u .rows) (code ∷ s .a ∷ s .b ∷ []) k (omega (arith, room .rows)) l
 
           row-said : (ρ : Store) → Same (usedAfter u Row) ρ σ′ → some (row (rowAt (rowTable ρ) (u .rows))) ≡ entryOf (fieldsOf line)
           row-said ρ t =
@@ -160,7 +176,8 @@ module _ (line : List ℕ) (u : Used) (σ : Store) (code : ℕ) (fs : List (List
         few = zero-le;
         said = block-said;
         last = ap endsBlock (block-said σ′ (same-refl (usedAfter u Block) σ′));
-        starts = λ w. sets-at (σ .blocks) (2 * u .blocks) (s .a ∷ u .instrs ∷ []) 1 (omega (arith, room .blocks, few .blocks)) (lit< tt);
+        starts = λ w. sets-at (σ .blocks) (2 * u .blocks) (s .a ∷ u .instrs ∷ []) 1 (omega (arith, room .blocks)) (lit< tt);
+        listed = tt;
       }
         where
           σ′ : Store
@@ -168,7 +185,7 @@ module _ (line : List ℕ) (u : Used) (σ : Store) (code : ℕ) (fs : List (List
 
           block-said : (ρ : Store) → Same (usedAfter u Block) ρ σ′ → some (block (cell 2 (ρ .blocks) (u .blocks) 0)) ≡ entryOf (fieldsOf line)
           block-said ρ t =
-              let c : cell 2 (ρ .blocks) (u .blocks) 0 ≡ s .a = same-at (2 * (u .blocks + 1)) (ρ .blocks) (σ′ .blocks) (2 * u .blocks + 0) (omega arith) (t .blocks) ∙ sets-at (σ .blocks) (2 * u .blocks) (s .a ∷ u .instrs ∷ []) 0 (omega (arith, room .blocks, few .blocks)) (lit< tt) in
+              let c : cell 2 (ρ .blocks) (u .blocks) 0 ≡ s .a = same-at (2 * (u .blocks + 1)) (ρ .blocks) (σ′ .blocks) (2 * u .blocks + 0) (omega arith) (t .blocks) ∙ sets-at (σ .blocks) (2 * u .blocks) (s .a ∷ u .instrs ∷ []) 0 (omega (arith, room .blocks)) (lit< tt) in
               ap (λ (x : ℕ). some (block x)) c
               ∙ ap some (sym (block-entry code (s .a) (s .b) (s .c) (s .d) parts′ (operandsAt (operandTable operands′ numbers′ args′) (u .operands) (s .count)) h))
               ∙ entry-by parts′ (operandTable operands′ numbers′ args′) refl same-operands
@@ -180,7 +197,7 @@ module _ (line : List ℕ) (u : Used) (σ : Store) (code : ℕ) (fs : List (List
         instr-cells : (ρ : Store) → Same (usedAfter u (Instruction (s .count))) ρ with-instr → (i : ℕ) → i < 7 → cell 8 (ρ .instrs) (u .instrs) i ≡ getD ((code - 11) ∷ s .a ∷ s .b ∷ s .c ∷ s .d ∷ u .operands ∷ s .count ∷ []) i 0
         instr-cells ρ t i l =
             same-at (8 * (u .instrs + 1)) (ρ .instrs) (with-instr .instrs) (8 * u .instrs + i) (omega arith) (t .instrs)
-            ∙ sets-at (σ .instrs) (8 * u .instrs) ((code - 11) ∷ s .a ∷ s .b ∷ s .c ∷ s .d ∷ u .operands ∷ s .count ∷ []) i (omega (arith, room .instrs, few .instrs)) l
+            ∙ sets-at (σ .instrs) (8 * u .instrs) ((code - 11) ∷ s .a ∷ s .b ∷ s .c ∷ s .d ∷ u .operands ∷ s .count ∷ []) i (omega (arith, room .instrs)) l
 
         instr-said : (ρ : Store) → Same (usedAfter u (Instruction (s .count))) ρ with-instr → some (instr (instrAt (ρ .instrs) (operandsOf ρ) (u .instrs))) ≡ entryOf (fieldsOf line)
         unfolding instrAt
@@ -209,6 +226,11 @@ module _ (line : List ℕ) (u : Used) (σ : Store) (code : ℕ) (fs : List (List
           blocks = refl;
         }
 
+        instr-listed : Listed u with-instr (Instruction (s .count))
+        instr-listed =
+            let at : (i : ℕ) → i < 7 → cell 8 (with-instr .instrs) (u .instrs) i ≡ getD ((code - 11) ∷ s .a ∷ s .b ∷ s .c ∷ s .d ∷ u .operands ∷ s .count ∷ []) i 0 = instr-cells with-instr (same-refl (usedAfter u (Instruction (s .count))) with-instr) in
+            ap₂ (λ (a b : ℕ). a + b) (at 5 (lit< tt)) (at 6 (lit< tt))
+
         good-inside : code < 32 → LineIs line u σ with-instr (Instruction (s .count))
         good-inside m = record {
           kept = instr-kept;
@@ -216,6 +238,7 @@ module _ (line : List ℕ) (u : Used) (σ : Store) (code : ℕ) (fs : List (List
           said = instr-said;
           last = sym (last-flag ∙ lt-leb 21 (code - 11) (omega arith));
           starts = λ w. let z : _≡_ {A = ℕ} 0 1 = cc in absurd (omega arith);
+          listed = instr-listed;
         }
 
         good-last : 32 ≤ code → LineIs line u σ with-instr (Last (s .count))
@@ -225,6 +248,7 @@ module _ (line : List ℕ) (u : Used) (σ : Store) (code : ℕ) (fs : List (List
           said = instr-said;
           last = sym (last-flag ∙ le-leb 21 (code - 11) (omega arith));
           starts = λ w. let z : _≡_ {A = ℕ} 0 1 = cc in absurd (omega arith);
+          listed = instr-listed;
         }
 
       pub line-good : (rows′ instrs′ blocks′ : List ℕ) (l : Line) → code < 34 → Stored code s u (σ .rows) (σ .instrs) (σ .blocks) rows′ instrs′ blocks′ l → LineIs line u σ (store rows′ parts′ operands′ numbers′ args′ instrs′ blocks′) l

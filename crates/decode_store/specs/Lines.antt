@@ -60,6 +60,14 @@ endsBlock (some (row r)) = false
 endsBlock (some (block c)) = false
 endsBlock (some (instr x)) = isLast x
 
+-- an instruction's operands are those behind the operands in use
+abbrev pub Listed : Used → Store → Line → Type 0
+Listed u σ NoForm = Unit
+Listed u σ Row = Unit
+Listed u σ Block = Unit
+Listed u σ (Instruction n) = cell 8 (σ .instrs) (u .instrs) 5 + cell 8 (σ .instrs) (u .instrs) 6 ≡ u .operands + n
+Listed u σ (Last n) = cell 8 (σ .instrs) (u .instrs) 5 + cell 8 (σ .instrs) (u .instrs) 6 ≡ u .operands + n
+
 -- l is what `line` says, in `after`; the entries that were in use before are kept. What is said stays as long as the entries in use do.
 pub record LineIs (line : List ℕ) (u : Used) (before after : Store) (l : Line) : Type 0 where
   pub kept : Same u after before
@@ -67,6 +75,7 @@ pub record LineIs (line : List ℕ) (u : Used) (before after : Store) (l : Line)
   pub said : (σ : Store) → Same (usedAfter u l) σ after → says u l σ ≡ entryOf (fieldsOf line)
   pub last : ends l ≡ endsBlock (entryOf (fieldsOf line))
   pub starts : l ≡ Block → cell 2 (after .blocks) (u .blocks) 1 ≡ u .instrs
+  pub listed : Listed u after l
 
 -- a line of no form
 abbrev pub noLine : LineRead

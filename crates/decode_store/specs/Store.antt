@@ -1,10 +1,10 @@
 -- The tables of a decoded text, and how much of them is in use.
-use Prim.Native.Nat.{ℕ, _*_, _≤_}
+use Prim.Native.Nat.{ℕ, _+_, _*_, _≤_}
 use mathlib.Core.Path.{_≡_}
 use mathlib.Core.List.{List}
 use lib.ListN.{length, take}
 use Rattle.tables.specs.Tables.{RowTable, OperandTable}
-use Rattle.decode_line.specs.Answers.{SameOperands}
+use Rattle.decode_line.specs.Answers.{OperandRoom, SameOperands}
 use Rattle.decode_store.specs.declared.Used.{Used}
 
 -- all tables of a decoded text
@@ -30,8 +30,16 @@ rowTable σ = record { rows = σ .rows; parts = σ .parts }
 abbrev pub operandsOf : Store → OperandTable
 operandsOf σ = record { operands = σ .operands; numbers = σ .numbers; args = σ .args }
 
--- Room for one row, one block and one instruction more than document 01 allows: a line is read before its place is looked at. Row r's
--- parts stand from 17 r on, and an instruction has at most 16 operands.
+-- Room for one line more behind what is in use. Row r's parts stand from 17 r on, and an instruction has at most 16 operands.
+pub record RoomFor (u : Used) (σ : Store) : Type 0 where
+  pub rows : 4 * (u .rows + 1) ≤ length (σ .rows)
+  pub parts : 17 * (u .rows + 1) ≤ length (σ .parts)
+  pub operands : OperandRoom (u .operands + 16) (length (σ .operands)) (length (σ .numbers)) (length (σ .args))
+  pub instrs : 8 * (u .instrs + 1) ≤ length (σ .instrs)
+  pub blocks : 2 * (u .blocks + 1) ≤ length (σ .blocks)
+
+-- Room for one row, one block and one instruction more than document 01 allows: a line is read before its place is looked at. So every
+-- text has room.
 pub record Room (σ : Store) : Type 0 where
   pub rows : 4 * 513 ≤ length (σ .rows)
   pub parts : 17 * 513 ≤ length (σ .parts)

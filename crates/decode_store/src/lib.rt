@@ -1,6 +1,6 @@
 // One line of a text into the tables: what its fields say is stored at the first places that are not in use.
 // Promises: behind the line the tables say what it says (`LineIs` of specs/Lines.antt), what was in use is kept, and the answer says where
-// a line of some form ends. Asked: that the line has an LF.
+// a line of some form ends. Asked: that the line has an LF, and room for one line more behind what is in use (`RoomFor`).
 ghost use mathlib.Core.Path.{_≡_};
 ghost use mathlib.Core.List.{[], _∷_};
 ghost use Prim.Native.Nat.{_+_, _*_, _≤_, _<_};
@@ -9,7 +9,7 @@ ghost use lib.Seq.{sets};
 ghost use Rattle.lines.specs.Parts.{lineIn, InLine, StopAt};
 ghost use Rattle.decode_line.specs.Fields.{fieldsFrom};
 ghost use Rattle.decode_line.specs.Answers.{operandTable, OperandRoom, AtEnd, FormIs};
-ghost use Rattle.decode_store.specs.Store.{store, Room, Few};
+ghost use Rattle.decode_store.specs.Store.{store, RoomFor, Few};
 ghost use Rattle.decode_store.specs.Lines.{noLine, LineIs, LineEnds, Stored};
 use decode_line::Said;
 
@@ -78,7 +78,7 @@ fn put_line(
     blocks: &mut [u16],
     u: Used,
 ) -> Line
-    requires { ⌜ (code < 34) × (2052 ≤ length (now rows)) × (8200 ≤ length (now instrs)) × (130 ≤ length (now blocks)) × Few u ⌝ }
+    requires { ⌜ (code < 34) × (4 * (u .rows + 1) ≤ length (now rows)) × (8 * (u .instrs + 1) ≤ length (now instrs)) × (2 * (u .blocks + 1) ≤ length (now blocks)) × Few u ⌝ }
     ensures { λ r. ⌜ Stored code s u (now (rows .entry)) (now (instrs .entry)) (now (blocks .entry)) (now (rows .exit)) (now (instrs .exit)) (now (blocks .exit)) r ⌝ }
 {
     if code < 10 {
@@ -107,7 +107,7 @@ fn read_rest(
     args: &mut [u16],
     u: Used,
 ) -> Said
-    requires { ⌜ (code < 34) × StopAt (now text) f × (17 * 513 ≤ length (now parts)) × OperandRoom 16400 (length (now operands)) (length (now numbers)) (length (now args)) × Few u ⌝ }
+    requires { ⌜ (code < 34) × StopAt (now text) f × (17 * (u .rows + 1) ≤ length (now parts)) × OperandRoom (u .operands + 16) (length (now operands)) (length (now numbers)) (length (now args)) × Few u ⌝ }
     ensures { λ r. ⌜ FormIs code (fieldsFrom (lineIn (now (text .entry))) (f + 1)) (17 * u .rows) (u .operands) (now (parts .entry)) (now (parts .exit)) (operandTable (now (operands .entry)) (now (numbers .entry)) (now (args .entry))) (operandTable (now (operands .exit)) (now (numbers .exit)) (now (args .exit))) r × AtEnd (now (text .entry)) (r .ok) (f + r .next) ⌝ }
 {
     let p = 17 * u.rows;
@@ -134,7 +134,7 @@ pub fn read_line(
     blocks: &mut [u16],
     u: Used,
 ) -> LineRead
-    requires { ⌜ Room (store (now rows) (now parts) (now operands) (now numbers) (now args) (now instrs) (now blocks)) × Few u × InLine (now text) 0 ⌝ }
+    requires { ⌜ RoomFor u (store (now rows) (now parts) (now operands) (now numbers) (now args) (now instrs) (now blocks)) × Few u × InLine (now text) 0 ⌝ }
     ensures { λ r. ⌜ LineIs (lineIn (now (text .entry))) u (store (now (rows .entry)) (now (parts .entry)) (now (operands .entry)) (now (numbers .entry)) (now (args .entry)) (now (instrs .entry)) (now (blocks .entry))) (store (now (rows .exit)) (now (parts .exit)) (now (operands .exit)) (now (numbers .exit)) (now (args .exit)) (now (instrs .exit)) (now (blocks .exit))) (r .line) × LineEnds (now (text .entry)) r ⌝ }
 {
     let f = lines::field_end(text, 0);

@@ -1,29 +1,29 @@
 -- Laws of code types filled by arguments.
-use mathlib.Core.Path.{_≡_, refl, ap, ap₂, sym, _∙_, fun-ext}
-use mathlib.Core.Bool.{Bool, true, false, _&&_, cond}
-use mathlib.Core.Option.{Option, none, some}
+use mathlib.Core.Path.{_≡_, refl, ap, ap₂, sym, _∙_, subst, fun-ext}
+use mathlib.Core.Bool.{Bool, true, false, _&&_}
 use mathlib.Core.List.{List, [], _∷_, map}
-use Prim.Native.Nat.{ℕ, zero, suc, _+_, _-_, _*_, _<_, _≤_}
+use Prim.Native.Nat.{ℕ, zero, suc, _+_, _-_, _<_, _≤_}
 use native.Mathlib.Omega.{arith}
 use native.Mathlib.Nat.{not-suc-le-zero}
-use lib.Dec.{eqb, leb, ltb}
+use lib.Dec.{leb, ltb}
 use lib.ListN.{length, getD, take}
 use borrow.Author.Tests.{le-leb, lt-leb, ltb-true}
+use types.Run.{OneOf, miss}
+use denote.Enum.Declared.{tagOf}
 use Rattle.syntax.specs.Partial.{when}
 use Rattle.syntax.specs.Syntax.{Kind, value, stack}
-use Rattle.types.specs.Types.{Ty, int, junk, var, tuple, pointer, code, items, variable, below, Act, walk, Arg, arg, ofKind, place, filling, fill, meets, filled}
+use Rattle.types.specs.Types.{Ty, int, junk, var, tuple, pointer, code, variable, below, Act, walk, Arg, place, filling, fill, meets, filled, aStack, Wf}
 use Rattle.types.specs.Equal.{same, sameLetters}
 use Rattle.types.specs.Rows.{typeAt, typesOf, allBelow}
 use Rattle.types.proofs.Equal.{and-inv}
 use Rattle.tables.specs.Tables.{RowTable, span, letterOf, lettersAt, rowsIn}
 use Rattle.rows.specs.declared.Val.{Val}
 use Rattle.rows.specs.declared.Val.the-variants.{Int, Junk, ValVar, ValFill, Tuple, Pointer, Code}
-use Rattle.rows.specs.Read.{lower, valueAt, partsOf, meanV, meanS, mean, placed, acting, valueUnder, stackUnder, partsUnder, codeOf, codeUnder, argOf, argsOf, placeV, OkV}
+use Rattle.rows.specs.Read.{lower, valueAt, partsOf, meanV, meanS, placed, acting, stackUnder, partsUnder, codeOf, argOf, argsOf, placeV, OkV}
+use Rattle.rows.proofs.Val.{the-type}
 use Rattle.rows.proofs.Laws.{noArg, typeV, value-read}
 use Rattle.rows.proofs.Bridge.{arg-at}
-use Rattle.equal.specs.declared.Pair.{Pair}
-use Rattle.equal.specs.declared.Pair.the-variants.{Same, Differ, Filled, Tuples, Pointers, Codes}
-use Rattle.equal.specs.Pairs.{pairOf, lettersFrom}
+use Rattle.equal.specs.Pairs.{lettersFrom}
 use Rattle.equal.specs.Fit.{Tabled, Spare, big, fitParts, sameStacks, isFull, fillsTo, fillCodes}
 use Rattle.pending.proofs.Meets.{and-false, and-true, and-swap, length-args}
 use Rattle.equal.proofs.Laws.{same-sym}
@@ -98,88 +98,54 @@ module _ (τ : RowTable) (args : List ℕ) (l r x p y q m a b : ℕ) (u : m ≡ 
       rw (codes-fill, le-leb m a h, ← i, j)
       (sym (and-swap (same (stackUnder τ A 0 (a - m) x) (stackUnder τ [] 0 b y)) (same (partsUnder τ A 0 (a - m) true l p 8) (partsUnder τ [] 0 b true r q 8)) (meets A (a - m) (meanS τ x)) (meets A (a - m) (partsOf (meanV τ) (τ .parts) true l p 8))))
 
--- ---- two rows of any form
-module _ (τ : RowTable) (A : List Arg) (l r : ℕ) where
-  abbrev onFill : Pair → Bool
-  onFill Same = false
-  onFill Differ = false
-  onFill (Filled j) = false
-  onFill (Tuples p q n) = false
-  onFill (Pointers x y) = false
-  onFill (Codes x p y q) = fillsTo A (codeOf τ l x p) (codeOf τ r y q)
-
-  fill-same : (b : Bool) → false ≡ onFill (cond b Same Differ)
-  fill-same true = refl
-  fill-same false = refl
-
-  fill-long : (b : Bool) (p q n : ℕ) → false ≡ onFill (cond b (Tuples p q n) Differ)
-  fill-long true p q n = refl
-  fill-long false p q n = refl
+-- ---- rows that are no code rows
+module _ (τ : RowTable) (A : List Arg) where
+  other-left : (l : ℕ) (u : Ty value) (n : Val) → OkV 0 l n → OneOf (0 ∷ 1 ∷ 2 ∷ 3 ∷ 4 ∷ 5 ∷ []) (tagOf the-type n) → false ≡ fillsTo A (typeV τ [] 0 0 l n) u
+  unfolding fillsTo
+  other-left l u Int o k = refl
+  other-left l u Junk o k = refl
+  other-left l u (ValVar i) o k = refl
+  other-left l u (ValFill h) o k = absurd (not-suc-le-zero o)
+  other-left l u (Tuple p c) o k = refl
+  other-left l u (Pointer x) o k = refl
+  other-left l u (Code x p) o k = absurd (miss (0 ∷ 1 ∷ 2 ∷ 3 ∷ 4 ∷ 5 ∷ []) 6 tt k)
 
   -- a code type is no other type
-  code-not : (q : List Kind) (a s : Ty stack) (u : Ty value) → ((k : List Kind) (b c : Ty stack) → same (code k b c) u ≡ false) → fillsTo A (code q a s) u ≡ false
+  code-not : (q : List Kind) (a s : Ty stack) (u : Ty value) → ((k : List Kind) (b c : Ty stack) → same (code k b c) u ≡ false) → false ≡ fillsTo A (code q a s) u
   unfolding fillsTo filled
   code-not q a s u h =
       let k : List Kind = take (length q - length A) q in
-      ap (λ z. leb (length A) (length q) && z) (full-is u (code k (fill (length k) A a) (fill (length k) A s)) (meets A (length k) a && meets A (length k) s) ∙ ap (λ z. z && (meets A (length k) a && meets A (length k) s)) (h k (fill (length k) A a) (fill (length k) A s)))
-      ∙ and-false (leb (length A) (length q))
+      sym (ap (λ z. leb (length A) (length q) && z) (full-is u (code k (fill (length k) A a) (fill (length k) A s)) (meets A (length k) a && meets A (length k) s) ∙ ap (λ z. z && (meets A (length k) a && meets A (length k) s)) (h k (fill (length k) A a) (fill (length k) A s)))
+      ∙ and-false (leb (length A) (length q)))
 
-  row-not : (x p : ℕ) (u : Ty value) → ((k : List Kind) (b c : Ty stack) → same (code k b c) u ≡ false) → fillsTo A (codeUnder τ [] 0 0 l x p) u ≡ false
+  other-right : (q : List Kind) (a s : Ty stack) (r : ℕ) (w : Val) → OkV 0 r w → OneOf (0 ∷ 1 ∷ 2 ∷ 3 ∷ 4 ∷ 5 ∷ []) (tagOf the-type w) → false ≡ fillsTo A (code q a s) (typeV τ [] 0 0 r w)
+  unfolding same
+  other-right q a s r Int o k = code-not q a s int (λ k b c. refl)
+  other-right q a s r Junk o k = code-not q a s junk (λ k b c. refl)
+  other-right q a s r (ValVar i) o k = code-not q a s (var i) (λ k b c. refl)
+  other-right q a s r (ValFill h) o k = absurd (not-suc-le-zero o)
+  other-right q a s r (Tuple p c) o k = code-not q a s (tuple (partsUnder τ [] 0 0 false r p c)) (λ k b c. refl)
+  other-right q a s r (Pointer x) o k = code-not q a s (pointer (stackUnder τ [] 0 0 x)) (λ k b c. refl)
+  other-right q a s r (Code x p) o k = absurd (miss (0 ∷ 1 ∷ 2 ∷ 3 ∷ 4 ∷ 5 ∷ []) 6 tt k)
+
+-- ---- the form n of row l
+module _ (τ : RowTable) (l : ℕ) {n : Val} (e : n ≡ valueAt (τ .rows) (placeV 0 0 0) l) where
+  form : meanV τ l ≡ typeV τ [] 0 0 l n
+  form = sym (plain-value τ 0 l) ∙ value-read τ [] 0 0 0 l refl e
+
+  pub code-form : {x p : ℕ} → n ≡ Code x p → meanV τ l ≡ codeOf τ l x p
+  code-form {x} {p} h = form ∙ ap (typeV τ [] 0 0 l) h ∙ plain-code τ 0 l x p
+
+  pub fill-left : (A : List Arg) (u : Ty value) → OkV 0 l n → OneOf (0 ∷ 1 ∷ 2 ∷ 3 ∷ 4 ∷ 5 ∷ []) (tagOf the-type n) → false ≡ fillsTo A (meanV τ l) u
+  fill-left A u o k = other-left τ A l u n o k ∙ ap (λ z. fillsTo A z u) (sym form)
+
+  pub fill-right : (A : List Arg) (h x p : ℕ) {t : Ty value} → t ≡ codeOf τ h x p → OkV 0 l n → OneOf (0 ∷ 1 ∷ 2 ∷ 3 ∷ 4 ∷ 5 ∷ []) (tagOf the-type n) → false ≡ fillsTo A t (meanV τ l)
   unfolding codeOf
-  row-not x p u h = ap (λ z. fillsTo A z u) (plain-code τ 0 l x p) ∙ code-not (lettersAt (τ .parts) p) (meanS τ x) (partsOf (meanV τ) (τ .parts) true l p 8) u h
+  fill-right A h x p f o k = other-right τ A (lettersAt (τ .parts) p) (meanS τ x) (partsOf (meanV τ) (τ .parts) true h p 8) l n o k ∙ ap₂ (fillsTo A) (sym f) (sym form)
 
-  fill-pair : (n w : Val) → OkV 0 l n → OkV 0 r w → fillsTo A (typeV τ [] 0 0 l n) (typeV τ [] 0 0 r w) ≡ onFill (pairOf n w)
-  unfolding fillsTo same
-  fill-pair Int Int f g = refl
-  fill-pair Int Junk f g = refl
-  fill-pair Int (ValVar i) f g = refl
-  fill-pair Int (ValFill h) f g = absurd (not-suc-le-zero g)
-  fill-pair Int (Tuple q o) f g = refl
-  fill-pair Int (Pointer y) f g = refl
-  fill-pair Int (Code y q) f g = refl
-  fill-pair Junk Int f g = refl
-  fill-pair Junk Junk f g = refl
-  fill-pair Junk (ValVar i) f g = refl
-  fill-pair Junk (ValFill h) f g = absurd (not-suc-le-zero g)
-  fill-pair Junk (Tuple q o) f g = refl
-  fill-pair Junk (Pointer y) f g = refl
-  fill-pair Junk (Code y q) f g = refl
-  fill-pair (ValVar k) Int f g = refl
-  fill-pair (ValVar k) Junk f g = refl
-  fill-pair (ValVar k) (ValVar i) f g = fill-same (eqb k i)
-  fill-pair (ValVar k) (ValFill h) f g = absurd (not-suc-le-zero g)
-  fill-pair (ValVar k) (Tuple q o) f g = refl
-  fill-pair (ValVar k) (Pointer y) f g = refl
-  fill-pair (ValVar k) (Code y q) f g = refl
-  fill-pair (ValFill j) w f g = absurd (not-suc-le-zero f)
-  fill-pair (Tuple p n) Int f g = refl
-  fill-pair (Tuple p n) Junk f g = refl
-  fill-pair (Tuple p n) (ValVar i) f g = refl
-  fill-pair (Tuple p n) (ValFill h) f g = absurd (not-suc-le-zero g)
-  fill-pair (Tuple p n) (Tuple q o) f g = fill-long (eqb n o) p q n
-  fill-pair (Tuple p n) (Pointer y) f g = refl
-  fill-pair (Tuple p n) (Code y q) f g = refl
-  fill-pair (Pointer x) Int f g = refl
-  fill-pair (Pointer x) Junk f g = refl
-  fill-pair (Pointer x) (ValVar i) f g = refl
-  fill-pair (Pointer x) (ValFill h) f g = absurd (not-suc-le-zero g)
-  fill-pair (Pointer x) (Tuple q o) f g = refl
-  fill-pair (Pointer x) (Pointer y) f g = refl
-  fill-pair (Pointer x) (Code y q) f g = refl
-  fill-pair (Code x p) Int f g = row-not x p int (λ k b c. refl)
-  fill-pair (Code x p) Junk f g = row-not x p junk (λ k b c. refl)
-  fill-pair (Code x p) (ValVar i) f g = row-not x p (var i) (λ k b c. refl)
-  fill-pair (Code x p) (ValFill h) f g = absurd (not-suc-le-zero g)
-  fill-pair (Code x p) (Tuple q o) f g = row-not x p (tuple (partsUnder τ [] 0 0 false r q o)) (λ k b c. refl)
-  fill-pair (Code x p) (Pointer y) f g = row-not x p (pointer (stackUnder τ [] 0 0 y)) (λ k b c. refl)
-  fill-pair (Code x p) (Code y q) f g = ap₂ (fillsTo A) (plain-code τ 0 l x p) (plain-code τ 0 r y q)
-
-  -- what a pair of forms says of the rows
-  pub fill-by : (n w : Val) {p q : Pair} → n ≡ valueAt (τ .rows) (placeV 0 0 0) l → w ≡ valueAt (τ .rows) (placeV 0 0 0) r → OkV 0 l n → OkV 0 r w → p ≡ pairOf n w → p ≡ q → onFill q ≡ fillsTo A (meanV τ l) (meanV τ r)
-  fill-by n w {p} {q} e f a b g h =
-      let vl : typeV τ [] 0 0 l n ≡ meanV τ l = sym (value-read τ [] 0 0 0 l refl e) ∙ plain-value τ 0 l in
-      let vr : typeV τ [] 0 0 r w ≡ meanV τ r = sym (value-read τ [] 0 0 0 r refl f) ∙ plain-value τ 0 r in
-      ap onFill (sym h ∙ g) ∙ sym (fill-pair n w a b) ∙ ap₂ (fillsTo A) vl vr
+-- what a code row names
+pub code-low : (l : ℕ) {n : Val} {x p : ℕ} → n ≡ Code x p → OkV 0 l n → (x < l) × (p ≤ 65535)
+code-low l e o = rw e at o
 
 -- ---- the rows args of n rows
 span-cons : (x : ℕ) (l : List ℕ) (i n : ℕ) → span (x ∷ l) (suc i) n ≡ span l i n
@@ -224,6 +190,11 @@ module _ (τ : RowTable) (n : ℕ) where
       → o ≡ fillsTo (map (λ (x : ℕ). getD (typesOf (rowsIn τ n)) x noArg) args) (typeAt value (typesOf (rowsIn τ n)) c) (typeAt value (typesOf (rowsIn τ n)) t)
   fill-types args l r c t e f g h = h ∙ rw (args-are args e, link-type τ args n value l c f, link-type τ args n value r t g) refl
 
-pub codes-of : (τ : RowTable) (args : List ℕ) (l r x p y q : ℕ) {o : Bool} → o ≡ fillCodes τ args l x p r y q → o ≡ fillsTo (argsOf τ args (length args)) (codeOf τ l x p) (codeOf τ r y q)
+-- two code rows by their parts
+pub codes-of : (τ : RowTable) (args : List ℕ) (l r x p y q : ℕ) {o : Bool} {t u : Ty value} → t ≡ codeOf τ l x p → u ≡ codeOf τ r y q → o ≡ fillCodes τ args l x p r y q → o ≡ fillsTo (argsOf τ args (length args)) t u
 unfolding fillCodes
-codes-of τ args l r x p y q h = h
+codes-of τ args l r x p y q f g h = h ∙ ap₂ (fillsTo (argsOf τ args (length args))) (sym f) (sym g)
+
+-- a closed row that is a code row
+pub closed-code : (τ : RowTable) (args : List ℕ) (n c l x p : ℕ) {b : Bool} → l ≡ lower (n + 1) c → meanV τ l ≡ codeOf τ l x p → (b ≡ true → Wf [] aStack (typeAt value (typesOf (rowsIn τ n)) c)) → b ≡ true → Wf [] aStack (codeOf τ l x p)
+closed-code τ args n c l x p e f h t = subst (λ (z : Ty value). Wf [] aStack z) (link-type τ args n value l c e ∙ f) (h t)

@@ -10,16 +10,19 @@ use lib.ListN.{length, getD, set, take, drop, length-drop, List·getD-append}
 use lib.Seq.{getD-set-same, getD-take, length-take-le}
 use borrow.Rule.Slice.PartMut.{putMid, postOf}
 use Rattle.syntax.specs.Syntax.{Kind, value, stack}
-use Rattle.types.specs.Types.{Ty, nil, push, svar, gap, join, Arg, meets}
+use Rattle.types.specs.Types.{Ty, nil, push, svar, gap, join, raise, Arg, ofKind, meets}
 use Rattle.types.specs.Equal.{same}
 use Rattle.types.proofs.Equal.{same-refl}
 use Rattle.types.proofs.Filling.{join-nil}
 use Rattle.tables.specs.Tables.{RowTable}
-use Rattle.rows.specs.Read.{meanV, meanS, valueUnder, stackUnder, argsOf}
+use Rattle.rows.specs.declared.Stk.{Stk}
+use Rattle.rows.specs.declared.Stk.the-variants.{StkFill}
+use Rattle.rows.specs.Read.{stackAt, isStackAt, meanV, meanS, valueUnder, stackUnder, argsOf, placeS, OkS}
+use Rattle.rows.proofs.Laws.{noArg, ok-form, stack-read}
 use Rattle.pending.specs.declared.Next.{Next}
 use Rattle.pending.specs.declared.Next.the-variants.{End, OwnNext, GivenNext, VarNext, Wrong}
 use Rattle.pending.specs.Pending.{entryType, pendingType, entryMeets, pendingMeets, Low, Pends, mass, Rest, NextIs}
-use Rattle.pending.proofs.Meets.{and-false, and-true, and-swap, no-args, meets-none}
+use Rattle.pending.proofs.Meets.{and-false, and-true, and-swap, raised, no-args, meets-none, length-args, arg-type, fits-stack, stack-meets}
 use Rattle.pending.proofs.Entries.{own-type, own-meets}
 use Rattle.pending.proofs.Lists.{Agree, mass-agree, pends-agree, type-agree, meets-agree}
 use Rattle.equal.specs.declared.Duo.{Duo}
@@ -33,6 +36,19 @@ unfolding sameStacks
 s-place τ args m by d l by₂ d₂ r f t =
     let s = f t in
     rw (no-args τ args m (s .no-args), s .row, s .lift, s .depth, meets-none d₂ (meanS τ r), same-refl (stackUnder τ [] by₂ d₂ r)) refl
+
+-- a variable that argument j fills, against the argument's own row
+pub s-given : (τ : RowTable) (args : List ℕ) (m by d l by₂ d₂ r j a : ℕ) {n : Stk} {b o : Bool} → n ≡ stackAt (τ .rows) (placeS m by d) l → OkS m l n → n ≡ StkFill j → a ≡ getD args j 0 → b ≡ isStackAt (τ .rows) a → b ≡ true
+    → (o ≡ true → AtSame 0 d 0 (a + 1) by₂ d₂ r) → o ≡ true → true ≡ sameStacks τ (argsOf τ args m) by d l by₂ d₂ r
+unfolding sameStacks stackUnder
+s-given τ args m by d l by₂ d₂ r j a e k g i p q f t =
+    let s = f t in
+    let h : j < m = ok-form m l k g in
+    let z : suc a ≡ r = let w = s .row in omega arith in
+    let v : stackUnder τ (argsOf τ args m) by d l ≡ raise d (ofKind stack (getD (argsOf τ args m) j noArg)) = stack-read τ (argsOf τ args m) by d m l (length-args τ args m) e g in
+    let w : meets (argsOf τ args m) d (meanS τ l) ≡ true = stack-meets τ (argsOf τ args m) by d m l (length-args τ args m) e g ∙ fits-stack τ args m j a h i p ∙ q in
+    let y : raise d (ofKind stack (getD (argsOf τ args m) j noArg)) ≡ stackUnder τ [] by₂ d₂ r = ap (raise d) (arg-type τ args m j a h i stack) ∙ sym (raised d (meanS τ (suc a))) ∙ rw (s .lift, s .depth, z) refl in
+    sym (ap₂ _&&_ (ap (λ x. same x (stackUnder τ [] by₂ d₂ r)) (v ∙ y) ∙ same-refl (stackUnder τ [] by₂ d₂ r)) w)
 
 -- ---- the next items
 module _ (τ : RowTable) (A : List Arg) (m by d by₂ d₂ : ℕ) (ls : List ℕ) (i : ℕ) (rs : List ℕ) (j : ℕ) (ls₂ rs₂ : List ℕ) where

@@ -9,7 +9,7 @@ use lib.ListN.{length, getD, take}
 use Rattle.syntax.specs.Syntax.{Kind, value, stack}
 use Rattle.types.specs.Types.{Ty, int, junk, var, tuple, pointer, code, Arg, meets, filled}
 use Rattle.types.specs.Equal.{same, sameLetters}
-use Rattle.tables.specs.Tables.{RowTable}
+use Rattle.tables.specs.Tables.{RowTable, cell}
 use Rattle.rows.specs.Read.{partsOf, meanV, meanS, valueUnder, stackUnder, partsUnder, codeOf, codeUnder, argsOf}
 use Rattle.pending.specs.Pending.{pendingType, pendingMeets, Pends, room, Rest}
 use Rattle.equal.specs.declared.Duo.{Duo}
@@ -100,3 +100,18 @@ fillsTo A (code l a r) u = leb (length A) (length l) && isFull u (filled A (take
 -- the same of two code rows by their parts
 unfoldable pub fillCodes : RowTable → List ℕ → ℕ → ℕ → ℕ → ℕ → ℕ → ℕ → Bool
 fillCodes τ args l x p r y q = fillsTo (argsOf τ args (length args)) (codeOf τ l x p) (codeOf τ r y q)
+
+-- ---- arguments that leave what they fill as it is
+-- the kind of a row that is a variable of letter x
+unfoldable pub variableKind : ℕ → ℕ
+variableKind zero = 2
+variableKind (suc x) = 7
+
+-- row a is variable j, of letter x
+pub record Itself (rows : List ℕ) (x a j : ℕ) : Type 0 where
+  pub kind : cell 4 rows a 0 ≡ variableKind x
+  pub number : cell 4 rows a 1 ≡ j
+
+-- each of the first m rows of args is the variable of its place, of its letter at p
+abbrev pub Themselves : List ℕ → List ℕ → ℕ → List ℕ → ℕ → Type 0
+Themselves rows ps p args m = (j : ℕ) → j < m → Itself rows (getD ps (p + j) 0) (getD args j 0) j

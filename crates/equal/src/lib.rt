@@ -1,11 +1,13 @@
 // Equality of the types that rows stand for (crate rows). A stack is compared as its list of items, so that two rows of different
 // shape can be equal: both lists are read from the top, each row once (crate pending). The left row stands in a context: some of its
 // variables are filled by argument rows, the others are raised. The right row is only raised. Value rows and stack rows are compared by
-// rules that call each other; the row number falls.
+// rules that call each other; the row number falls. Some rows are seen at once to be equal: the same row in the same context, and the
+// stack of a closed code type under arguments that are the variables they fill, as where a block jumps on with its own variables.
 // Promised: the test `same` of crate types of the two types, and, for `filled`, that no argument is of the wrong kind where it fills.
 // Asked: that there are at most 514 rows, which bounds what is pending. Row numbers are links, as in crate rows.
 use pending::Next;
 use rows::Slot;
+use rows::Stk;
 use rows::Val;
 ghost use mathlib.Core.Path.{_≡_};
 ghost use mathlib.Core.Bool.{true, false, cond};
@@ -13,17 +15,17 @@ ghost use mathlib.Core.List.{List, [], _∷_, map};
 ghost use Prim.Native.Nat.{ℕ, suc, _+_, _-_, _*_, _≤_, _<_};
 ghost use lib.Dec.{eqb};
 ghost use lib.ListN.{length, getD};
-ghost use Rattle.types.specs.Types.{junk, arg};
+ghost use Rattle.types.specs.Types.{junk, arg, aStack, Wf};
 ghost use Rattle.syntax.specs.Syntax.{value, stack};
 ghost use Rattle.types.specs.Equal.{same, sameLetters};
 ghost use Rattle.types.specs.Rows.{typeAt, typesOf, allBelow};
-ghost use Rattle.tables.specs.Tables.{letterOf, rowsIn};
-ghost use Rattle.rows.specs.Read.{tab, lower, argsOf};
+ghost use Rattle.tables.specs.Tables.{letterOf, lettersAt, rowsIn};
+ghost use Rattle.rows.specs.Read.{tab, lower, meanS, codeOf, argsOf};
 ghost use Rattle.pending.specs.Pending.{room, Pends, Givens};
 ghost use Rattle.equal.specs.declared.Pair.the-variants.{Same, Differ, Tuples};
 ghost use Rattle.equal.specs.declared.Duo.the-variants.{Unlike, Onward};
 ghost use Rattle.equal.specs.Pairs.{pairInt, pairJunk, pairValVar, pairTuple, pairPointer, pairCode, pairOf, gapWith, rowWith, slotsOf, endWith, ownWith, givenWith, varWith, duoOf, lettersFrom};
-ghost use Rattle.equal.specs.Fit.{Room, Spare, Tabled, AtSame, fitValues, fitCodes, fitParts, sameStacks, DuoIs, big, fillsTo, fillCodes};
+ghost use Rattle.equal.specs.Fit.{Room, Spare, Tabled, AtSame, fitValues, fitCodes, fitParts, sameStacks, DuoIs, big, fillsTo, fillCodes, variableKind, Itself, Themselves};
 
 // What is left to compare of two value rows.
 pub enum Pair {
@@ -512,6 +514,32 @@ fn eq_parts(
     true
 }
 
+// Stack rows l and r are seen at once to be equal: the same row in the same context, also where l is a variable that an argument fills.
+fn same_stack(
+    rows: &[u16],
+    args: &[u16],
+    m: usize,
+    by: usize,
+    d: usize,
+    l: usize,
+    by2: usize,
+    d2: usize,
+    r: usize,
+) -> bool
+    requires { ⌜ (l ≤ 65536) × (by + d ≤ 1099511627776) ⌝ }
+    ensures { λ out. ⌜ (out ≡ true → (ps : List ℕ) → true ≡ sameStacks (tab (now (rows .entry)) ps) (argsOf (tab (now (rows .entry)) ps) (now (args .entry)) m) by d l by2 d2 r) ⌝ }
+{
+    let s = rows::read_stack(rows, l, m, by, d);
+    let Stk::StkFill(j) = s else {
+        return same_place(m, by, d, l, by2, d2, r);
+    };
+    let a = rows::at(args, j);
+    if rows::is_stack(rows, a) {
+        return same_place(0, d, 0, a + 1, by2, d2, r);
+    }
+    false
+}
+
 // Stack row l in its context equals stack row r. The rows still to be read stand in `left` and `right`.
 fn eq_stack(
     rows: &[u16],
@@ -530,7 +558,7 @@ fn eq_stack(
     requires { ⌜ Tabled (tab (now rows) (now parts)) (now args) m l r × Room m by d l × Room 0 by2 d2 r × Spare m l r (length (now left)) (length (now right)) ⌝ }
     ensures { λ out. ⌜ out ≡ sameStacks (tab (now (rows .entry)) (now (parts .entry))) (argsOf (tab (now (rows .entry)) (now (parts .entry))) (now (args .entry)) m) by d l by2 d2 r ⌝ }
 {
-    if same_place(m, by, d, l, by2, d2, r) {
+    if same_stack(rows, args, m, by, d, l, by2, d2, r) {
         return true;
     }
     left[0] = l;
@@ -658,11 +686,96 @@ pub fn equal_stacks(rows: &[u16], parts: &[u16], n: usize, l: usize, r: usize) -
     )
 }
 
+// The kind of a row that is a variable of letter x.
+fn variable_kind(x: usize) -> usize
+    ensures { λ out. ⌜ out ≡ variableKind x ⌝ }
+{
+    if x == 0 {
+        return 2;
+    }
+    7
+}
+
+// Row a is variable j, of letter x.
+fn is_itself(rows: &[u16], x: usize, a: usize, j: usize) -> bool
+    requires { ⌜ a ≤ 65535 ⌝ }
+    ensures { λ out. ⌜ (out ≡ true → Itself (now (rows .entry)) x a j) ⌝ }
+{
+    let k = rows::entry(rows, a, 0);
+    if k != variable_kind(x) {
+        return false;
+    }
+    rows::entry(rows, a, 1) == j
+}
+
+// Each of the rows args is the variable of its place, of its letter at p.
+fn all_themselves(rows: &[u16], parts: &[u16], p: usize, args: &[u16]) -> bool
+    requires { ⌜ (p ≤ 262144) × (length (now args) ≤ 65535) ⌝ }
+    ensures { λ out. ⌜ (out ≡ true → Themselves (now (rows .entry)) (now (parts .entry)) p (now (args .entry)) (length (now (args .entry)))) ⌝ }
+{
+    let mut j = 0;
+    while j < args.len() {
+        if !is_itself(rows, rows::at(parts, p + j), rows::at(args, j), j) {
+            return false;
+        }
+        j += 1;
+    }
+    true
+}
+
+// Stack x of a closed code type, whose a letters stand behind its registers at p, is stack y, and args leave it as it is.
+fn is_kept(
+    rows: &[u16],
+    parts: &[u16],
+    args: &[u16],
+    closed: bool,
+    a: usize,
+    x: usize,
+    p: usize,
+    y: usize,
+) -> bool
+    requires { ⌜ (p ≤ 65535) × (a ≤ 65535) × (a ≡ getD (now parts) (p + 8) 0) × (length (now args) ≤ a) × (closed ≡ true → Wf (lettersAt (now parts) p) aStack (meanS (tab (now rows) (now parts)) x)) ⌝ }
+    ensures { λ out. ⌜ (out ≡ true → (b : ℕ) → true ≡ sameStacks (tab (now (rows .entry)) (now (parts .entry))) (argsOf (tab (now (rows .entry)) (now (parts .entry))) (now (args .entry)) (length (now (args .entry)))) 0 (a - length (now (args .entry))) x 0 b y) ⌝ }
+{
+    if !closed {
+        return false;
+    }
+    if x != y {
+        return false;
+    }
+    all_themselves(rows, parts, p + 9 + (a - args.len()), args)
+}
+
+// Stack x of a code type, with a letters behind its registers at p, filled by args is stack y under b letters.
+fn eq_filled(
+    rows: &[u16],
+    parts: &[u16],
+    args: &[u16],
+    closed: bool,
+    a: usize,
+    x: usize,
+    p: usize,
+    b: usize,
+    y: usize,
+    left: &mut [usize],
+    right: &mut [usize],
+) -> bool
+    requires { ⌜ Tabled (tab (now rows) (now parts)) (now args) (length (now args)) x y × (p ≤ 65535) × (a ≤ 65535) × (b ≤ 65535) × (a ≡ getD (now parts) (p + 8) 0) × (length (now args) ≤ a) × Spare (length (now args)) x y (length (now left)) (length (now right)) × (closed ≡ true → Wf (lettersAt (now parts) p) aStack (meanS (tab (now rows) (now parts)) x)) ⌝ }
+    ensures { λ out. ⌜ out ≡ sameStacks (tab (now (rows .entry)) (now (parts .entry))) (argsOf (tab (now (rows .entry)) (now (parts .entry))) (now (args .entry)) (length (now (args .entry)))) 0 (a - length (now (args .entry))) x 0 b y ⌝ }
+{
+    if is_kept(rows, parts, args, closed, a, x, p, y) {
+        return true;
+    }
+    let m = args.len();
+    eq_stack(rows, parts, args, m, 0, a - m, x, 0, b, y, left, right)
+}
+
 // The code type of row l with the stack x and its registers at p, filled by args, is that of row r with y and q.
 fn fill_code(
     rows: &[u16],
     parts: &[u16],
     args: &[u16],
+    closed: bool,
     l: usize,
     r: usize,
     x: usize,
@@ -672,7 +785,7 @@ fn fill_code(
     left: &mut [usize],
     right: &mut [usize],
 ) -> bool
-    requires { ⌜ Tabled (tab (now rows) (now parts)) (now args) (length (now args)) l r × (x < l) × (p ≤ 65535) × (y < r) × (q ≤ 65535) × Spare (length (now args)) l r (length (now left)) (length (now right)) ⌝ }
+    requires { ⌜ Tabled (tab (now rows) (now parts)) (now args) (length (now args)) l r × (x < l) × (p ≤ 65535) × (y < r) × (q ≤ 65535) × Spare (length (now args)) l r (length (now left)) (length (now right)) × (closed ≡ true → Wf [] aStack (codeOf (tab (now rows) (now parts)) l x p)) ⌝ }
     ensures { λ out. ⌜ out ≡ fillCodes (tab (now (rows .entry)) (now (parts .entry))) (now (args .entry)) l x p r y q ⌝ }
 {
     let m = args.len();
@@ -682,7 +795,7 @@ fn fill_code(
         return false;
     }
     if same_letters(parts, p + 9, a - m, q + 9, b) {
-        if eq_stack(rows, parts, args, m, 0, a - m, x, 0, b, y, left, right) {
+        if eq_filled(rows, parts, args, closed, a, x, p, b, y, left, right) {
             return eq_parts(
                 rows,
                 parts,
@@ -709,35 +822,43 @@ fn fill_code(
 
 // The code type of row c, of n rows, its first variables filled by the rows args (in the order of their variables), is the type of row t.
 // False if c is no code row, if there are more arguments than letters, or if an argument of the wrong kind would fill a variable.
-pub fn filled(rows: &[u16], parts: &[u16], n: usize, c: usize, args: &[u16], t: usize) -> bool
-    requires { ⌜ (n ≤ 514) × (allBelow n (now args) ≡ true) ⌝ }
+// `closed`: row c is known to have no free variable.
+pub fn filled(
+    rows: &[u16],
+    parts: &[u16],
+    n: usize,
+    c: usize,
+    closed: bool,
+    args: &[u16],
+    t: usize,
+) -> bool
+    requires { ⌜ (n ≤ 514) × (allBelow n (now args) ≡ true) × (closed ≡ true → Wf [] aStack (typeAt value (typesOf (rowsIn (tab (now rows) (now parts)) n)) c)) ⌝ }
     ensures { λ out. ⌜ out ≡ fillsTo (map (λ (x : ℕ). getD (typesOf (rowsIn (tab (now (rows .entry)) (now (parts .entry))) n)) x (arg value junk)) (now (args .entry))) (typeAt value (typesOf (rowsIn (tab (now (rows .entry)) (now (parts .entry))) n)) c) (typeAt value (typesOf (rowsIn (tab (now (rows .entry)) (now (parts .entry))) n)) t) ⌝ }
 {
-    let mut left = [0usize; 1030];
-    let mut right = [0usize; 516];
     let l = link_of(n, c);
     let r = link_of(n, t);
     let v = rows::read_value(rows, l, 0, 0, 0);
     let w = rows::read_value(rows, r, 0, 0, 0);
-    let p = pair_up(v, w);
-    match p {
-        Pair::Same => false,
-        Pair::Differ => false,
-        Pair::Filled(_) => false,
-        Pair::Tuples(_, _, _) => false,
-        Pair::Pointers(_, _) => false,
-        Pair::Codes(x, a, y, b) => fill_code(
-            rows,
-            parts,
-            args,
-            l,
-            r,
-            x,
-            a,
-            y,
-            b,
-            &mut left,
-            &mut right,
-        ),
-    }
+    let Val::Code(x, p) = v else {
+        return false;
+    };
+    let Val::Code(y, q) = w else {
+        return false;
+    };
+    let mut left = [0usize; 1030];
+    let mut right = [0usize; 516];
+    fill_code(
+        rows,
+        parts,
+        args,
+        closed,
+        l,
+        r,
+        x,
+        p,
+        y,
+        q,
+        &mut left,
+        &mut right,
+    )
 }

@@ -1,7 +1,7 @@
 -- A start and a continuation, from what loading the text answers.
 use Prim.Native.Nat.{ℕ}
 use mathlib.Core.Path.{_≡_, refl, ap, sym, _∙_}
-use mathlib.Core.Bool.{false}
+use mathlib.Core.Bool.{Bool, true, false, not, true≢false}
 use mathlib.Core.Option.{Option, none, some}
 use mathlib.Core.List.{List, []}
 use lib.Dec.{eqb}
@@ -15,6 +15,17 @@ use Rattle.machine.specs.Step.{tables}
 use Rattle.machine.specs.Represents.{Represents}
 use Rattle.ready.specs.declared.Ready.{Ready}
 use Rattle.ready.specs.Ready.{ReadyIs}
+use Rattle.decode.proofs.AnswerLaws.{failed}
+use Rattle.execute.specs.Tries.{Tries}
+
+-- ---- attempts
+pub tried : {R : Type 0} (got asked : Outcome) (after before : State) → got ≡ asked → (R → true ≡ true) × Tries true got asked after before
+tried got asked after before e = (λ r. refl, record { done = λ w. e; kept = λ w. absurd (true≢false w) })
+
+pub unfit : {R : Type 0} (got asked : Outcome) (before : State) (b : Bool) → (R → b ≡ true) → not b ≡ true → (R → false ≡ true) × Tries false got asked before before
+unfit got asked before b h e = (λ r. absurd (failed b h e r), record { done = λ w. absurd (true≢false (sym w)); kept = λ w. refl })
+
+-- ---- one attempt
 
 module _ (text ι os ns β : List ℕ) (r : Ready) (d : ReadyIs text ι os ns β r) (m : ℕ) (σ : State) where
   refusal-is : (r .fault ≡ 0 → ⊥) → barred text ≡ some (record { number = r .fault; line = r .line; items = [] })

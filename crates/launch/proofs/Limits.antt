@@ -28,7 +28,11 @@ module _ (rk rn sk sn hk hn : List ℕ) (p : Place) where
   abbrev σ : State
   σ = stateOf rk rn sk sn hk hn p
 
-  enough : longEnough σ ≡ true → (8 ≤ length rk) × (8 ≤ length rn) × (256 ≤ length sk) × (256 ≤ length sn)
+  -- words as many as the limits
+  abbrev pub Enough : Type 0
+  Enough = (8 ≤ length rk) × (8 ≤ length rn) × (256 ≤ length sk) × (256 ≤ length sn) × (2048 ≤ length hk) × (2048 ≤ length hn)
+
+  enough : longEnough σ ≡ true → Enough
   unfolding longEnough
   enough e =
       let a : Bool = leb 8 (min (length rk) (length rn)) in
@@ -37,10 +41,11 @@ module _ (rk rn sk sn hk hn : List ℕ) (p : Place) where
       let f : a && b ≡ true = first-of (a && b) c e in
       let r : 8 ≤ min (length rk) (length rn) = leb-true 8 (min (length rk) (length rn)) (first-of a b f) in
       let s : 256 ≤ min (length sk) (length sn) = leb-true 256 (min (length sk) (length sn)) (rest-of a b f) in
-      (omega arith, omega arith, omega arith, omega arith)
+      let h : 2048 ≤ min (length hk) (length hn) = leb-true 2048 (min (length hk) (length hn)) (rest-of (a && b) c e) in
+      (omega arith, omega arith, omega arith, omega arith, omega arith, omega arith)
 
   -- what `long_enough` answers
-  pub starts-enough : (t : Bool) → t ≡ longEnough σ → not t ≡ false → (8 ≤ length rk) × (8 ≤ length rn) × (256 ≤ length sk) × (256 ≤ length sn)
+  pub starts-enough : (t : Bool) → t ≡ longEnough σ → not t ≡ false → Enough
   starts-enough t et h = enough (sym et ∙ not-no t h)
 
   -- ---- the place, in a state of good form
@@ -72,7 +77,7 @@ module _ (rk rn sk sn hk hn : List ℕ) (p : Place) where
     both : longEnough σ && goodForm (halts n) σ ≡ true
     both = sym (et (halts n) (halts-length n)) ∙ not-no t h
 
-    pub resumes-enough : (8 ≤ length rk) × (8 ≤ length rn) × (256 ≤ length sk) × (256 ≤ length sn)
+    pub resumes-enough : Enough
     resumes-enough = enough (first-of (longEnough σ) (goodForm (halts n) σ) both)
 
     pub resumes-place : (p .depth ≤ 256) × (p .used ≤ 2048) × (p .position ≤ n)

@@ -1,12 +1,12 @@
 // Runs of a program that stands in the tables: `start_ready` reads the samples and starts, `resume_ready` looks at the lent state and
 // goes on. Promised: the answer and the whole lent state, as `startOn` and `continueUnless` of crate exec have them, for each program
 // that the tables represent. A refusal changes nothing of the state that is lent. Asked: tables that fit the machine, and `plan`, which
-// is to hold the machine's own rows, long enough for 1,025 of them.
+// is to hold the machine's own rows, long enough for one more than there are instructions.
 // rk and rn are the registers' kinds and numbers, sk and sn the stack's, hk and hn the heap's.
 ghost use mathlib.Core.Path.{_≡_};
 ghost use mathlib.Core.List.{List};
 ghost use mathlib.Core.Option.{none};
-ghost use Prim.Native.Nat.{ℕ, _≤_};
+ghost use Prim.Native.Nat.{ℕ, _+_, _*_, _≤_};
 ghost use lib.ListN.{length};
 ghost use Rattle.text.specs.Samples.{samplesOf};
 ghost use Rattle.valid.specs.Program.{Program};
@@ -101,7 +101,7 @@ fn run_from(
     p: Place,
     m: usize,
 ) -> Outcome
-    requires { ⌜ Fit (tables (now instrs) (now operands) (now bases) (now blocks) count labels) × (8200 ≤ length (now plan)) × (8 ≤ length (now rk)) × (8 ≤ length (now rn)) × (256 ≤ length (now sk)) × (256 ≤ length (now sn)) × (p .depth ≤ 256) × (p .used ≤ 2048) × (p .position ≤ count) ⌝ }
+    requires { ⌜ Fit (tables (now instrs) (now operands) (now bases) (now blocks) count labels) × (8 * count + 8 ≤ length (now plan)) × (8 ≤ length (now rk)) × (8 ≤ length (now rn)) × (256 ≤ length (now sk)) × (256 ≤ length (now sn)) × (2048 ≤ length (now hk)) × (2048 ≤ length (now hn)) × (p .depth ≤ 256) × (p .used ≤ 2048) × (p .position ≤ count) ⌝ }
     ensures { λ r. ⌜ ((args : List ℕ) (P : Bodies) → Represents (tables (now (instrs .entry)) (now (operands .entry)) (now (bases .entry)) (now (blocks .entry)) count labels) args P → outcomeIs r (now (rk .exit)) (now (rn .exit)) (now (sk .exit)) (now (sn .exit)) (now (hk .exit)) (now (hn .exit)) ≡ outcome (run P (budget m) (stateOf (now (rk .entry)) (now (rn .entry)) (now (sk .entry)) (now (sn .entry)) (now (hk .entry)) (now (hn .entry)) p))) ⌝ }
 {
     let ran = runner::run(
@@ -144,7 +144,7 @@ pub fn start_ready(
     place: Place,
     m: usize,
 ) -> Outcome
-    requires { ⌜ (want ≤ 16) × Fit (tables (now instrs) (now operands) (now bases) (now blocks) count labels) × (8200 ≤ length (now plan)) ⌝ }
+    requires { ⌜ (want ≤ 16) × Fit (tables (now instrs) (now operands) (now bases) (now blocks) count labels) × (8 * count + 8 ≤ length (now plan)) ⌝ }
     ensures { λ r. ⌜ ((args : List ℕ) (P : Program) → Represents (tables (now (instrs .entry)) (now (operands .entry)) (now (bases .entry)) (now (blocks .entry)) count labels) args (bodies P) → want ≡ wanted (P .blocks) → outcomeIs r (now (rk .exit)) (now (rn .exit)) (now (sk .exit)) (now (sn .exit)) (now (hk .exit)) (now (hn .exit)) ≡ startOn P (samplesOf (now (samples .entry))) m (stateOf (now (rk .entry)) (now (rn .entry)) (now (sk .entry)) (now (sn .entry)) (now (hk .entry)) (now (hn .entry)) place)) ⌝ }
 {
     let mut xs = [0u32; 16];
@@ -192,7 +192,7 @@ pub fn resume_ready(
     place: Place,
     m: usize,
 ) -> Outcome
-    requires { ⌜ Fit (tables (now instrs) (now operands) (now bases) (now blocks) count labels) × (8200 ≤ length (now plan)) ⌝ }
+    requires { ⌜ Fit (tables (now instrs) (now operands) (now bases) (now blocks) count labels) × (8 * count + 8 ≤ length (now plan)) ⌝ }
     ensures { λ r. ⌜ ((args : List ℕ) (P : Program) → Represents (tables (now (instrs .entry)) (now (operands .entry)) (now (bases .entry)) (now (blocks .entry)) count labels) args (bodies P) → outcomeIs r (now (rk .exit)) (now (rn .exit)) (now (sk .exit)) (now (sn .exit)) (now (hk .exit)) (now (hn .exit)) ≡ continueUnless none P m (stateOf (now (rk .entry)) (now (rn .entry)) (now (sk .entry)) (now (sn .entry)) (now (hk .entry)) (now (hn .entry)) place)) ⌝ }
 {
     if !good_form::good_form(count, rk, rn, sk, sn, hk, hn, place) {

@@ -6,7 +6,7 @@ use mathlib.Core.Bool.{Bool, true, false, cond}
 use mathlib.Core.Option.{Option, none, some}
 use mathlib.Core.List.{List, [], _∷_, _++_}
 use lib.Dec.{eqb}
-use lib.ListN.{length}
+use lib.ListN.{length, replicate, length-replicate}
 use borrow.Author.Tests.{ne-eqb, eq-eqb}
 use Rattle.syntax.specs.Syntax.{Row, Entry}
 use Rattle.syntax.specs.Fault.{Refusal, Pass, Clear, lowestLine, orElse, earliest}
@@ -22,7 +22,7 @@ use Rattle.valid.proofs.Clear.{earliest-clear, clear-split}
 use Rattle.refs.specs.declared.Found.{Found}
 use Rattle.refs.specs.Refs.{Rising, refusalOf as foundRefusal}
 use Rattle.refs.proofs.Lines.{entries-rows}
-use Rattle.decode_store.specs.Store.{Store, rowTable, operandsOf, Room}
+use Rattle.decode_store.specs.Store.{Store, store, rowTable, operandsOf, Room}
 use Rattle.decode.specs.declared.Read.{Read}
 use Rattle.decode.specs.Decoded as decode
 use Rattle.premises.specs.Bounds.{SmallRow, SmallInstr}
@@ -30,8 +30,16 @@ use Rattle.premises.specs.Answers.{Holds}
 use Rattle.premises.proofs.Grammar.{rows-small, instrs-small}
 use Rattle.prepare.specs.Prepared.{Prepared}
 use Rattle.load.specs.declared.Loaded.{Loaded}
-use Rattle.load.specs.Loaded.{Space, faulty, refusalOf, IsLoaded, LoadIs}
+use Rattle.load.specs.Loaded.{Space, SpaceFor, faulty, refusalOf, IsLoaded, LoadIs}
 use Rattle.load.proofs.Codes.{CodeOk, all-codes, holds-is}
+
+-- ---- room for every text is room for this one
+pub space-for : (σ : Store) (n k u t : ℕ) → k ≡ length (σ .rows) → n ≤ 512 → Space σ u t → SpaceFor n k u t
+space-for σ n k u t e h s = record {
+  rows = omega (arith, s .rows);
+  uses = omega (arith, s .uses);
+  tops = omega (arith, s .tops);
+}
 
 -- a fault that is named
 named : (n line : ℕ) → (n ≡ 0 → ⊥) → refusalOf (faulty n line) ≡ some (record { number = n; line = line; items = [] })
@@ -122,14 +130,14 @@ module _ (text : List ℕ) (σ : Store) (r : Read) (d : decode.Decoded text σ r
     holds-in z = holds-is τ (r .rows) (σ .blocks) (σ .instrs) (operandsOf σ) (r .instrs) (r .blocks) (programOf text) (rows-seen z) (codes z) (unfold programOf programFrom in ap typesOf (sym (d .rows))) (unfold programOf programFrom in ap₂ (λ rs ls. blocksOf (typesOf rs) ls) (sym (d .rows)) (sym (d .blocks)))
 
     -- ---- after preparing: only the rows' table has changed
-    module _ (after uses tops : List ℕ) (p : Prepared (σ .rows) after (σ .parts) (r .rows) uses tops) (z : f .number ≡ 0) where
+    module _ (after uses tops : List ℕ) (p : Prepared (σ .rows) after (σ .parts) (r .rows) uses tops) (z : f .number ≡ 0) (space : SpaceFor (r .rows) (length after) (length uses) (length tops)) where
       abbrev π : Store
       π = record { rows = after; parts = σ .parts; operands = σ .operands; numbers = σ .numbers; args = σ .args; instrs = σ .instrs; blocks = σ .blocks }
 
       holds-after : Holds (rowTable π) (r .rows) (σ .blocks) (r .blocks) (programOf text)
       holds-after = let h = holds-in z in record { types = h .types ∙ ap typesOf (sym (p .rows)); labels = h .labels }
 
-      pub all-loaded : (out : Loaded) → out ≡ record { fault = 0; line = 0; rows = r .rows; blocks = r .blocks; instrs = r .instrs } → LoadIs text (record { rows = after; parts = σ .parts; operands = σ .operands; numbers = σ .numbers; args = σ .args; instrs = σ .instrs; blocks = σ .blocks }) uses tops out
+      pub all-loaded : (out : Loaded) → out ≡ record { fits = true; fault = 0; line = 0; rows = r .rows; blocks = r .blocks; instrs = r .instrs } → LoadIs text (record { rows = after; parts = σ .parts; operands = σ .operands; numbers = σ .numbers; args = σ .args; instrs = σ .instrs; blocks = σ .blocks }) uses tops out
       all-loaded out o = subst (LoadIs text π uses tops) (sym o) (record {
         fault = two-none z;
         loaded = λ w. record {
@@ -141,6 +149,10 @@ module _ (text : List ℕ) (σ : Store) (r : Read) (d : decode.Decoded text σ r
           few-instrs = d .few-instrs;
           small-rows = λ x h. subst SmallRow (sym (p .row x h)) (rows-small-in x h);
           small-instrs = λ h. instrs-small (σ .blocks) (σ .instrs) (operandsOf σ) text (r .instrs) (r .blocks) (d .blocks) h (d .first h);
+          space = space;
+          room-parts = d .room-parts;
+          room-instrs = d .room-instrs;
+          room-operands = d .room-operands;
           first = d .first;
           rising = d .rising;
           within = d .within;
@@ -152,6 +164,14 @@ module _ (text : List ℕ) (σ : Store) (r : Read) (d : decode.Decoded text σ r
         };
       })
 
+-- the room is kept
+pub space-still : (n k u t k′ u′ t′ : ℕ) → k′ ≡ k → u′ ≡ u → t′ ≡ t → SpaceFor n k u t → SpaceFor n k′ u′ t′
+space-still n k u t k′ u′ t′ a b c s = record {
+  rows = omega (arith, s .rows);
+  uses = omega (arith, s .uses);
+  tops = omega (arith, s .tops);
+}
+
 -- ---- what `pass_two` asks
 pub few-ok : (text : List ℕ) (σ : Store) (r : Read) → decode.Decoded text σ r → lowestLine 0 (passOne text) ≡ none → (r .rows ≤ 65535) × (r .blocks ≤ 65535) × (r .instrs ≤ 65535) × Rising (σ .blocks) (r .blocks)
 few-ok text σ r d o =
@@ -159,3 +179,29 @@ few-ok text σ r d o =
     let b = d .few-blocks in
     let c = d .few-instrs in
     (omega arith, omega arith, omega arith, starts-rise text σ r d o)
+
+-- ---- tables set to zero: their lengths, and room for every text
+pub zeros-long : (n m : ℕ) → m ≤ n → m ≤ length (replicate {A = ℕ} n 0)
+zeros-long n m h = let e = length-replicate {A = ℕ} n 0 in omega arith
+
+pub zeros-above : (n m k : ℕ) → n + k ≤ m → length (replicate {A = ℕ} n 0) + k ≤ length (replicate {A = ℕ} m 0)
+zeros-above n m k h =
+    let a = length-replicate {A = ℕ} n 0 in
+    let b = length-replicate {A = ℕ} m 0 in
+    omega arith
+
+pub zeros-space : Space (store (replicate 2056 0) (replicate 8738 0) (replicate 65600 0) (replicate 16400 0) (replicate 131200 0) (replicate 8200 0) (replicate 130 0)) (length (replicate {A = ℕ} 32768 0)) (length (replicate {A = ℕ} 512 0))
+zeros-space = record {
+  room = record {
+    rows = zeros-long 2056 (4 * 513) (omega arith);
+    parts = zeros-long 8738 (17 * 513) (omega arith);
+    operands = zeros-long 65600 (4 * 16400) (omega arith);
+    numbers = zeros-long 16400 16400 (omega arith);
+    args = zeros-long 131200 (8 * 16400) (omega arith);
+    instrs = zeros-long 8200 (8 * 1025) (omega arith);
+    blocks = zeros-long 130 (2 * 65) (omega arith);
+  };
+  rows = zeros-long 2056 (4 * 514) (omega arith);
+  uses = zeros-long 32768 (64 * 512) (omega arith);
+  tops = zeros-long 512 512 (omega arith);
+}

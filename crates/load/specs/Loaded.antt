@@ -1,7 +1,7 @@
 -- What loading a text answers, and what it leaves in the tables.
 use Prim.Native.Nat.{ℕ, suc, _+_, _*_, _≤_, _<_}
 use mathlib.Core.Path.{_≡_}
-use mathlib.Core.Bool.{true, cond}
+use mathlib.Core.Bool.{true, false, cond}
 use mathlib.Core.Option.{Option, none, some}
 use mathlib.Core.List.{List, []}
 use lib.Dec.{eqb}
@@ -15,20 +15,31 @@ use Rattle.scope.specs.Scoped.{Scoped}
 use Rattle.valid.specs.Program.{programOf}
 use Rattle.valid.specs.Verdict.{passTwoOf}
 use Rattle.decode_store.specs.Store.{Store, rowTable, operandsOf, Room}
+use Rattle.decode.specs.Decoded.{OperandsIn}
 use Rattle.premises.specs.Bounds.{SmallRow, SmallInstr}
 use Rattle.premises.specs.Answers.{Holds}
 use Rattle.load.specs.declared.Loaded.{Loaded}
 
--- room in the tables: for two rows more than document 01 allows, and for the variables of each row
+-- room for what pass three reads of n rows: two rows more, and the variables of each row
+pub record SpaceFor (n k u t : ℕ) : Type 0 where
+  pub rows : 4 * n + 8 ≤ k
+  pub uses : 64 * n ≤ u
+  pub tops : n ≤ t
+
+-- room for every text: as much as document 01 allows
 pub record Space (σ : Store) (u t : ℕ) : Type 0 where
   pub room : Room σ
   pub rows : 4 * 514 ≤ length (σ .rows)
   pub uses : 64 * 512 ≤ u
   pub tops : 512 ≤ t
 
+-- the answer where the text does not fit the tables
+abbrev pub unfitLoad : Loaded
+unfitLoad = record { fits = false; fault = 0; line = 0; rows = 0; blocks = 0; instrs = 0 }
+
 -- the answer that names fault n on a line
 abbrev pub faulty : ℕ → ℕ → Loaded
-faulty n line = record { fault = n; line = line; rows = 0; blocks = 0; instrs = 0 }
+faulty n line = record { fits = true; fault = n; line = line; rows = 0; blocks = 0; instrs = 0 }
 
 -- the fault that an answer names; 0 for none
 abbrev pub refusalOf : Loaded → Option Refusal
@@ -47,6 +58,11 @@ pub record IsLoaded (text : List ℕ) (σ : Store) (uses tops : List ℕ) (r : L
   pub few-instrs : r .instrs ≤ 1024
   pub small-rows : (x : ℕ) → x < r .rows → SmallRow (rowAt (rowTable σ) x)
   pub small-instrs : 0 < r .blocks → (j : ℕ) → j < r .instrs → SmallInstr (instrAt (σ .instrs) (operandsOf σ) j)
+  -- room in the tables
+  pub space : SpaceFor (r .rows) (length (σ .rows)) (length uses) (length tops)
+  pub room-parts : 17 * r .rows ≤ length (σ .parts)
+  pub room-instrs : 8 * r .instrs ≤ length (σ .instrs)
+  pub room-operands : (j : ℕ) → j < r .instrs → OperandsIn σ j
   -- where blocks start
   pub first : 0 < r .blocks → cell 2 (σ .blocks) 0 1 ≡ 0
   pub rising : (l : ℕ) → suc l < r .blocks → cell 2 (σ .blocks) l 1 < cell 2 (σ .blocks) (suc l) 1

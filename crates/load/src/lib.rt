@@ -1,15 +1,20 @@
 // A text that may be run or typed: decoded into tables (crate decode), passed by passes one and two (crate pass_two), and prepared for
-// pass three (crate prepare). Promised: the fault of passes one and two, as crate valid has them, or else that the tables stand for the
-// program of the text, with what these passes have seen of it. Asked: room in the tables.
+// pass three (crate prepare). Promised: whether the text fits the tables that are lent, which every text does where they have `Space`.
+// Where it fits, the fault of passes one and two, as crate valid has them, or else that the tables stand for the program of the text, with
+// what these passes have seen of it. Nothing is asked.
 use refs::Found;
 ghost use mathlib.Core.Path.{_≡_};
+ghost use mathlib.Core.Bool.{true};
 ghost use Prim.Native.Nat.{_*_, _≤_};
 ghost use lib.ListN.{length};
 ghost use Rattle.decode_store.specs.Store.{store};
-ghost use Rattle.load.specs.Loaded.{Space, faulty, LoadIs};
+ghost use Rattle.decode.specs.Decoded.{Fitting};
+ghost use Rattle.load.specs.Loaded.{Space, SpaceFor, unfitLoad, faulty, LoadIs};
 
-// The fault of passes one and two and its line, 0 and 0 for none; then how many rows, blocks and instructions there are.
+// Whether the text fits the tables; the fault of passes one and two and its line, 0 and 0 for none; then how many rows, blocks and
+// instructions there are.
 pub struct Loaded {
+    pub fits: bool,
     pub fault: usize,
     pub line: usize,
     pub rows: usize,
@@ -17,16 +22,44 @@ pub struct Loaded {
     pub instrs: usize,
 }
 
+fn unfit() -> Loaded
+    ensures { λ r. ⌜ r ≡ unfitLoad ⌝ }
+{
+    Loaded {
+        fits: false,
+        fault: 0,
+        line: 0,
+        rows: 0,
+        blocks: 0,
+        instrs: 0,
+    }
+}
+
 fn refused(fault: usize, line: usize) -> Loaded
     ensures { λ r. ⌜ r ≡ faulty fault line ⌝ }
 {
     Loaded {
+        fits: true,
         fault,
         line,
         rows: 0,
         blocks: 0,
         instrs: 0,
     }
+}
+
+// Whether the tables have room for what pass three reads of n rows.
+fn has_space(rows: &[u16], uses: &[u8], tops: &[u16], n: usize) -> bool
+    requires { ⌜ n ≤ 512 ⌝ }
+    ensures { λ r. ⌜ (r ≡ true → SpaceFor n (length (now (rows .entry))) (length (now (uses .entry))) (length (now (tops .entry)))) × (SpaceFor n (length (now (rows .entry))) (length (now (uses .entry))) (length (now (tops .entry))) → r ≡ true) ⌝ }
+{
+    if rows.len() < 4 * n + 8 {
+        return false;
+    }
+    if uses.len() < 64 * n {
+        return false;
+    }
+    n <= tops.len()
 }
 
 // Reads the text into the tables; where passes one and two find no fault, makes them ready for pass three too.
@@ -42,13 +75,18 @@ pub fn load(
     uses: &mut [u8],
     tops: &mut [u16],
 ) -> Loaded
-    requires { ⌜ Space (store (now rows) (now parts) (now operands) (now numbers) (now args) (now instrs) (now blocks)) (length (now uses)) (length (now tops)) ⌝ }
-    ensures { λ r. ⌜ LoadIs (now (text .entry)) (store (now (rows .exit)) (now (parts .exit)) (now (operands .exit)) (now (numbers .exit)) (now (args .exit)) (now (instrs .exit)) (now (blocks .exit))) (now (uses .exit)) (now (tops .exit)) r ⌝ }
+    ensures { λ r. ⌜ Fitting (Space (store (now (rows .entry)) (now (parts .entry)) (now (operands .entry)) (now (numbers .entry)) (now (args .entry)) (now (instrs .entry)) (now (blocks .entry))) (length (now (uses .entry))) (length (now (tops .entry)))) (r .fits) (LoadIs (now (text .entry)) (store (now (rows .exit)) (now (parts .exit)) (now (operands .exit)) (now (numbers .exit)) (now (args .exit)) (now (instrs .exit)) (now (blocks .exit))) (now (uses .exit)) (now (tops .exit)) r) ⌝ }
 {
     let r = decode::read_text(text, rows, parts, operands, numbers, args, instrs, blocks);
+    if !r.fits {
+        return unfit();
+    }
     let fault = r.fault as usize;
     if fault != 0 {
         return refused(fault, r.line);
+    }
+    if !has_space(rows, uses, tops, r.rows) {
+        return unfit();
     }
     let f = pass_two::pass_two(
         rows,
@@ -68,6 +106,7 @@ pub fn load(
     }
     prepare::prepare(rows, parts, r.rows, uses, tops);
     Loaded {
+        fits: true,
         fault: 0,
         line: 0,
         rows: r.rows,

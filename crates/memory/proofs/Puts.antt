@@ -1,14 +1,13 @@
 -- Laws of words written in a row, and of the tail of a heap that is lent on.
-use mathlib.Core.Path.{_≡_, refl, ap, ap₂, sym, _∙_}
+use mathlib.Core.Path.{_≡_, refl, ap, ap₂, sym, _∙_, subst}
 use mathlib.Core.List.{List, [], _∷_, _++_, map, append-nil}
-use Prim.Native.Nat.{ℕ, zero, suc, _+_, _-_, _<_, _≤_, min}
+use Prim.Native.Nat.{ℕ, suc, _+_, _-_, _<_, _≤_}
 use native.Mathlib.Nat.{add-suc, add-zero, zero-add, suc-add}
-use native.Mathlib.Decide.{decLe}
 use native.Mathlib.Omega.{arith}
-use lib.ListN.{length, set, take, drop, replicate, length-set, length-drop, drop-of-length-le, take-append-drop}
-use lib.Seq.{sets, set-out, take-all, take-length, drop-length, length-take-le, drop-drop}
+use lib.ListN.{length, set, take, drop, length-drop, drop-of-length-le, take-append-drop}
+use lib.Seq.{sets, take-all, length-take-le, drop-drop}
 use borrow.Rule.Slice.PartMut.{putMid}
-use Rattle.exec.specs.Machine.{Word, Memory, put, puts, integer, junkWord, wordOf}
+use Rattle.exec.specs.Machine.{Word, Memory, put, puts, integer, wordOf}
 use Rattle.tables.specs.Tables.{OperandTable, operandAt, operandsAt}
 use Rattle.memory.specs.Lent.{lent, tupleOf}
 
@@ -21,26 +20,11 @@ sets-behind : (p q xs : List ℕ) (j : ℕ) → sets (p ++ q) (length p + j) xs 
 sets-behind p q [] j = refl
 sets-behind p q (x ∷ xs) j = rw (set-behind, ← add-suc) (sets-behind p (set q j x) xs (suc j))
 
-sets-out : (l xs : List ℕ) (i : ℕ) → length l ≤ i → sets l i xs ≡ l
-sets-out l [] i h = refl
-sets-out l (x ∷ xs) i h = rw (set-out l i x h) (let k : length l ≤ suc i = omega arith in sets-out l xs (suc i) k)
-
 -- what is written from u on is written to the part that starts there
-sets-in-part : (l xs : List ℕ) (u a : ℕ) → a ≡ min u (length l) → take a l ++ sets (drop a l) 0 xs ≡ sets l u xs
-sets-in-part l xs u a e = go (decLe u (length l))
-  where
-    go : Dec (u ≤ length l) → take a l ++ sets (drop a l) 0 xs ≡ sets l u xs
-    go (yes h) =
-        let q : a ≡ u = omega arith in
-        let n : length (take u l) + 0 ≡ u = add-zero (length (take u l)) ∙ length-take-le u l h in
-        ap (λ (k : ℕ). take k l ++ sets (drop k l) 0 xs) q
-        ∙ sym (sets-behind (take u l) (drop u l) xs 0)
-        ∙ ap₂ (λ (t : List ℕ) (k : ℕ). sets t k xs) (take-append-drop u l) n
-    go (no h) =
-        let q : a ≡ length l = omega arith in
-        let o : length l ≤ u = omega arith in
-        ap (λ (k : ℕ). take k l ++ sets (drop k l) 0 xs) q
-        ∙ rw (take-length, drop-length) (ap (λ (t : List ℕ). l ++ t) (sets-out [] xs 0 (omega arith)) ∙ append-nil l ∙ sym (sets-out l xs u o))
+sets-in-part : (l xs : List ℕ) (u : ℕ) → u ≤ length l → take u l ++ sets (drop u l) 0 xs ≡ sets l u xs
+sets-in-part l xs u h =
+    let n : length (take u l) + 0 ≡ u = add-zero (length (take u l)) ∙ length-take-le u l h in
+    sym (sets-behind (take u l) (drop u l) xs 0) ∙ ap₂ (λ (t : List ℕ) (k : ℕ). sets t k xs) (take-append-drop u l) n
 
 -- ---- a list of words, as kinds and as numbers
 kinds-of : (m : Memory) (i : ℕ) (ws : List Word) → puts m i ws .kinds ≡ sets (m .kinds) i (map (λ w. w .kind) ws)
@@ -59,23 +43,30 @@ part s a =
     let q : length (drop a s) ≤ length s - a = omega (arith, length-drop a s) in
     take-all (length s - a) (drop a s) q
 
+pub room-in : (s : List ℕ) (u a n : ℕ) → a ≡ u → u + n < length s → n < length (take (length s - a) (drop a s))
+room-in s u a n e h =
+    let q : n < length (drop a s) = omega (arith, length-drop a s, e, h) in
+    subst (λ (t : List ℕ). n < length t) (sym (part s a)) q
+
 back : (s y : List ℕ) (a : ℕ) → a ≤ length s → putMid a (length s - a) s y ≡ take a s ++ y
 back s y a h =
     let q : length s ≤ a + (length s - a) = omega arith in
     ap (λ (t : List ℕ). take a s ++ (y ++ t)) (drop-drop (length s - a) a s ∙ drop-of-length-le s q) ∙ simp append-nil
 
-tail : (s y xs : List ℕ) (u a : ℕ) → a ≡ min u (length s) → y ≡ sets (take (length s - a) (drop a s)) 0 xs → putMid a (length s - a) s y ≡ sets s u xs
-tail s y xs u a e h =
-    let q : a ≤ length s = omega arith in
-    back s y a q ∙ ap (λ (t : List ℕ). take a s ++ t) (h ∙ ap (λ (t : List ℕ). sets t 0 xs) (part s a)) ∙ sets-in-part s xs u a e
+tail : (s y xs : List ℕ) (u : ℕ) → u ≤ length s → y ≡ sets (take (length s - u) (drop u s)) 0 xs → putMid u (length s - u) s y ≡ sets s u xs
+tail s y xs u q h = back s y u q ∙ ap (λ (t : List ℕ). take u s ++ t) (h ∙ ap (λ (t : List ℕ). sets t 0 xs) (part s u)) ∙ sets-in-part s xs u q
 
-pub in-tail : (hk hn yk yn : List ℕ) (u a b : ℕ) (ws : List Word) → a ≡ min u (length hk) → b ≡ min u (length hn) → lent yk yn ≡ puts (lent (take (length hk - a) (drop a hk)) (take (length hn - b) (drop b hn))) 0 ws → lent (putMid a (length hk - a) hk yk) (putMid b (length hn - b) hn yn) ≡ puts (lent hk hn) u ws
-in-tail hk hn yk yn u a b ws ea eb h =
-    let mk : List ℕ = take (length hk - a) (drop a hk) in
-    let mn : List ℕ = take (length hn - b) (drop b hn) in
-    let k : putMid a (length hk - a) hk yk ≡ puts (lent hk hn) u ws .kinds = tail hk yk (map (λ w. w .kind) ws) u a ea (ap (λ (m : Memory). m .kinds) h ∙ kinds-of (lent mk mn) 0 ws) ∙ sym (kinds-of (lent hk hn) u ws) in
-    let n : putMid b (length hn - b) hn yn ≡ puts (lent hk hn) u ws .numbers = tail hn yn (map (λ w. w .number) ws) u b eb (ap (λ (m : Memory). m .numbers) h ∙ numbers-of (lent mk mn) 0 ws) ∙ sym (numbers-of (lent hk hn) u ws) in
+in-part : (hk hn yk yn : List ℕ) (u : ℕ) (ws : List Word) → u ≤ length hk → u ≤ length hn → lent yk yn ≡ puts (lent (take (length hk - u) (drop u hk)) (take (length hn - u) (drop u hn))) 0 ws → lent (putMid u (length hk - u) hk yk) (putMid u (length hn - u) hn yn) ≡ puts (lent hk hn) u ws
+in-part hk hn yk yn u ws lk ln h =
+    let mk : List ℕ = take (length hk - u) (drop u hk) in
+    let mn : List ℕ = take (length hn - u) (drop u hn) in
+    let k : putMid u (length hk - u) hk yk ≡ puts (lent hk hn) u ws .kinds = tail hk yk (map (λ w. w .kind) ws) u lk (ap (λ (m : Memory). m .kinds) h ∙ kinds-of (lent mk mn) 0 ws) ∙ sym (kinds-of (lent hk hn) u ws) in
+    let n : putMid u (length hn - u) hn yn ≡ puts (lent hk hn) u ws .numbers = tail hn yn (map (λ w. w .number) ws) u ln (ap (λ (m : Memory). m .numbers) h ∙ numbers-of (lent mk mn) 0 ws) ∙ sym (numbers-of (lent hk hn) u ws) in
     λ i. record { kinds = k i; numbers = n i }
+
+-- the same, where the part's start is another name for u
+pub in-tail : (hk hn yk yn : List ℕ) (u a : ℕ) (ws : List Word) → a ≡ u → a ≤ length hk → a ≤ length hn → lent yk yn ≡ puts (lent (take (length hk - a) (drop a hk)) (take (length hn - a) (drop a hn))) 0 ws → lent (putMid a (length hk - a) hk yk) (putMid a (length hn - a) hn yn) ≡ puts (lent hk hn) u ws
+in-tail hk hn yk yn u a ws e lk ln h = in-part hk hn yk yn a ws lk ln h ∙ ap (λ (i : ℕ). puts (lent hk hn) i ws) e
 
 -- ---- loops: what is left to write from here gives the whole
 pub nothing-left : {m : Memory} {whole : Memory} (k : ℕ) (ws : ℕ → List Word) (c i : ℕ) → c ≤ i → ws 0 ≡ [] → puts m k (ws (c - i)) ≡ whole → m ≡ whole
@@ -103,8 +94,8 @@ length-word ω R m v n f c {m′} ef ec em =
     let b : c - 0 ≡ n = omega arith in
     ap₂ (λ (x y : ℕ). puts m′ 1 (components ω R x y)) a b ∙ ap (λ (y : Memory). puts y 1 (components ω R v n)) em
 
-pub next-component : (ω : OperandTable) (R : Memory) (f i t : ℕ) {w : Word} → w ≡ wordOf R (operandAt ω (f + i)) → components ω R (f + i) (suc t) ≡ w ∷ components ω R (f + (i + 1)) t
+pub next-component : (ω : OperandTable) (R : Memory) (f i t : ℕ) → components ω R (f + i) (suc t) ≡ wordOf R (operandAt ω (f + i)) ∷ components ω R (f + (i + 1)) t
 unfolding operandsAt
-next-component ω R f i t e =
+next-component ω R f i t =
     let q : suc (f + i) ≡ f + (i + 1) = omega arith in
-    ap₂ (λ (w : Word) (v : ℕ). w ∷ components ω R v t) (sym e) q
+    ap (λ (v : ℕ). wordOf R (operandAt ω (f + i)) ∷ components ω R v t) q

@@ -1,13 +1,12 @@
-// Lent words: a register file, a stack or a heap is a slice of kinds beside a slice of numbers. Reading and writing are total:
-// past the end a read gives junk and a write does nothing. Operands are read from a decoded program's tables, and a tuple is
-// written to the part of the heap that starts at the first unused word.
+// Lent words: a register file, a stack or a heap is a slice of kinds beside a slice of numbers. `at` and `put` are total: past the end
+// a read gives junk and a write does nothing; the others ask that the words are lent, and make no test. Operands are read from a decoded
+// program's tables, and a tuple is written to the part of the heap that starts at the first unused word.
 ghost use mathlib.Core.Path.{_≡_};
-ghost use mathlib.Core.List.{List};
-ghost use Prim.Native.Nat.{ℕ, _<_, _≤_, min};
-ghost use lib.ListN.{set, getD, replicate};
-ghost use Rattle.exec.specs.Machine.{at, put, puts, junkKind, junkWord, baseWord, wordOf};
-ghost use Rattle.tables.specs.Tables.{cell, baseOf, operandAt};
-ghost use Rattle.memory.specs.Lent.{wordIs, lent, operandTable, tupleOf};
+ghost use Prim.Native.Nat.{_+_, _*_, _<_, _≤_};
+ghost use lib.ListN.{length, set as setAt, getD, replicate};
+ghost use Rattle.exec.specs.Machine.{at, put, puts, junkKind, junkWord, wordOf};
+ghost use Rattle.tables.specs.Tables.{cell, operandAt};
+ghost use Rattle.memory.specs.Lent.{wordIs, lent, operandTable, tupleOf, Sourced};
 
 // The kinds of words: an integer.
 pub const INT: u8 = 0;
@@ -66,7 +65,7 @@ pub fn at(kinds: &[u8], numbers: &[u32], i: usize) -> Word
 }
 
 fn put_kind(kinds: &mut [u8], i: usize, k: u8)
-    ensures { λ _. ⌜ now (kinds .exit) ≡ set (now (kinds .entry)) i k ⌝ }
+    ensures { λ _. ⌜ now (kinds .exit) ≡ setAt (now (kinds .entry)) i k ⌝ }
 {
     if i < kinds.len() {
         kinds[i] = k;
@@ -74,7 +73,7 @@ fn put_kind(kinds: &mut [u8], i: usize, k: u8)
 }
 
 fn put_number(numbers: &mut [u32], i: usize, n: u32)
-    ensures { λ _. ⌜ now (numbers .exit) ≡ set (now (numbers .entry)) i n ⌝ }
+    ensures { λ _. ⌜ now (numbers .exit) ≡ setAt (now (numbers .entry)) i n ⌝ }
 {
     if i < numbers.len() {
         numbers[i] = n;
@@ -89,15 +88,36 @@ pub fn put(kinds: &mut [u8], numbers: &mut [u32], i: usize, w: Word)
     put_number(numbers, i, w.number);
 }
 
+// The word at i, which is lent.
+pub fn get(kinds: &[u8], numbers: &[u32], i: usize) -> Word
+    requires { ⌜ (i < length (now kinds)) × (i < length (now numbers)) ⌝ }
+    ensures { λ r. ⌜ wordIs r ≡ at (lent (now (kinds .entry)) (now (numbers .entry))) i ⌝ }
+{
+    Word {
+        kind: kinds[i],
+        number: numbers[i],
+    }
+}
+
+// Write the word w at i, which is lent.
+pub fn set(kinds: &mut [u8], numbers: &mut [u32], i: usize, w: Word)
+    requires { ⌜ (i < length (now kinds)) × (i < length (now numbers)) ⌝ }
+    ensures { λ _. ⌜ lent (now (kinds .exit)) (now (numbers .exit)) ≡ put (lent (now (kinds .entry)) (now (numbers .entry))) i (wordIs w) ⌝ }
+{
+    kinds[i] = w.kind;
+    numbers[i] = w.number;
+}
+
 // Write n words of junk from word `from` on.
 pub fn put_junk(kinds: &mut [u8], numbers: &mut [u32], from: u32, n: u32)
+    requires { ⌜ (from + n ≤ length (now kinds)) × (from + n ≤ length (now numbers)) ⌝ }
     ensures { λ _. ⌜ lent (now (kinds .exit)) (now (numbers .exit)) ≡ puts (lent (now (kinds .entry)) (now (numbers .entry))) from (replicate n junkWord) ⌝ }
 {
     let start = wide(from);
     let count = wide(n);
     let mut i = 0;
     while i < count {
-        put(
+        set(
             kinds,
             numbers,
             start + i,
@@ -124,35 +144,39 @@ pub fn entry(table: &[u16], width: usize, i: usize, k: usize) -> usize
     0
 }
 
-fn operand_kind(k: usize, kinds: &[u8], n: usize) -> u8
-    ensures { λ r. ⌜ ((ns : List ℕ) → r ≡ baseWord (lent (now (kinds .entry)) ns) (baseOf k n) .kind) ⌝ }
+// Write at i the word that operand v stands for: a register's, an integer or a label. Its base's number stands in `bases`.
+fn put_operand(
+    kinds: &mut [u8],
+    numbers: &mut [u32],
+    i: usize,
+    operands: &[u16],
+    bases: &[u32],
+    rk: &[u8],
+    rn: &[u32],
+    v: usize,
+)
+    requires { ⌜ (i < length (now kinds)) × (i < length (now numbers)) × (8 ≤ length (now rk)) × (8 ≤ length (now rn)) × (4 * v < length (now operands)) × (v < length (now bases)) × (getD (now operands) (4 * v) 0 ≡ 0 → getD (now bases) v 0 < 8) ⌝ }
+    ensures { λ _. ⌜ lent (now (kinds .exit)) (now (numbers .exit)) ≡ put (lent (now (kinds .entry)) (now (numbers .entry))) i (wordOf (lent (now (rk .entry)) (now (rn .entry))) (operandAt (operandTable (now (operands .entry)) (now (bases .entry))) v)) ⌝ }
 {
+    let k = operands[4 * v];
+    let m = bases[v];
     if k == 0 {
-        return kind_at(kinds, n);
+        set(kinds, numbers, i, get(rk, rn, wide(m)));
+        return;
     }
-    if k == 1 { INT } else { CODE }
-}
-
-fn operand_number(k: usize, numbers: &[u32], n: u32) -> u32
-    ensures { λ r. ⌜ ((ks : List ℕ) → r ≡ baseWord (lent ks (now (numbers .entry))) (baseOf k n) .number) ⌝ }
-{
-    if k == 0 {
-        number_at(numbers, wide(n))
-    } else {
-        n
+    if k == 1 {
+        let w = Word {
+            kind: INT,
+            number: m,
+        };
+        set(kinds, numbers, i, w);
+        return;
     }
-}
-
-// The word that operand v stands for: a register's, an integer or a label. Its base's number stands in `bases`.
-pub fn operand(operands: &[u16], bases: &[u32], rk: &[u8], rn: &[u32], v: usize) -> Word
-    ensures { λ r. ⌜ wordIs r ≡ wordOf (lent (now (rk .entry)) (now (rn .entry))) (operandAt (operandTable (now (operands .entry)) (now (bases .entry))) v) ⌝ }
-{
-    let k = entry(operands, 4, v, 0);
-    let n = number_at(bases, v);
-    Word {
-        kind: operand_kind(k, rk, wide(n)),
-        number: operand_number(k, rn, n),
-    }
+    let w = Word {
+        kind: CODE,
+        number: m,
+    };
+    set(kinds, numbers, i, w);
 }
 
 // A tuple at the start of the words lent: its length word, then the words of n operands from v on.
@@ -166,11 +190,12 @@ fn write_tuple(
     v: u32,
     n: u32,
 )
+    requires { ⌜ (n < length (now kinds)) × (n < length (now numbers)) × (8 ≤ length (now rk)) × (8 ≤ length (now rn)) × Sourced (now operands) (now bases) v n ⌝ }
     ensures { λ _. ⌜ lent (now (kinds .exit)) (now (numbers .exit)) ≡ puts (lent (now (kinds .entry)) (now (numbers .entry))) 0 (tupleOf (operandTable (now (operands .entry)) (now (bases .entry))) (lent (now (rk .entry)) (now (rn .entry))) v n) ⌝ }
 {
     let first = wide(v);
     let count = wide(n);
-    put(
+    set(
         kinds,
         numbers,
         0,
@@ -181,16 +206,9 @@ fn write_tuple(
     );
     let mut i = 0;
     while i < count {
-        let w = operand(operands, bases, rk, rn, first + i);
+        put_operand(kinds, numbers, i + 1, operands, bases, rk, rn, first + i);
         i += 1;
-        put(kinds, numbers, i, w);
     }
-}
-
-fn least(a: usize, b: usize) -> usize
-    ensures { λ r. ⌜ r ≡ min a b ⌝ }
-{
-    if a <= b { a } else { b }
 }
 
 // "writes only the part of the heap that starts at the first unused word": that part is lent on to the tuple's writer.
@@ -205,9 +223,9 @@ pub fn put_tuple(
     v: u32,
     n: u32,
 )
+    requires { ⌜ (used + n < length (now hk)) × (used + n < length (now hn)) × (8 ≤ length (now rk)) × (8 ≤ length (now rn)) × Sourced (now operands) (now bases) v n ⌝ }
     ensures { λ _. ⌜ lent (now (hk .exit)) (now (hn .exit)) ≡ puts (lent (now (hk .entry)) (now (hn .entry))) used (tupleOf (operandTable (now (operands .entry)) (now (bases .entry))) (lent (now (rk .entry)) (now (rn .entry))) v n) ⌝ }
 {
-    let a = least(wide(used), hk.len());
-    let b = least(wide(used), hn.len());
-    write_tuple(&mut hk[a..], &mut hn[b..], operands, bases, rk, rn, v, n);
+    let a = wide(used);
+    write_tuple(&mut hk[a..], &mut hn[a..], operands, bases, rk, rn, v, n);
 }

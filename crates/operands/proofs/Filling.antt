@@ -11,14 +11,16 @@ use Rattle.syntax.specs.Partial.{when}
 use Rattle.syntax.specs.Syntax.{Kind, value, stack, Base, Operand, plain, inst}
 use Rattle.syntax.specs.Fault.{Fault, numberOf}
 use Rattle.syntax.proofs.Least.{least}
-use Rattle.types.specs.Types.{Ty, int, junk, var, tuple, pointer, code, Arg, arg, kindOf, filled}
+use Rattle.types.specs.Types.{Ty, int, junk, var, tuple, pointer, code, Arg, arg, kindOf, ofKind, filled, aStack, Wf}
 use Rattle.types.specs.Rows.{typeAt, typesOf}
 use Rattle.types.specs.Equal.{same, sameLetters}
 use Rattle.types.proofs.Equal.{and-inv}
-use Rattle.tables.specs.Tables.{OperandTable, cell, span, baseOf, operandOf, operandAt, rowsIn}
+use Rattle.tables.specs.Tables.{OperandTable, cell, span, letterOf, baseOf, operandOf, operandAt, rowsIn}
 use Rattle.valid.specs.Program.{Program, typeOf, argsOf}
-use Rattle.valid.specs.PassThree.{CodeType, asCode, formedArgs, formed, lettersLeft, isFilled, base, applied, operand}
-use Rattle.rows.specs.Read.{tab}
+use Rattle.valid.specs.PassThree.{CodeType, asCode, formedArg, formedArgs, formed, lettersLeft, isFilled, base, applied, operand}
+use Rattle.valid.proofs.Reading.{formed-sound}
+use Rattle.rows.specs.Read.{tab, argOf}
+use Rattle.rows.proofs.Bridge.{arg-is, arg-at, type-in}
 use Rattle.context.specs.Told.{toldOf, answer}
 use Rattle.premises.specs.Bounds.{Short}
 use Rattle.equal.specs.Fit.{isFull, fillsTo}
@@ -142,3 +144,16 @@ module _ (P : Program) (Δ : List Kind) (f : Fault) (g : Ty stack) where
 
   pub same-told : (o o′ : Operand) (k : ℕ) (u w : Ty value) → o ≡ o′ → toldOf (operand P Δ f g o′) ≡ answer k u → u ≡ w → toldOf (operand P Δ f g o) ≡ answer k w
   same-told o o′ k u w e h q = ap (λ (z : Operand). toldOf (operand P Δ f g z)) e ∙ h ∙ ap (answer k) q
+
+-- ---- closed rows
+of-formed : (a : Arg) → formedArg [] a ≡ true → Wf [] aStack (ofKind value a)
+unfolding formedArg ofKind
+of-formed (arg value t) e = formed-sound [] aStack t e
+of-formed (arg stack t) e = tt
+
+-- a row that is formed under no letters
+pub closed-row : (rows parts : List ℕ) (n t : ℕ) {b : Bool} → t < n → b ≡ formedArg (map letterOf (span parts 0 0)) (getD (typesOf (rowsIn (tab rows parts) n)) t (arg value junk)) → b ≡ true → Wf [] aStack (typeAt value (typesIn rows parts n) t)
+unfolding span
+closed-row rows parts n t h e f =
+    subst (λ (z : Ty value). Wf [] aStack z) (arg-is (tab rows parts) value t ∙ sym (type-in (tab rows parts) value (n + 2) t (omega arith)))
+    (of-formed (argOf (tab rows parts) t) (ap (formedArg []) (sym (arg-at (tab rows parts) n t h)) ∙ sym e ∙ f))

@@ -8,10 +8,10 @@ ghost use mathlib.Core.Bool.{true, false};
 ghost use mathlib.Core.List.{map};
 ghost use Prim.Native.Nat.{ℕ, _+_, _≤_, _<_};
 ghost use lib.ListN.{length, getD};
-ghost use mathlib.Core.List.{List};
+ghost use mathlib.Core.List.{List, []};
 ghost use Rattle.syntax.specs.Syntax.{Kind, value, reg, lab, inst};
 ghost use Rattle.syntax.specs.Fault.{Fault, fault, numberOf};
-ghost use Rattle.types.specs.Types.{Arg, junk, arg, tuple};
+ghost use Rattle.types.specs.Types.{Arg, junk, arg, tuple, aStack, Wf};
 ghost use Rattle.types.specs.Rows.{typeAt, allBelow};
 ghost use Rattle.types.specs.Equal.{same};
 ghost use Rattle.tables.specs.Tables.{cell, span, letterOf, baseOf, operandAt, operandsAt};
@@ -110,11 +110,24 @@ pub fn base_type(
 }
 
 // ---- operands
+// Row t is known to have no free variable.
+fn is_closed(rows: &[u16], parts: &[u16], n: usize, uses: &[u8], tops: &[u16], t: usize) -> bool
+    requires { ⌜ Scoped (tab (now rows) (now parts)) n (now uses) (now tops) ⌝ }
+    ensures { λ out. ⌜ (out ≡ true → Wf [] aStack (typeAt value (typesIn (now (rows .entry)) (now (parts .entry)) n) t)) ⌝ }
+{
+    if t < n {
+        return scope::formed(rows, parts, n, uses, tops, t, 0, 0);
+    }
+    false
+}
+
 // The least fault of a base that carries the arguments `args` (rows, in the order of their variables) and names the resulting row t.
 fn fill_fault(
     rows: &[u16],
     parts: &[u16],
     n: usize,
+    uses: &[u8],
+    tops: &[u16],
     blocks: &[u16],
     nb: usize,
     regs: &[u16],
@@ -123,7 +136,7 @@ fn fill_fault(
     args: &[u16],
     t: usize,
 ) -> usize
-    requires { ⌜ Ready (now rows) (now parts) n × (number ≤ 4294967295) × (allBelow (n + 2) (now args) ≡ true) ⌝ }
+    requires { ⌜ Ready (now rows) (now parts) n × (number ≤ 4294967295) × (allBelow (n + 2) (now args) ≡ true) × Scoped (tab (now rows) (now parts)) n (now uses) (now tops) ⌝ }
     ensures { λ out. ⌜ ((P : Program) (Δ : List Kind) (f : Fault) → Holds (tab (now (rows .entry)) (now (parts .entry))) n (now (blocks .entry)) nb P → numberOf f ≡ 10 → toldOf (applied P Δ f (regsOf (typesIn (now (rows .entry)) (now (parts .entry)) n) (now (regs .entry))) (baseOf kind number) (map (λ (x : ℕ). getD (typesIn (now (rows .entry)) (now (parts .entry)) n) x (arg value junk)) (now (args .entry))) t) ≡ answer out tt) ⌝ }
 {
     let b = base_type(rows, parts, n, blocks, nb, regs, kind, number);
@@ -137,7 +150,16 @@ fn fill_fault(
     if !typing::letters_fit(rows, parts, n, args, c.start) {
         return 14;
     }
-    if equal::filled(rows, parts, n + 2, b.row, args, typing::given_row(n, t)) {
+    let closed = is_closed(rows, parts, n, uses, tops, b.row);
+    if equal::filled(
+        rows,
+        parts,
+        n + 2,
+        b.row,
+        closed,
+        args,
+        typing::given_row(n, t),
+    ) {
         return 0;
     }
     10
@@ -171,6 +193,8 @@ fn instance(
         rows,
         parts,
         n,
+        uses,
+        tops,
         blocks,
         nb,
         regs,

@@ -10,37 +10,40 @@ ghost use lib.ListN.{length, getD, set};
 ghost use Rattle.exec.specs.Machine.{signOf, taken};
 ghost use Rattle.arith.specs.Codes.{branchOf};
 ghost use Rattle.machine.specs.Step.{tables};
-ghost use Rattle.predecode.specs.Plan.{forms, halts, columns, chosen, putRow, rowOf, Plan};
+ghost use Rattle.predecode.specs.Plan.{forms, halts, columns, chosen, classOf, fifthOf, addedOf, lastOf, putRow, rowOf, Plan};
 
-// The form of an instruction, by its code and the kind of its operand: register, integer, label.
+// The form of an instruction, by its code and the kind of its operand: register, integer, label. Forms below 15 are classes of their
+// own: 0 add register, 1 add integer, 2 sub register, 3 mul register, 4 branch to a label, 5 mov register, 6 mov of a constant,
+// 7 jmp to a label, 8 jmp register, 9 ld, 10 st, 11 sld, 12 sst, 13 slp, 14 ssp. The others are of class 15: 15 mul integer,
+// 16 getsp, 17 setsp, 18 salloc, 19 sfree, 20 malloc, 21 branch through a register, 22 branch that goes nowhere, 23 halt, 24 stuck.
 const FORMS: [[u8; 3]; 23] = [
-    [0, 1, 26],
-    [2, 3, 26],
-    [4, 5, 26],
-    [22, 23, 6],
-    [22, 23, 6],
-    [22, 23, 6],
-    [22, 23, 6],
-    [22, 23, 6],
-    [22, 23, 6],
-    [7, 8, 9],
-    [12, 12, 12],
-    [13, 13, 13],
-    [24, 24, 24],
-    [14, 14, 14],
-    [15, 15, 15],
+    [0, 1, 24],
+    [2, 1, 24],
+    [3, 15, 24],
+    [21, 22, 4],
+    [21, 22, 4],
+    [21, 22, 4],
+    [21, 22, 4],
+    [21, 22, 4],
+    [21, 22, 4],
+    [5, 6, 6],
+    [9, 9, 9],
+    [10, 10, 10],
+    [20, 20, 20],
     [16, 16, 16],
     [17, 17, 17],
     [18, 18, 18],
     [19, 19, 19],
-    [20, 20, 20],
-    [21, 21, 21],
-    [11, 26, 10],
-    [25, 25, 25],
+    [11, 11, 11],
+    [12, 12, 12],
+    [13, 13, 13],
+    [14, 14, 14],
+    [8, 24, 7],
+    [23, 23, 23],
 ];
 
 // Which number stands in a row's columns 1 to 3, two registers and one number more: 0 for none, else the instruction's first, second
-// or third number, 4 for the row that its label leads to, 5 for its first operand, 6 for the kind of a branch.
+// or third number, 4 for the row that its label leads to, 5 for its first operand, 6 for the kind of a branch, 7 for that of a constant.
 const COLUMNS: [[u8; 3]; 23] = [
     [1, 2, 0],
     [1, 2, 0],
@@ -51,7 +54,7 @@ const COLUMNS: [[u8; 3]; 23] = [
     [1, 6, 0],
     [1, 6, 0],
     [1, 6, 0],
-    [1, 0, 0],
+    [1, 7, 0],
     [1, 2, 3],
     [1, 3, 2],
     [1, 0, 5],
@@ -97,15 +100,25 @@ fn branch_kind(code: usize) -> usize
     code - 3
 }
 
+// A constant's kind, counted from that of integers on.
+fn constant_kind(kind: usize) -> usize
+    ensures { λ r. ⌜ r ≡ kind - 1 ⌝ }
+{
+    if kind < 1 {
+        return 0;
+    }
+    kind - 1
+}
+
 // The form; a code past the table is that of `halt`.
 fn form(code: usize, kind: usize) -> usize
     requires { ⌜ kind < 3 ⌝ }
-    ensures { λ r. ⌜ (r ≡ getD (getD forms code halts) kind 26) × (r < 256) ⌝ }
+    ensures { λ r. ⌜ (r ≡ getD (getD forms code halts) kind 24) × (r < 256) ⌝ }
 {
     if code < 23 {
         return wide(FORMS[code][kind]);
     }
-    25
+    23
 }
 
 fn column(code: usize, i: usize) -> usize
@@ -118,9 +131,9 @@ fn column(code: usize, i: usize) -> usize
     0
 }
 
-fn choose(k: usize, a: usize, b: usize, c: usize, t: usize, v: usize, o: usize) -> usize
-    requires { ⌜ (a < 65536) × (b < 65536) × (c < 65536) × (t < 65536) × (v < 65536) × (o < 65536) ⌝ }
-    ensures { λ r. ⌜ (r ≡ chosen k a b c t v o) × (r < 4294967296) ⌝ }
+fn choose(k: usize, a: usize, b: usize, c: usize, t: usize, v: usize, o: usize, q: usize) -> usize
+    requires { ⌜ (a < 65536) × (b < 65536) × (c < 65536) × (t < 65536) × (v < 65536) × (o < 65536) × (q < 65536) ⌝ }
+    ensures { λ r. ⌜ (r ≡ chosen k a b c t v o q) × (r < 4294967296) ⌝ }
 {
     match k {
         1 => a,
@@ -129,6 +142,7 @@ fn choose(k: usize, a: usize, b: usize, c: usize, t: usize, v: usize, o: usize) 
         4 => 8 * t,
         5 => v,
         6 => o,
+        7 => q,
         _ => 0,
     }
 }
@@ -142,24 +156,61 @@ fn number_at(numbers: &[u32], i: usize) -> u32
 // The form f, unless it goes to a label that is not there.
 fn checked(f: usize, label: usize, labels: usize) -> usize
     requires { ⌜ f < 256 ⌝ }
-    ensures { λ r. ⌜ (r ≡ cond (ltb label labels) f (cond (eqb f 6) 23 (cond (eqb f 10) 26 f))) × (r < 256) ⌝ }
+    ensures { λ r. ⌜ (r ≡ cond (ltb label labels) f (cond (eqb f 4) 22 (cond (eqb f 7) 24 f))) × (r < 256) ⌝ }
 {
     if label < labels {
         return f;
     }
     match f {
-        6 => 23,
-        10 => 26,
+        4 => 22,
+        7 => 24,
         _ => f,
     }
 }
 
-// How many operands `malloc` has, else the operand's number.
-fn last(code: usize, operands: usize, number: u32) -> u32
-    requires { ⌜ operands < 65536 ⌝ }
-    ensures { λ r. ⌜ r ≡ cond (eqb code 12) operands number ⌝ }
+// A row's class: its form, if that is below 15.
+fn class(f: usize) -> u32
+    ensures { λ r. ⌜ r ≡ classOf f ⌝ }
 {
-    if code == 12 { operands as u32 } else { number }
+    if f < 15 {
+        return f as u32;
+    }
+    15
+}
+
+// Column 5: the first goal of a branch; in a row of class 15 the form.
+fn fifth(f: usize, goal: u32) -> u32
+    requires { ⌜ f < 256 ⌝ }
+    ensures { λ r. ⌜ r ≡ fifthOf f goal ⌝ }
+{
+    if f < 15 {
+        return goal;
+    }
+    f as u32
+}
+
+// An integer that is to be taken away is added, negated.
+fn added(kind: usize, number: u32) -> u32
+    ensures { λ r. ⌜ r ≡ addedOf kind number ⌝ }
+{
+    if kind == 1 {
+        return arith::compute(1, 0, number);
+    }
+    number
+}
+
+// How many operands `malloc` has, else the operand's number.
+fn last(code: usize, kind: usize, operands: usize, number: u32) -> u32
+    requires { ⌜ operands < 65536 ⌝ }
+    ensures { λ r. ⌜ r ≡ lastOf code kind operands number ⌝ }
+{
+    if code == 12 {
+        return operands as u32;
+    }
+    if code == 1 {
+        return added(kind, number);
+    }
+    number
 }
 
 // The row where a branch of that kind on x leads: that of position t, or the one after j.
@@ -230,19 +281,20 @@ fn make_row(
     let label = memory::wide(n);
     let t = memory::entry(blocks, 2, label, 1);
     let o = branch_kind(code);
-    let x = choose(column(code, 0), a, b, c, t, v, o);
-    let y = choose(column(code, 1), a, b, c, t, v, o);
-    let z = choose(column(code, 2), a, b, c, t, v, o);
+    let q = constant_kind(kind);
+    let x = choose(column(code, 0), a, b, c, t, v, o, q);
+    let y = choose(column(code, 1), a, b, c, t, v, o, q);
+    let z = choose(column(code, 2), a, b, c, t, v, o, q);
     let f = checked(form(code, kind), label, labels);
     put_row(
         plan,
         p,
-        narrow(f),
+        class(f),
         narrow(x),
         narrow(y),
         narrow(z),
-        last(code, m, n),
-        goal(o, 2147483648, t, j),
+        last(code, kind, m, n),
+        fifth(f, goal(o, 2147483648, t, j)),
         goal(o, 0, t, j),
         goal(o, 1, t, j),
     );
@@ -266,5 +318,5 @@ pub fn predecode(
         make_row(instrs, operands, bases, blocks, labels, j, plan);
         j += 1;
     }
-    put_row(plan, 8 * count, 26, 0, 0, 0, 0, 0, 0, 0);
+    put_row(plan, 8 * count, 15, 0, 0, 0, 0, 24, 0, 0);
 }

@@ -192,7 +192,7 @@ module _ (text : List ℕ) (σ : Store) (uses tops : List ℕ) (r : Loaded) (l :
           go (suc zero) k = unfold blocksOf blocksFrom wanted in e _
           go (suc (suc n)) k = unfold blocksOf blocksFrom wanted in e _
 
-      pub may-start : (s c : ℕ) → f ≡ 0 → c ≡ cell 2 (σ .blocks) 0 0 → ((xs : List Instr) → s ≡ declared (blockOf (typeAt value (typesOf (rowsIn (rowTable σ) (r .rows))) c) xs .regs)) → (out : Ready) → out ≡ record { fault = 0; line = 0; blocks = r .blocks; instrs = r .instrs; samples = s } → ReadyIs text (σ .instrs) (σ .operands) (σ .numbers) (σ .blocks) out
+      pub may-start : (s c : ℕ) → f ≡ 0 → c ≡ cell 2 (σ .blocks) 0 0 → ((xs : List Instr) → s ≡ declared (blockOf (typeAt value (typesOf (rowsIn (rowTable σ) (r .rows))) c) xs .regs)) → (out : Ready) → out ≡ record { fits = true; fault = 0; line = 0; blocks = r .blocks; instrs = r .instrs; samples = s } → ReadyIs text (σ .instrs) (σ .operands) (σ .numbers) (σ .blocks) out
       may-start s c w ec ed out o =
           let es : (xs : List Instr) → s ≡ declared (blockOf (typeAt value T (cell 2 (σ .blocks) 0 0)) xs .regs) = λ xs. ed xs ∙ ap (λ (x : ℕ). declared (blockOf (typeAt value T x) xs .regs)) ec in
           let h = some-block w in
@@ -207,7 +207,9 @@ module _ (text : List ℕ) (σ : Store) (uses tops : List ℕ) (r : Loaded) (l :
               fit = record {
                 few = loaded .few-instrs;
                 registers = registers-low text (σ .blocks) (σ .instrs) (σ .operands) (σ .numbers) (σ .args) (r .instrs) (r .blocks) (loaded .blocks) h (loaded .first h);
+                room = loaded .room-operands;
                 starts = loaded .within;
               };
+              room = loaded .room-instrs;
             };
           })

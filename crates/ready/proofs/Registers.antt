@@ -15,7 +15,7 @@ use Rattle.text.specs.Grammar.{Field, Form, _>>=_, end, each, rest, rowNumber, 
 use Rattle.text.specs.PassOne.{said, entriesOf, Listing, grouped, listingsOf}
 use Rattle.tables.specs.Tables.{cell, span, OperandTable, baseOf, operandOf, operandAt, operandsAt, instrFrom, instrAt, instrsFrom, blocksFrom}
 use Rattle.memory.specs.Lent.{operandTable}
-use Rattle.machine.specs.Represents.{LowBase, LowOperand, Registered}
+use Rattle.machine.specs.Represents.{LowBase, LowOperand, LowOperands, Registered}
 
 -- ---- what holds of a value that may be missing
 unfoldable Given : {A : Type 0} → (A → Type 0) → Option A → Type 0
@@ -90,6 +90,16 @@ operand-low f = go (split 61 f)
     go (l ∷ t ∷ []) = carried-low (split 58 l) t
     go (l ∷ t ∷ u ∷ ps) = tt
 
+operands-low : (fs : List Field) → Given LowOperands (each operand fs)
+unfolding Given each
+operands-low [] = tt
+operands-low (f ∷ fs) = go (operand f) (operand-low f) (each operand fs) (operands-low fs)
+  where
+    go : (o : Option Operand) → Given LowOperand o → (os : Option (List Operand)) → Given LowOperands os → Given LowOperands (bind o (λ x. bind os (λ xs. some (x ∷ xs))))
+    go none h os k = tt
+    go (some v) h none k = tt
+    go (some v) h (some vs) k = (h, k)
+
 -- ---- forms
 abbrev LowEntry : Entry → Type 0
 LowEntry (row r) = Unit
@@ -122,23 +132,27 @@ field {A} {P} p h k g = record { reads = all }
     all (f ∷ fs) = go fs (p f) (h f)
 
 -- a field that may say anything
-any : {A : Type 0} (p : Field → Option A) (k : A → Form) → ((x : A) → Low (k x)) → Low (p >>= k)
+anything : {A : Type 0} (o : Option A) → Given (λ (x : A). Unit) o
 unfolding Given
-any {A} p k g = field {P = λ (x : A). Unit} p (λ f. go (p f)) k (λ x q. g x)
-  where
-    go : (o : Option A) → Given (λ (x : A). Unit) o
-    go none = tt
-    go (some x) = tt
+anything none = tt
+anything (some x) = tt
 
--- all the fields that are left
-others : {A : Type 0} (right : ℕ → Bool) (p : Field → Option A) (e : List A → Entry) → ((xs : List A) → LowEntry (e xs)) → Low (rest right p e)
+any : {A : Type 0} (p : Field → Option A) (k : A → Form) → ((x : A) → Low (k x)) → Low (p >>= k)
+any {A} p k g = field {P = λ (x : A). Unit} p (λ f. anything (p f)) k (λ x q. g x)
+
+-- all the fields that are left, of which P holds
+others : {A : Type 0} {P : List A → Type 0} (right : ℕ → Bool) (p : Field → Option A) (e : List A → Entry) → ((fs : List Field) → Given P (each p fs)) → ((xs : List A) → P xs → LowEntry (e xs)) → Low (rest right p e)
 unfolding Given rest
-others {A} right p e g = record { reads = λ fs. go (each p fs) (right (length fs)) }
+others {A} {P} right p e h g = record { reads = λ fs. go (each p fs) (h fs) (right (length fs)) }
   where
-    go : (o : Option (List A)) (t : Bool) → Given LowEntry (bind o (λ xs. when t (e xs)))
-    go none t = tt
-    go (some xs) true = g xs
-    go (some xs) false = tt
+    go : (o : Option (List A)) → Given P o → (t : Bool) → Given LowEntry (bind o (λ xs. when t (e xs)))
+    go none q t = tt
+    go (some xs) q true = g xs q
+    go (some xs) q false = tt
+
+-- of rows nothing is said
+other-rows : {A : Type 0} (right : ℕ → Bool) (p : Field → Option A) (e : List A → Row) → Low (rest right p (λ xs. row (e xs)))
+other-rows {A} right p e = others {P = λ (xs : List A). Unit} right p (λ xs. row (e xs)) (λ fs. anything (each p fs)) (λ xs q. tt)
 
 arith-low : (o : Arith) → Low (arithForm o)
 arith-low o = field _ register-low _ (λ d h. field _ register-low _ (λ s k. field _ operand-low _ (λ v l. ends (instr (aop o d s v)) (h, k, l))))
@@ -158,9 +172,9 @@ forms-low =
     ends (row rowI) tt
     also ends (row rowN) tt
     also any _ _ (λ k. ends (row (rowV k)) tt)
-    also others _ _ _ (λ ts. tt)
+    also other-rows _ _ _
     also any _ _ (λ s. ends (row (rowP s)) tt)
-    also any _ _ (λ q. any _ _ (λ s. others _ _ _ (λ rs. tt)))
+    also any _ _ (λ q. any _ _ (λ s. other-rows _ _ _))
     also ends (row rowE) tt
     also any _ _ (λ k. ends (row (rowX k)) tt)
     also any _ _ (λ t. any _ _ (λ s. ends (row (rowK t s)) tt))
@@ -178,7 +192,7 @@ forms-low =
     also field _ register-low _ (λ d h. field _ operand-low _ (λ v l. ends (instr (mov d v)) (h, l)))
     also field _ register-low _ (λ d h. field _ register-low _ (λ s k. any _ _ (λ i. ends (instr (ld d s i)) (h, k))))
     also field _ register-low _ (λ d h. any _ _ (λ i. field _ register-low _ (λ s k. ends (instr (st d i s)) (h, k))))
-    also field _ register-low _ (λ d h. any _ _ (λ t. others _ _ (λ vs. instr (malloc d t vs)) (λ vs. h)))
+    also field _ register-low _ (λ d h. any _ _ (λ t. others _ _ (λ vs. instr (malloc d t vs)) operands-low (λ vs l. (h, l))))
     also field _ register-low _ (λ d h. any _ _ (λ t. ends (instr (getsp d t)) h))
     also field _ register-low _ (λ s h. ends (instr (setsp s)) h)
     also any _ _ (λ n. ends (instr (salloc n)) tt)
@@ -295,6 +309,11 @@ module _ (os ns args : List ℕ) where
       let b : Base = baseOf (cell 4 os v 0) (getD ns v 0) in
       low-again b (span [] (8 * v) (cell 4 os v 1)) (cell 4 os v 2) (low-base b (span args (8 * v) (cell 4 os v 1)) (cell 4 os v 2) h)
 
+  low-all : (v n : ℕ) → LowOperands (operandsAt full v n) → LowOperands (operandsAt bare v n)
+  unfolding operandsAt
+  low-all v zero h = tt
+  low-all v (suc n) h = (low-bare v (h .0), low-all (suc v) n (h .1))
+
   either : (t : Bool) (x y x′ y′ : Instr) → (Registered x → Registered x′) → (Registered y → Registered y′) → Registered (cond t x y) → Registered (cond t x′ y′)
   either true x y x′ y′ f g h = f h
   either false x y x′ y′ f g h = g h
@@ -314,7 +333,7 @@ module _ (os ns args : List ℕ) where
       (either (eqb k 9) _ _ _ _ (λ h. (h .0, low-bare v (h .1)))
       (either (eqb k 10) _ _ _ _ (λ h. h)
       (either (eqb k 11) _ _ _ _ (λ h. h)
-      (either (eqb k 12) _ _ _ _ (λ h. h)
+      (either (eqb k 12) _ _ _ _ (λ h. (h .0, low-all v n (h .1)))
       (either (eqb k 13) _ _ _ _ (λ h. h)
       (either (eqb k 14) _ _ _ _ (λ h. h)
       (either (eqb k 15) _ _ _ _ (λ h. h)

@@ -1,10 +1,11 @@
-// A text that may be run: loaded (crate load), and with no fault on block 0's line (crate entry). Promised: what bars the program from
-// starting, as `barred` of crate exec has it, or else that the tables represent the program to the machine and fit it (`Fit` of crate
-// machine: few instructions, registers r1 to r8), and how many samples it wants. Asked: room in the tables.
+// A text that may be run: loaded (crate load), and with no fault on block 0's line (crate entry). Promised: whether the text fits the
+// tables that are lent, which every text does where they have `Space`. Where it fits, what bars the program from starting, as `barred` of
+// crate exec has it, or else that the tables represent the program to the machine and fit it (`Fit` of crate machine: few instructions,
+// registers r1 to r8, operands that stand in the tables), and how many samples it wants. Nothing is asked.
 ghost use mathlib.Core.Path.{_≡_};
 ghost use mathlib.Core.Bool.{true, cond};
 ghost use mathlib.Core.List.{List};
-ghost use Prim.Native.Nat.{_*_, _≤_};
+ghost use Prim.Native.Nat.{_≤_};
 ghost use lib.Dec.{eqb};
 ghost use lib.ListN.{length};
 ghost use Rattle.syntax.specs.Syntax.{value, Instr};
@@ -16,12 +17,14 @@ ghost use Rattle.valid.specs.Program.{blockOf};
 ghost use Rattle.valid.specs.PassThree.{blockFaults};
 ghost use Rattle.scope.specs.Scoped.{Scoped};
 ghost use Rattle.decode_store.specs.Store.{store};
+ghost use Rattle.decode.specs.Decoded.{Fitting};
 ghost use Rattle.load.specs.Loaded.{Space};
-ghost use Rattle.ready.specs.Ready.{barredAt, ReadyIs};
+ghost use Rattle.ready.specs.Ready.{unfitReady, barredAt, ReadyIs};
 
-// The fault that bars the program and its line, 0 and 0 for none; then how many blocks and instructions there are, and how many
-// samples are wanted.
+// Whether the text fits the tables; the fault that bars the program and its line, 0 and 0 for none; then how many blocks and instructions
+// there are, and how many samples are wanted.
 pub struct Ready {
+    pub fits: bool,
     pub fault: usize,
     pub line: usize,
     pub blocks: usize,
@@ -29,10 +32,24 @@ pub struct Ready {
     pub samples: usize,
 }
 
+fn unfit() -> Ready
+    ensures { λ r. ⌜ r ≡ unfitReady ⌝ }
+{
+    Ready {
+        fits: false,
+        fault: 0,
+        line: 0,
+        blocks: 0,
+        instrs: 0,
+        samples: 0,
+    }
+}
+
 fn barred(fault: usize, line: usize) -> Ready
     ensures { λ r. ⌜ r ≡ barredAt fault line ⌝ }
 {
     Ready {
+        fits: true,
         fault,
         line,
         blocks: 0,
@@ -60,8 +77,8 @@ fn first_fault(
     entry::block_fault(rows, parts, n, uses, tops, rows::at(blocks, 0), true)
 }
 
-// Load the text, and look at block 0's line.
-fn ready_in(
+// Load the text into the tables, and say what bars the program, or else how many samples it wants.
+pub fn make_ready(
     text: &[u8],
     rows: &mut [u16],
     parts: &mut [u16],
@@ -73,8 +90,7 @@ fn ready_in(
     uses: &mut [u8],
     tops: &mut [u16],
 ) -> Ready
-    requires { ⌜ Space (store (now rows) (now parts) (now operands) (now numbers) (now args) (now instrs) (now blocks)) (length (now uses)) (length (now tops)) ⌝ }
-    ensures { λ r. ⌜ ReadyIs (now (text .entry)) (now (instrs .exit)) (now (operands .exit)) (now (numbers .exit)) (now (blocks .exit)) r ⌝ }
+    ensures { λ r. ⌜ Fitting (Space (store (now (rows .entry)) (now (parts .entry)) (now (operands .entry)) (now (numbers .entry)) (now (args .entry)) (now (instrs .entry)) (now (blocks .entry))) (length (now (uses .entry))) (length (now (tops .entry)))) (r .fits) (ReadyIs (now (text .entry)) (now (instrs .exit)) (now (operands .exit)) (now (numbers .exit)) (now (blocks .exit)) r) ⌝ }
 {
     let r = load::load(
         text,
@@ -88,6 +104,9 @@ fn ready_in(
         uses,
         tops,
     );
+    if !r.fits {
+        return unfit();
+    }
     let fault = r.fault;
     if fault != 0 {
         return barred(fault, r.line);
@@ -97,40 +116,11 @@ fn ready_in(
         return barred(first, r.rows + 1);
     }
     Ready {
+        fits: true,
         fault: 0,
         line: 0,
         blocks: r.blocks,
         instrs: r.instrs,
         samples: entry::sample_count(rows, parts, r.rows, rows::at(blocks, 0)),
     }
-}
-
-// Load the text into the machine's tables, and say what bars the program, or else how many samples it wants.
-pub fn make_ready(
-    text: &[u8],
-    operands: &mut [u16],
-    numbers: &mut [u32],
-    instrs: &mut [u16],
-    blocks: &mut [u16],
-) -> Ready
-    requires { ⌜ (4 * 16400 ≤ length (now operands)) × (16400 ≤ length (now numbers)) × (8 * 1025 ≤ length (now instrs)) × (2 * 65 ≤ length (now blocks)) ⌝ }
-    ensures { λ r. ⌜ ReadyIs (now (text .entry)) (now (instrs .exit)) (now (operands .exit)) (now (numbers .exit)) (now (blocks .exit)) r ⌝ }
-{
-    let mut rows = [0u16; 2056];
-    let mut parts = [0u16; 8738];
-    let mut args = [0u16; 131200];
-    let mut uses = [0u8; 32768];
-    let mut tops = [0u16; 512];
-    ready_in(
-        text,
-        &mut rows,
-        &mut parts,
-        operands,
-        numbers,
-        &mut args,
-        instrs,
-        blocks,
-        &mut uses,
-        &mut tops,
-    )
 }

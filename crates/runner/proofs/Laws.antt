@@ -1,5 +1,5 @@
 -- From one step by the table's rows to the run.
-use mathlib.Core.Path.{_≡_, refl, ap, sym, _∙_, subst}
+use mathlib.Core.Path.{_≡_, refl, ap, ap₂, sym, _∙_, subst}
 use mathlib.Core.Bool.{Bool, true, false}
 use mathlib.Core.List.{List}
 use Prim.Native.Nat.{ℕ, zero, suc, _+_, _-_, _*_, _/_, _<_, _≤_}
@@ -11,17 +11,18 @@ use borrow.Author.Tests.{ltb-true, ltb-false}
 use Rattle.exec.specs.Machine.{Memory, State, Bodies, Stop, Result, go, stop, step}
 use Rattle.exec.specs.Run.{Ran, paused, stopped, ended, oneMore, after, run}
 use Rattle.tables.specs.Tables.{cell}
-use Rattle.memory.specs.Lent.{lent}
+use Rattle.memory.specs.Lent.{lent, Sourced}
 use Rattle.machine.specs.declared.Place.{Place}
 use Rattle.machine.specs.declared.Stop.{Stop as Reason}
 use Rattle.machine.specs.Step.{Tables, stopIs, stateOf, stepAt}
 use Rattle.machine.specs.Represents.{Represents, Fit}
 use Rattle.machine.proofs.Exec.{step-is}
-use Rattle.predecode.specs.Plan.{readsOperand, Plan}
-use Rattle.predecode.proofs.Rows.{low-first, low-second, low-operand}
-use Rattle.step.specs.declared.Moved.{Moved}
-use Rattle.step.specs.declared.Moved.the-variants as moved
-use Rattle.step.specs.Stepped.{held, Still, Stepped, Low}
+use Rattle.predecode.specs.Plan.{readsOperand, formIn, Plan}
+use Rattle.predecode.proofs.Rows.{class-low, other-low, low-first, low-second, low-operand, tuple-operands}
+use Rattle.moved.specs.declared.Moved.{Moved}
+use Rattle.moved.specs.declared.Moved.the-variants as moved
+use Rattle.moved.specs.Stepped.{held, Still, Stepped}
+use Rattle.step.specs.Rows.{formOf, FitRow}
 use Rattle.runner.specs.declared.Outcome.{Outcome}
 use Rattle.runner.specs.declared.Outcome.the-variants.{Paused, Ended}
 use Rattle.runner.specs.Runs.{ranIs, later}
@@ -147,18 +148,32 @@ module _ (T : Tables) (φ : List ℕ) (pl : Plan T φ) (fit : Fit T) (j at : ℕ
   entry : (k : ℕ) → cell 8 φ (σ .position) k ≡ getD φ (at + k) 0
   entry k = let q : 8 * σ .position + k ≡ at + k = omega arith in ap (λ (i : ℕ). getD φ i 0) q
 
-  form : cell 8 φ (σ .position) 0 ≡ getD φ at 0
-  form = let q : 8 * σ .position + 0 ≡ at = omega arith in ap (λ (i : ℕ). getD φ i 0) q
+  head : cell 8 φ (σ .position) 0 ≡ getD φ at 0
+  head = let q : 8 * σ .position + 0 ≡ at = omega arith in ap (λ (i : ℕ). getD φ i 0) q
 
-  low-row : Low φ at
-  low-row = record {
-    first = subst (λ (i : ℕ). i < 8) (entry 1) (low-first T φ pl σ within fit);
-    second = subst (λ (i : ℕ). i < 8) (entry 2) (low-second T φ pl σ within fit);
+  form : formIn (cell 8 φ (σ .position) 0) (cell 8 φ (σ .position) 5) ≡ formOf φ at
+  form = ap₂ formIn head (entry 5)
+
+  sourced : formOf φ at ≡ 20 → Sourced (T .operands) (T .bases) (getD φ (at + 3) 0) (getD φ (at + 4) 0)
+  sourced q =
+      let t = tuple-operands T φ pl σ within fit (form ∙ q) in
+      let s : Sourced (T .operands) (T .bases) (cell 8 φ (σ .position) 3) (cell 8 φ (σ .position) 4) = record { bases = t .0; operands = t .1; low = t .2 } in
+      subst (λ (n : ℕ). Sourced (T .operands) (T .bases) (getD φ (at + 3) 0) n) (entry 4) (subst (λ (v : ℕ). Sourced (T .operands) (T .bases) v (cell 8 φ (σ .position) 4)) (entry 3) s)
+
+  fit-row : FitRow φ (T .operands) (T .bases) at
+  fit-row = record {
+    class = subst (λ (i : ℕ). i < 16) head (class-low T φ pl σ within);
+    other = λ q. subst (λ (i : ℕ). 15 ≤ i) (entry 5) (other-low T φ pl σ within (head ∙ q));
+    columns = record {
+      first = subst (λ (i : ℕ). i < 8) (entry 1) (low-first T φ pl σ within fit);
+      second = subst (λ (i : ℕ). i < 8) (entry 2) (low-second T φ pl σ within fit);
+    };
     operand = λ r. subst (λ (i : ℕ). i < 8) (entry 4) (low-operand T φ pl σ within fit (ap readsOperand form ∙ r));
+    tuple = sourced;
   }
 
-pub row-low : (T : Tables) (φ : List ℕ) → Plan T φ → Fit T → (b : ℕ) (σ₀ : State) (R S H : Memory) (n at h u : ℕ) → Running T b σ₀ R S H n at h u → Low φ at
-row-low T φ pl fit b σ₀ R S H n at h u g = low-row T φ pl fit (g .position) at (g .place) (g .within) (held R S H h u (g .position)) refl
+pub row-fit : (T : Tables) (φ : List ℕ) → Plan T φ → Fit T → (b : ℕ) (σ₀ : State) (R S H : Memory) (n at h u : ℕ) → Running T b σ₀ R S H n at h u → FitRow φ (T .operands) (T .bases) at
+row-fit T φ pl fit b σ₀ R S H n at h u g = fit-row T φ pl fit (g .position) at (g .place) (g .within) (held R S H h u (g .position)) refl
 
 pub row-in : (T : Tables) (m b : ℕ) (σ₀ : State) (R S H : Memory) (n at h u : ℕ) → 8 * T .count + 8 ≤ m → Running T b σ₀ R S H n at h u → at + 8 ≤ m
 row-in T m b σ₀ R S H n at h u l g = omega (arith, g .place, g .within)

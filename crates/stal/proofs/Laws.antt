@@ -12,22 +12,16 @@ use Rattle.machine.specs.Step.{stateOf}
 use Rattle.launch.specs.declared.Answer as run
 use Rattle.launch.specs.declared.Outcome.{Outcome}
 use Rattle.launch.specs.Answers.{answerIs, outcomeIs}
-use Rattle.stal.specs.declared.Verdict.{Verdict}
-use Rattle.stal.specs.declared.Reply.{Reply}
-use Rattle.stal.specs.Numbers.{verdict, verdictBy, verdictOf, Last, Tells, replyOf, call, callOf}
+use Rattle.stal_numbers.specs.declared.Verdict.{Verdict}
+use Rattle.stal_numbers.specs.declared.Reply.{Reply}
+use Rattle.stal_numbers.specs.Numbers.{verdict, verdictBy, verdictOf, Last, Tells, replyOf, call, callOf}
 
 -- ---- start and continue
-pub by-reply : {a o : run.Answer} {r : Reply} → a ≡ o → r ≡ replyOf (answerIs o) → r ≡ replyOf (answerIs a)
-by-reply e h = h ∙ ap (λ (x : run.Answer). replyOf (answerIs x)) (sym e)
-
 pub called : (o : Outcome) (r : Reply) (rk rn sk sn hk hn : List ℕ) (e : exec.Outcome) → outcomeIs o rk rn sk sn hk hn ≡ e → r ≡ replyOf (answerIs (o .answer)) → call r (stateOf rk rn sk sn hk hn (o .place)) ≡ callOf e
 unfolding callOf
 called o r rk rn sk sn hk hn e h q = ap (λ (x : Reply). call x (stateOf rk rn sk sn hk hn (o .place))) q ∙ ap callOf h
 
 -- ---- check
-pub by-verdict : {a o : Answer} {v : Verdict} → a ≡ o → v ≡ verdictBy o → v ≡ verdictBy a
-by-verdict e h = h ∙ ap verdictBy (sym e)
-
 by-said : (a : Answer) → verdictBy a ≡ verdictOf (saidBy a) (verdictBy a .second)
 unfolding verdictOf
 by-said (Accepted b i) = refl

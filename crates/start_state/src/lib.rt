@@ -1,4 +1,5 @@
-// The state at the start: `set_start` writes the registers and the first tuple, and promises `initial` of crate exec.
+// The state at the start: `set_start` writes the registers and the first tuple, and promises `initial` of crate exec. Asked: at most
+// 16 samples, and eight registers.
 // rk and rn are the registers' kinds and numbers, hk and hn the heap's.
 ghost use mathlib.Core.Path.{_≡_};
 ghost use mathlib.Core.List.{List, [], _∷_, map};
@@ -13,6 +14,7 @@ use memory::Word;
 
 // "r1 its handle, other registers junk"
 fn set_registers(rk: &mut [u8], rn: &mut [u32])
+    requires { ⌜ (8 ≤ length (now rk)) × (8 ≤ length (now rn)) ⌝ }
     ensures { λ _. ⌜ lent (now (rk .exit)) (now (rn .exit)) ≡ puts (lent (now (rk .entry)) (now (rn .entry))) 0 (handle 0 ∷ junkWord ∷ junkWord ∷ junkWord ∷ junkWord ∷ junkWord ∷ junkWord ∷ junkWord ∷ []) ⌝ }
 {
     let w = Word {
@@ -52,7 +54,7 @@ pub fn set_start(
     hk: &mut [u8],
     hn: &mut [u32],
 ) -> Place
-    requires { ⌜ length (now samples) ≤ 16 ⌝ }
+    requires { ⌜ (length (now samples) ≤ 16) × (8 ≤ length (now rk)) × (8 ≤ length (now rn)) ⌝ }
     ensures { λ r. ⌜ ((sk sn : List ℕ) (p : Place) → stateOf (now (rk .exit)) (now (rn .exit)) sk sn (now (hk .exit)) (now (hn .exit)) r ≡ initial (now (samples .entry)) (stateOf (now (rk .entry)) (now (rn .entry)) sk sn (now (hk .entry)) (now (hn .entry)) p)) ⌝ }
 {
     set_registers(rk, rn);

@@ -1,104 +1,82 @@
-use Prim.Native.Nat.{_*_}
 use native.Mathlib.Omega.{arith}
-use Rattle.checker.proofs.Laws.{zeros-long, zeros-space}
+use Rattle.load.proofs.Laws.{zeros-long}
 use borrow.Author.Needs.{needs}
 use Rattle.checker.proofs.check.Statement.{statement}
 use Rattle.checker.proofs.check.Tie as tie
-use Rattle.checker.proofs.check.Reads as reads
-use Rattle.checker.proofs.check.Lts as lts
-use Rattle.checker.proofs.check_in.Reads as check-in-reads
 
--- src/lib.rt:123:9
-slice-aggregate-check-in : tie.Need-slice-aggregate-check-in
-slice-aggregate-check-in c = search needs
+slice-aggregate-check-large : tie.Need-slice-aggregate-check-large
+slice-aggregate-check-large c = search needs
 
--- src/lib.rt:124:9
-slice-aggregate-check-in-2 : tie.Need-slice-aggregate-check-in-2
-slice-aggregate-check-in-2 c = search needs
+slice-aggregate-check-large-2 : tie.Need-slice-aggregate-check-large-2
+slice-aggregate-check-large-2 c = search needs
 
--- src/lib.rt:125:9
-slice-aggregate-check-in-3 : tie.Need-slice-aggregate-check-in-3
-slice-aggregate-check-in-3 c = search needs
+slice-aggregate-check-large-3 : tie.Need-slice-aggregate-check-large-3
+slice-aggregate-check-large-3 c = search needs
 
--- src/lib.rt:126:9
-slice-aggregate-check-in-4 : tie.Need-slice-aggregate-check-in-4
-slice-aggregate-check-in-4 c = search needs
+slice-aggregate-check-large-4 : tie.Need-slice-aggregate-check-large-4
+slice-aggregate-check-large-4 c = search needs
 
--- src/lib.rt:127:9
-slice-aggregate-check-in-5 : tie.Need-slice-aggregate-check-in-5
-slice-aggregate-check-in-5 c = search needs
+check-large-requires : tie.Need-check-large-requires
+check-large-requires c κs = (zeros-long 8 8 (omega arith), zeros-long 64 64 (omega arith), zeros-long 4096 4096 (omega arith))
 
--- src/lib.rt:128:9
-slice-aggregate-check-in-6 : tie.Need-slice-aggregate-check-in-6
-slice-aggregate-check-in-6 c = search needs
-
--- src/lib.rt:129:9
-slice-aggregate-check-in-7 : tie.Need-slice-aggregate-check-in-7
-slice-aggregate-check-in-7 c = search needs
-
--- src/lib.rt:130:9
-slice-aggregate-check-in-8 : tie.Need-slice-aggregate-check-in-8
-slice-aggregate-check-in-8 c = search needs
-
--- src/lib.rt:131:9
-slice-aggregate-check-in-9 : tie.Need-slice-aggregate-check-in-9
-slice-aggregate-check-in-9 c = search needs
-
--- src/lib.rt:132:9
-slice-aggregate-check-in-10 : tie.Need-slice-aggregate-check-in-10
-slice-aggregate-check-in-10 c = search needs
-
--- src/lib.rt:133:9
-slice-aggregate-check-in-11 : tie.Need-slice-aggregate-check-in-11
-slice-aggregate-check-in-11 c = search needs
-
--- src/lib.rt:134:9
-slice-aggregate-check-in-12 : tie.Need-slice-aggregate-check-in-12
-slice-aggregate-check-in-12 c = search needs
-
--- src/lib.rt:135:9
-slice-aggregate-check-in-13 : tie.Need-slice-aggregate-check-in-13
-slice-aggregate-check-in-13 c = search needs
-
--- src/lib.rt:136:9
-slice-aggregate-check-in-14 : tie.Need-slice-aggregate-check-in-14
-slice-aggregate-check-in-14 c = search needs
-
--- src/lib.rt:137:9
-slice-aggregate-check-in-15 : tie.Need-slice-aggregate-check-in-15
-slice-aggregate-check-in-15 c = search needs
-
--- src/lib.rt:138:9
-slice-aggregate-check-in-16 : tie.Need-slice-aggregate-check-in-16
-slice-aggregate-check-in-16 c = search needs
-
--- src/lib.rt:121:5
-check-in-requires : tie.Need-check-in-requires
-check-in-requires c κs = (zeros-space, zeros-long 2056 (4 * 514) (omega arith), zeros-long 8738 (17 * 512) (omega arith), zeros-long 512 512 (omega arith), zeros-long 8 8 (omega arith), zeros-long 64 64 (omega arith), zeros-long 4096 4096 (omega arith))
-
--- src/lib.rt:102:1
 returns : tie.Need-returns
-returns c = search needs
+returns c = (c .before .before .before .before .check-large) .ensures
+
+slice-aggregate-check-small : tie.Need-slice-aggregate-check-small
+slice-aggregate-check-small c = search needs
+
+slice-aggregate-check-small-2 : tie.Need-slice-aggregate-check-small-2
+slice-aggregate-check-small-2 c = search needs
+
+slice-aggregate-check-small-3 : tie.Need-slice-aggregate-check-small-3
+slice-aggregate-check-small-3 c = search needs
+
+slice-aggregate-check-small-4 : tie.Need-slice-aggregate-check-small-4
+slice-aggregate-check-small-4 c = search needs
+
+check-small-requires : tie.Need-check-small-requires
+check-small-requires c κs = (zeros-long 8 8 (omega arith), zeros-long 64 64 (omega arith), zeros-long 4096 4096 (omega arith))
+
+returns-2 : tie.Need-returns-2
+returns-2 c = (c .before .before .before .before .before .check-small) .ensures ((c .if2) .taken)
+
+slice-aggregate-check-large-5 : tie.Need-slice-aggregate-check-large-5
+slice-aggregate-check-large-5 c = search needs
+
+slice-aggregate-check-large-6 : tie.Need-slice-aggregate-check-large-6
+slice-aggregate-check-large-6 c = search needs
+
+slice-aggregate-check-large-7 : tie.Need-slice-aggregate-check-large-7
+slice-aggregate-check-large-7 c = search needs
+
+slice-aggregate-check-large-8 : tie.Need-slice-aggregate-check-large-8
+slice-aggregate-check-large-8 c = search needs
+
+check-large-requires-2 : tie.Need-check-large-requires-2
+check-large-requires-2 c κs = (omega (arith, zeros-long 8 8 (omega arith), (c .before .before .before .before .before .before .before .before .before .check-small) .kept .1 .1 .0), omega (arith, zeros-long 64 64 (omega arith), (c .before .before .before .before .before .before .before .before .before .check-small) .kept .1 .1 .1 .0), omega (arith, zeros-long 4096 4096 (omega arith), (c .before .before .before .before .before .before .before .before .before .check-small) .kept .1 .1 .1 .1 .0))
+
+returns-3 : tie.Need-returns-3
+returns-3 c = (c .before .before .before .before .check-large2) .ensures
 
 pub check-spec : {M : Type 1} → statement M
 check-spec =
     tie.close
     (tie.spec
-    slice-aggregate-check-in
-    slice-aggregate-check-in-2
-    slice-aggregate-check-in-3
-    slice-aggregate-check-in-4
-    slice-aggregate-check-in-5
-    slice-aggregate-check-in-6
-    slice-aggregate-check-in-7
-    slice-aggregate-check-in-8
-    slice-aggregate-check-in-9
-    slice-aggregate-check-in-10
-    slice-aggregate-check-in-11
-    slice-aggregate-check-in-12
-    slice-aggregate-check-in-13
-    slice-aggregate-check-in-14
-    slice-aggregate-check-in-15
-    slice-aggregate-check-in-16
-    check-in-requires
-    returns)
+    slice-aggregate-check-large
+    slice-aggregate-check-large-2
+    slice-aggregate-check-large-3
+    slice-aggregate-check-large-4
+    check-large-requires
+    returns
+    slice-aggregate-check-small
+    slice-aggregate-check-small-2
+    slice-aggregate-check-small-3
+    slice-aggregate-check-small-4
+    check-small-requires
+    returns-2
+    slice-aggregate-check-large-5
+    slice-aggregate-check-large-6
+    slice-aggregate-check-large-7
+    slice-aggregate-check-large-8
+    check-large-requires-2
+    returns-3)

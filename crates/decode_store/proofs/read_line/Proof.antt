@@ -14,117 +14,86 @@ use Rattle.decode_store.proofs.LineLaws.{line-unnamed, line-bad, line-g
 use borrow.Author.Needs.{needs}
 use Rattle.decode_store.proofs.read_line.Statement.{statement}
 use Rattle.decode_store.proofs.read_line.Tie as tie
-use Rattle.decode_store.proofs.read_line.Reads as reads
-use Rattle.decode_store.proofs.read_line.Lts as lts
-use Rattle.decode_store.proofs.no_line.Reads as no-line-reads
-use Rattle.decode_store.proofs.put_line.Reads as put-line-reads
-use Rattle.decode_store.proofs.read_rest.Reads as read-rest-reads
-use Rattle.fields.proofs.name_code.Reads as name-code-reads
-use Rattle.lines.proofs.field_end.Reads as field-end-reads
 
--- src/lib.rt:140:9
 field-end-requires : tie.Need-field-end-requires
 field-end-requires c κs = (c .before .before .before .before .before .before .before .before .pre) .2
 
--- src/lib.rt:141:34
 sub-name-code : tie.Need-sub-name-code
 sub-name-code c = search needs
 
--- src/lib.rt:141:34
 part-name-code-start : tie.Need-part-name-code-start
 part-name-code-start c = search needs
 
--- src/lib.rt:141:34
 part-name-code-end : tie.Need-part-name-code-end
 part-name-code-end c =
     let h = field-read (((c .before .before .before .before .before .before .before .before .before .args) .text) .now) 0 ((c .field-end) .result) ((c .before .before .before .before .before .before .before .before .before .pre) .2) ((c .field-end) .ensures) in
     omega arith
 
--- src/lib.rt:141:9
 name-code-requires : tie.Need-name-code-requires
 name-code-requires c κs = search needs
 
--- src/lib.rt:143:9
 no-line-requires : tie.Need-no-line-requires
 no-line-requires c κs = search needs
 
--- src/lib.rt:143:9
 returns : tie.Need-returns
 returns c = no-line-is (((c .before .before .before .before .before .before .before .before .before .before .before .before .before .args) .text) .now) (lineIn (((c .before .before .before .before .before .before .before .before .before .before .before .before .before .args) .text) .now)) ((c .before .before .before .before .before .before .before .before .before .before .before .before .before .args) .u) (store (((c .before .before .before .before .before .before .before .before .before .before .before .before .before .args) .rows) .now) (((c .before .before .before .before .before .before .before .before .before .before .before .before .before .args) .parts) .now) (((c .before .before .before .before .before .before .before .before .before .before .before .before .before .args) .operands) .now) (((c .before .before .before .before .before .before .before .before .before .before .before .before .before .args) .numbers) .now) (((c .before .before .before .before .before .before .before .before .before .before .before .before .before .args) .args) .now) (((c .before .before .before .before .before .before .before .before .before .before .before .before .before .args) .instrs) .now) (((c .before .before .before .before .before .before .before .before .before .before .before .before .before .args) .blocks) .now)) (store (((c .before .before .before .before .before .before .before .before .before .before .before .before .before .args) .rows) .now) (((c .before .before .before .before .before .before .before .before .before .before .before .before .before .args) .parts) .now) (((c .before .before .before .before .before .before .before .before .before .before .before .before .before .args) .operands) .now) (((c .before .before .before .before .before .before .before .before .before .before .before .before .before .args) .numbers) .now) (((c .before .before .before .before .before .before .before .before .before .before .before .before .before .args) .args) .now) (((c .before .before .before .before .before .before .before .before .before .before .before .before .before .args) .instrs) .now) (((c .before .before .before .before .before .before .before .before .before .before .before .before .before .args) .blocks) .now)) ((c .no-line) .result) ((c .no-line) .ensures) (line-unnamed (lineIn (((c .before .before .before .before .before .before .before .before .before .before .before .before .before .args) .text) .now)) ((c .before .before .before .before .before .before .before .before .before .before .before .before .before .args) .u) (store (((c .before .before .before .before .before .before .before .before .before .before .before .before .before .args) .rows) .now) (((c .before .before .before .before .before .before .before .before .before .before .before .before .before .args) .parts) .now) (((c .before .before .before .before .before .before .before .before .before .before .before .before .before .args) .operands) .now) (((c .before .before .before .before .before .before .before .before .before .before .before .before .before .args) .numbers) .now) (((c .before .before .before .before .before .before .before .before .before .before .before .before .before .args) .args) .now) (((c .before .before .before .before .before .before .before .before .before .before .before .before .before .args) .instrs) .now) (((c .before .before .before .before .before .before .before .before .before .before .before .before .before .args) .blocks) .now)) ((c .before .before .name-code) .result) (fieldsFrom (lineIn (((c .before .before .before .before .before .before .before .before .before .before .before .before .before .args) .text) .now)) ((c .before .before .before .before .field-end) .result + 1)) (entry-is (lineIn (((c .before .before .before .before .before .before .before .before .before .before .before .before .before .args) .text) .now)) ((c .before .before .before .before .field-end) .result) ((c .before .before .name-code) .result) ((c .before .before .before .before .field-end) .ensures) ((c .before .before .name-code) .ensures ∙ ap nameCode (same-field (((c .before .before .before .before .before .before .before .before .before .before .before .before .before .args) .text) .now) 0 ((c .before .before .before .before .field-end) .result) ((c .before .before .before .before .before .before .before .before .before .before .before .before .before .pre) .2) ((c .before .before .before .before .field-end) .ensures)))) ((c .before .if1) .taken))
 
--- src/lib.rt:145:9
 read-rest-requires : tie.Need-read-rest-requires
-read-rest-requires c κs = ((c .before .before .before .before .if1) .left, stop-behind (((c .before .before .before .before .before .before .before .before .before .before .before .before .before .before .before .before .args) .text) .now) 0 ((c .before .before .before .before .before .before .before .field-end) .result) ((c .before .before .before .before .before .before .before .before .before .before .before .before .before .before .before .before .pre) .2) ((c .before .before .before .before .before .before .before .field-end) .ensures), (c .before .before .before .before .before .before .before .before .before .before .before .before .before .before .before .before .pre) .0 .parts, record { kinds = (c .before .before .before .before .before .before .before .before .before .before .before .before .before .before .before .before .pre) .0 .operands; bases = (c .before .before .before .before .before .before .before .before .before .before .before .before .before .before .before .before .pre) .0 .numbers; rows = (c .before .before .before .before .before .before .before .before .before .before .before .before .before .before .before .before .pre) .0 .args }, (c .before .before .before .before .before .before .before .before .before .before .before .before .before .before .before .before .pre) .1)
+read-rest-requires c κs = ((c .before .before .before .before .if1) .left, stop-behind (((c .before .before .before .before .before .before .before .before .before .before .before .before .before .before .before .before .args) .text) .now) 0 ((c .before .before .before .before .before .before .before .field-end) .result) ((c .before .before .before .before .before .before .before .before .before .before .before .before .before .before .before .before .pre) .2) ((c .before .before .before .before .before .before .before .field-end) .ensures), (c .before .before .before .before .before .before .before .before .before .before .before .before .before .before .before .before .pre) .0 .parts, (c .before .before .before .before .before .before .before .before .before .before .before .before .before .before .before .before .pre) .0 .operands, (c .before .before .before .before .before .before .before .before .before .before .before .before .before .before .before .before .pre) .1)
 
--- src/lib.rt:147:9
 no-line-requires-2 : tie.Need-no-line-requires-2
 no-line-requires-2 c κs = search needs
 
--- src/lib.rt:147:9
 same-length : tie.Need-same-length
 same-length c = search needs
 
--- src/lib.rt:147:9
 same-length-2 : tie.Need-same-length-2
 same-length-2 c = search needs
 
--- src/lib.rt:147:9
 same-length-3 : tie.Need-same-length-3
 same-length-3 c = search needs
 
--- src/lib.rt:147:9
 same-length-4 : tie.Need-same-length-4
 same-length-4 c = search needs
 
--- src/lib.rt:147:9
 returns-2 : tie.Need-returns-2
 returns-2 c = no-line-is (((c .before .before .before .before .before .before .before .before .before .before .before .before .before .before .before .before .before .before .before .before .before .before .before .before .before .before .before .before .args) .text) .now) (lineIn (((c .before .before .before .before .before .before .before .before .before .before .before .before .before .before .before .before .before .before .before .before .before .before .before .before .before .before .before .before .args) .text) .now)) ((c .before .before .before .before .before .before .before .before .before .before .before .before .before .before .before .before .before .before .before .before .before .before .before .before .before .before .before .before .args) .u) (store (((c .before .before .before .before .before .before .before .before .before .before .before .before .before .before .before .before .before .before .before .before .before .before .before .before .before .before .before .before .args) .rows) .now) (((c .before .before .before .before .before .before .before .before .before .before .before .before .before .before .before .before .before .before .before .before .before .before .before .before .before .before .before .before .args) .parts) .now) (((c .before .before .before .before .before .before .before .before .before .before .before .before .before .before .before .before .before .before .before .before .before .before .before .before .before .before .before .before .args) .operands) .now) (((c .before .before .before .before .before .before .before .before .before .before .before .before .before .before .before .before .before .before .before .before .before .before .before .before .before .before .before .before .args) .numbers) .now) (((c .before .before .before .before .before .before .before .before .before .before .before .before .before .before .before .before .before .before .before .before .before .before .before .before .before .before .before .before .args) .args) .now) (((c .before .before .before .before .before .before .before .before .before .before .before .before .before .before .before .before .before .before .before .before .before .before .before .before .before .before .before .before .args) .instrs) .now) (((c .before .before .before .before .before .before .before .before .before .before .before .before .before .before .before .before .before .before .before .before .before .before .before .before .before .before .before .before .args) .blocks) .now)) (store (((c .before .before .before .before .before .before .before .before .before .before .before .before .before .before .before .before .before .before .before .before .before .before .before .before .before .before .before .before .args) .rows) .now) ((c .before .before .before .before .before .before .before .before .before .before .before .read-rest) .last .1 .1 .1 .0) ((c .before .before .before .before .before .before .before .before .before .before .before .read-rest) .last .1 .1 .1 .1 .0) ((c .before .before .before .before .before .before .before .before .before .before .before .read-rest) .last .1 .1 .1 .1 .1 .0) ((c .before .before .before .before .before .before .before .before .before .before .before .read-rest) .last .1 .1 .1 .1 .1 .1 .0) (((c .before .before .before .before .before .before .before .before .before .before .before .before .before .before .before .before .before .before .before .before .before .before .before .before .before .before .before .before .args) .instrs) .now) (((c .before .before .before .before .before .before .before .before .before .before .before .before .before .before .before .before .before .before .before .before .before .before .before .before .before .before .before .before .args) .blocks) .now)) ((c .no-line2) .result) ((c .no-line2) .ensures) (line-bad (lineIn (((c .before .before .before .before .before .before .before .before .before .before .before .before .before .before .before .before .before .before .before .before .before .before .before .before .before .before .before .before .args) .text) .now)) ((c .before .before .before .before .before .before .before .before .before .before .before .before .before .before .before .before .before .before .before .before .before .before .before .before .before .before .before .before .args) .u) (store (((c .before .before .before .before .before .before .before .before .before .before .before .before .before .before .before .before .before .before .before .before .before .before .before .before .before .before .before .before .args) .rows) .now) (((c .before .before .before .before .before .before .before .before .before .before .before .before .before .before .before .before .before .before .before .before .before .before .before .before .before .before .before .before .args) .parts) .now) (((c .before .before .before .before .before .before .before .before .before .before .before .before .before .before .before .before .before .before .before .before .before .before .before .before .before .before .before .before .args) .operands) .now) (((c .before .before .before .before .before .before .before .before .before .before .before .before .before .before .before .before .before .before .before .before .before .before .before .before .before .before .before .before .args) .numbers) .now) (((c .before .before .before .before .before .before .before .before .before .before .before .before .before .before .before .before .before .before .before .before .before .before .before .before .before .before .before .before .args) .args) .now) (((c .before .before .before .before .before .before .before .before .before .before .before .before .before .before .before .before .before .before .before .before .before .before .before .before .before .before .before .before .args) .instrs) .now) (((c .before .before .before .before .before .before .before .before .before .before .before .before .before .before .before .before .before .before .before .before .before .before .before .before .before .before .before .before .args) .blocks) .now)) ((c .before .before .before .before .before .before .before .before .before .before .before .before .before .before .before .before .before .name-code) .result) (fieldsFrom (lineIn (((c .before .before .before .before .before .before .before .before .before .before .before .before .before .before .before .before .before .before .before .before .before .before .before .before .before .before .before .before .args) .text) .now)) ((c .before .before .before .before .before .before .before .before .before .before .before .before .before .before .before .before .before .before .before .field-end) .result + 1)) (entry-is (lineIn (((c .before .before .before .before .before .before .before .before .before .before .before .before .before .before .before .before .before .before .before .before .before .before .before .before .before .before .before .before .args) .text) .now)) ((c .before .before .before .before .before .before .before .before .before .before .before .before .before .before .before .before .before .before .before .field-end) .result) ((c .before .before .before .before .before .before .before .before .before .before .before .before .before .before .before .before .before .name-code) .result) ((c .before .before .before .before .before .before .before .before .before .before .before .before .before .before .before .before .before .before .before .field-end) .ensures) ((c .before .before .before .before .before .before .before .before .before .before .before .before .before .before .before .before .before .name-code) .ensures ∙ ap nameCode (same-field (((c .before .before .before .before .before .before .before .before .before .before .before .before .before .before .before .before .before .before .before .before .before .before .before .before .before .before .before .before .args) .text) .now) 0 ((c .before .before .before .before .before .before .before .before .before .before .before .before .before .before .before .before .before .before .before .field-end) .result) ((c .before .before .before .before .before .before .before .before .before .before .before .before .before .before .before .before .before .before .before .before .before .before .before .before .before .before .before .before .pre) .2) ((c .before .before .before .before .before .before .before .before .before .before .before .before .before .before .before .before .before .before .before .field-end) .ensures)))) ((c .before .before .before .before .before .before .before .before .before .before .before .read-rest) .last .1 .1 .1 .0) ((c .before .before .before .before .before .before .before .before .before .before .before .read-rest) .last .1 .1 .1 .1 .0) ((c .before .before .before .before .before .before .before .before .before .before .before .read-rest) .last .1 .1 .1 .1 .1 .0) ((c .before .before .before .before .before .before .before .before .before .before .before .read-rest) .last .1 .1 .1 .1 .1 .1 .0) ((c .before .before .before .before .before .before .before .before .before .before .before .read-rest) .result) ((c .before .before .before .before .before .before .before .before .before .before .before .read-rest) .ensures .0) (not-true ((c .before .before .before .before .before .before .before .before .before .before .before .read-rest) .result .ok) ((c .before .if2) .taken)))
 
--- src/lib.rt:149:9
 put-line-requires : tie.Need-put-line-requires
 put-line-requires c κs = ((c .before .before .before .before .before .before .before .before .before .before .before .before .before .before .before .before .before .before .if1) .left, (c .before .before .before .before .before .before .before .before .before .before .before .before .before .before .before .before .before .before .before .before .before .before .before .before .before .before .before .before .before .before .pre) .0 .rows, (c .before .before .before .before .before .before .before .before .before .before .before .before .before .before .before .before .before .before .before .before .before .before .before .before .before .before .before .before .before .before .pre) .0 .instrs, (c .before .before .before .before .before .before .before .before .before .before .before .before .before .before .before .before .before .before .before .before .before .before .before .before .before .before .before .before .before .before .pre) .0 .blocks, (c .before .before .before .before .before .before .before .before .before .before .before .before .before .before .before .before .before .before .before .before .before .before .before .before .before .before .before .before .before .before .pre) .1)
 
--- src/lib.rt:152:15
 add-t15 : tie.Need-add-t15
 add-t15 c =
     let e = (c .before .before .before .before .before .before .before .before .before .before .before .before .before .before .before .before .before .before .before .before .before .read-rest) .ensures .1 (not-false ((c .before .before .before .before .before .before .before .before .before .before .before .before .before .before .before .before .before .before .before .before .before .read-rest) .result .ok) ((c .before .before .before .before .before .before .before .before .before .before .before .if2) .left)) in
     let h = (c .before .before .before .before .before .before .before .before .before .before .before .before .before .before .before .before .before .before .before .before .before .before .before .before .before .before .before .before .before .before .before .before .before .before .before .before .before .before .pre) .2 .ended in
     omega (arith, (c .before .before .before .before .before .before .before .before .before .before .before .before .before .before .before .before .before .before .before .before .before .before .before .before .before .before .before .before .before .before .before .before .before .before .before .before .before .before .good) .0 .0)
 
--- src/lib.rt:126:1
 same-length-5 : tie.Need-same-length-5
 same-length-5 c = search needs
 
--- src/lib.rt:126:1
 same-length-6 : tie.Need-same-length-6
 same-length-6 c = search needs
 
--- src/lib.rt:126:1
 same-length-7 : tie.Need-same-length-7
 same-length-7 c = search needs
 
--- src/lib.rt:126:1
 same-length-8 : tie.Need-same-length-8
 same-length-8 c = search needs
 
--- src/lib.rt:126:1
 same-length-9 : tie.Need-same-length-9
 same-length-9 c = search needs
 
--- src/lib.rt:126:1
 same-length-10 : tie.Need-same-length-10
 same-length-10 c = search needs
 
--- src/lib.rt:126:1
 same-length-11 : tie.Need-same-length-11
 same-length-11 c = search needs
 
--- src/lib.rt:126:1
 returns-3 : tie.Need-returns-3
 returns-3 c =
     let w = (c .before .before .before .before .before .before .before .put-line) .last in
     let t = not-false ((c .before .before .before .before .before .before .before .before .before .before .before .before .before .before .before .before .before .before .before .before .before .read-rest) .result .ok) ((c .before .before .before .before .before .before .before .before .before .before .before .if2) .left) in
-    (line-good (lineIn (((c .before .before .before .before .before .before .before .before .before .before .before .before .before .before .before .before .before .before .before .before .before .before .before .before .before .before .before .before .before .before .before .before .before .before .before .before .before .before .args) .text) .now)) ((c .before .before .before .before .before .before .before .before .before .before .before .before .before .before .before .before .before .before .before .before .before .before .before .before .before .before .before .before .before .before .before .before .before .before .before .before .before .before .args) .u) (store (((c .before .before .before .before .before .before .before .before .before .before .before .before .before .before .before .before .before .before .before .before .before .before .before .before .before .before .before .before .before .before .before .before .before .before .before .before .before .before .args) .rows) .now) (((c .before .before .before .before .before .before .before .before .before .before .before .before .before .before .before .before .before .before .before .before .before .before .before .before .before .before .before .before .before .before .before .before .before .before .before .before .before .before .args) .parts) .now) (((c .before .before .before .before .before .before .before .before .before .before .before .before .before .before .before .before .before .before .before .before .before .before .before .before .before .before .before .before .before .before .before .before .before .before .before .before .before .before .args) .operands) .now) (((c .before .before .before .before .before .before .before .before .before .before .before .before .before .before .before .before .before .before .before .before .before .before .before .before .before .before .before .before .before .before .before .before .before .before .before .before .before .before .args) .numbers) .now) (((c .before .before .before .before .before .before .before .before .before .before .before .before .before .before .before .before .before .before .before .before .before .before .before .before .before .before .before .before .before .before .before .before .before .before .before .before .before .before .args) .args) .now) (((c .before .before .before .before .before .before .before .before .before .before .before .before .before .before .before .before .before .before .before .before .before .before .before .before .before .before .before .before .before .before .before .before .before .before .before .before .before .before .args) .instrs) .now) (((c .before .before .before .before .before .before .before .before .before .before .before .before .before .before .before .before .before .before .before .before .before .before .before .before .before .before .before .before .before .before .before .before .before .before .before .before .before .before .args) .blocks) .now)) ((c .before .before .before .before .before .before .before .before .before .before .before .before .before .before .before .before .before .before .before .before .before .before .before .before .before .before .before .name-code) .result) (fieldsFrom (lineIn (((c .before .before .before .before .before .before .before .before .before .before .before .before .before .before .before .before .before .before .before .before .before .before .before .before .before .before .before .before .before .before .before .before .before .before .before .before .before .before .args) .text) .now)) ((c .before .before .before .before .before .before .before .before .before .before .before .before .before .before .before .before .before .before .before .before .before .before .before .before .before .before .before .before .before .field-end) .result + 1)) (entry-is (lineIn (((c .before .before .before .before .before .before .before .before .before .before .before .before .before .before .before .before .before .before .before .before .before .before .before .before .before .before .before .before .before .before .before .before .before .before .before .before .before .before .args) .text) .now)) ((c .before .before .before .before .before .before .before .before .before .before .before .before .before .before .before .before .before .before .before .before .before .before .before .before .before .before .before .before .before .field-end) .result) ((c .before .before .before .before .before .before .before .before .before .before .before .before .before .before .before .before .before .before .before .before .before .before .before .before .before .before .before .name-code) .result) ((c .before .before .before .before .before .before .before .before .before .before .before .before .before .before .before .before .before .before .before .before .before .before .before .before .before .before .before .before .before .field-end) .ensures) ((c .before .before .before .before .before .before .before .before .before .before .before .before .before .before .before .before .before .before .before .before .before .before .before .before .before .before .before .name-code) .ensures ∙ ap nameCode (same-field (((c .before .before .before .before .before .before .before .before .before .before .before .before .before .before .before .before .before .before .before .before .before .before .before .before .before .before .before .before .before .before .before .before .before .before .before .before .before .before .args) .text) .now) 0 ((c .before .before .before .before .before .before .before .before .before .before .before .before .before .before .before .before .before .before .before .before .before .before .before .before .before .before .before .before .before .field-end) .result) ((c .before .before .before .before .before .before .before .before .before .before .before .before .before .before .before .before .before .before .before .before .before .before .before .before .before .before .before .before .before .before .before .before .before .before .before .before .before .before .pre) .2) ((c .before .before .before .before .before .before .before .before .before .before .before .before .before .before .before .before .before .before .before .before .before .before .before .before .before .before .before .before .before .field-end) .ensures)))) ((c .before .before .before .before .before .before .before .before .before .before .before .before .before .before .before .before .before .before .before .before .before .read-rest) .last .1 .1 .1 .0) ((c .before .before .before .before .before .before .before .before .before .before .before .before .before .before .before .before .before .before .before .before .before .read-rest) .last .1 .1 .1 .1 .0) ((c .before .before .before .before .before .before .before .before .before .before .before .before .before .before .before .before .before .before .before .before .before .read-rest) .last .1 .1 .1 .1 .1 .0) ((c .before .before .before .before .before .before .before .before .before .before .before .before .before .before .before .before .before .before .before .before .before .read-rest) .last .1 .1 .1 .1 .1 .1 .0) ((c .before .before .before .before .before .before .before .before .before .before .before .before .before .before .before .before .before .before .before .before .before .read-rest) .result) ((c .before .before .before .before .before .before .before .before .before .before .before .before .before .before .before .before .before .before .before .before .before .read-rest) .ensures .0) t ((c .before .before .before .before .before .before .before .before .before .before .before .before .before .before .before .before .before .before .before .before .before .before .before .before .before .before .before .before .before .before .before .before .before .before .before .before .before .before .pre) .0) ((c .before .before .before .before .before .before .before .before .before .before .before .before .before .before .before .before .before .before .before .before .before .before .before .before .before .before .before .before .before .before .before .before .before .before .before .before .before .before .pre) .1) (w .1 .1 .0) (w .1 .1 .1 .0) (w .1 .1 .1 .1 .0) ((c .before .before .before .before .before .before .before .put-line) .result) ((c .before .before .before .before .before .before .before .before .before .before .before .before .before .before .before .before .before .before .before .before .before .before .before .before .before .before .if1) .left) ((c .before .before .before .before .before .before .before .put-line) .ensures), λ h. (c .before .before .before .before .before .before .before .before .before .before .before .before .before .before .before .before .before .before .before .before .before .read-rest) .ensures .1 t)
+    (line-good (lineIn (((c .before .before .before .before .before .before .before .before .before .before .before .before .before .before .before .before .before .before .before .before .before .before .before .before .before .before .before .before .before .before .before .before .before .before .before .before .before .before .args) .text) .now)) ((c .before .before .before .before .before .before .before .before .before .before .before .before .before .before .before .before .before .before .before .before .before .before .before .before .before .before .before .before .before .before .before .before .before .before .before .before .before .before .args) .u) (store (((c .before .before .before .before .before .before .before .before .before .before .before .before .before .before .before .before .before .before .before .before .before .before .before .before .before .before .before .before .before .before .before .before .before .before .before .before .before .before .args) .rows) .now) (((c .before .before .before .before .before .before .before .before .before .before .before .before .before .before .before .before .before .before .before .before .before .before .before .before .before .before .before .before .before .before .before .before .before .before .before .before .before .before .args) .parts) .now) (((c .before .before .before .before .before .before .before .before .before .before .before .before .before .before .before .before .before .before .before .before .before .before .before .before .before .before .before .before .before .before .before .before .before .before .before .before .before .before .args) .operands) .now) (((c .before .before .before .before .before .before .before .before .before .before .before .before .before .before .before .before .before .before .before .before .before .before .before .before .before .before .before .before .before .before .before .before .before .before .before .before .before .before .args) .numbers) .now) (((c .before .before .before .before .before .before .before .before .before .before .before .before .before .before .before .before .before .before .before .before .before .before .before .before .before .before .before .before .before .before .before .before .before .before .before .before .before .before .args) .args) .now) (((c .before .before .before .before .before .before .before .before .before .before .before .before .before .before .before .before .before .before .before .before .before .before .before .before .before .before .before .before .before .before .before .before .before .before .before .before .before .before .args) .instrs) .now) (((c .before .before .before .before .before .before .before .before .before .before .before .before .before .before .before .before .before .before .before .before .before .before .before .before .before .before .before .before .before .before .before .before .before .before .before .before .before .before .args) .blocks) .now)) ((c .before .before .before .before .before .before .before .before .before .before .before .before .before .before .before .before .before .before .before .before .before .before .before .before .before .before .before .name-code) .result) (fieldsFrom (lineIn (((c .before .before .before .before .before .before .before .before .before .before .before .before .before .before .before .before .before .before .before .before .before .before .before .before .before .before .before .before .before .before .before .before .before .before .before .before .before .before .args) .text) .now)) ((c .before .before .before .before .before .before .before .before .before .before .before .before .before .before .before .before .before .before .before .before .before .before .before .before .before .before .before .before .before .field-end) .result + 1)) (entry-is (lineIn (((c .before .before .before .before .before .before .before .before .before .before .before .before .before .before .before .before .before .before .before .before .before .before .before .before .before .before .before .before .before .before .before .before .before .before .before .before .before .before .args) .text) .now)) ((c .before .before .before .before .before .before .before .before .before .before .before .before .before .before .before .before .before .before .before .before .before .before .before .before .before .before .before .before .before .field-end) .result) ((c .before .before .before .before .before .before .before .before .before .before .before .before .before .before .before .before .before .before .before .before .before .before .before .before .before .before .before .name-code) .result) ((c .before .before .before .before .before .before .before .before .before .before .before .before .before .before .before .before .before .before .before .before .before .before .before .before .before .before .before .before .before .field-end) .ensures) ((c .before .before .before .before .before .before .before .before .before .before .before .before .before .before .before .before .before .before .before .before .before .before .before .before .before .before .before .name-code) .ensures ∙ ap nameCode (same-field (((c .before .before .before .before .before .before .before .before .before .before .before .before .before .before .before .before .before .before .before .before .before .before .before .before .before .before .before .before .before .before .before .before .before .before .before .before .before .before .args) .text) .now) 0 ((c .before .before .before .before .before .before .before .before .before .before .before .before .before .before .before .before .before .before .before .before .before .before .before .before .before .before .before .before .before .field-end) .result) ((c .before .before .before .before .before .before .before .before .before .before .before .before .before .before .before .before .before .before .before .before .before .before .before .before .before .before .before .before .before .before .before .before .before .before .before .before .before .before .pre) .2) ((c .before .before .before .before .before .before .before .before .before .before .before .before .before .before .before .before .before .before .before .before .before .before .before .before .before .before .before .before .before .field-end) .ensures)))) ((c .before .before .before .before .before .before .before .before .before .before .before .before .before .before .before .before .before .before .before .before .before .read-rest) .last .1 .1 .1 .0) ((c .before .before .before .before .before .before .before .before .before .before .before .before .before .before .before .before .before .before .before .before .before .read-rest) .last .1 .1 .1 .1 .0) ((c .before .before .before .before .before .before .before .before .before .before .before .before .before .before .before .before .before .before .before .before .before .read-rest) .last .1 .1 .1 .1 .1 .0) ((c .before .before .before .before .before .before .before .before .before .before .before .before .before .before .before .before .before .before .before .before .before .read-rest) .last .1 .1 .1 .1 .1 .1 .0) ((c .before .before .before .before .before .before .before .before .before .before .before .before .before .before .before .before .before .before .before .before .before .read-rest) .result) ((c .before .before .before .before .before .before .before .before .before .before .before .before .before .before .before .before .before .before .before .before .before .read-rest) .ensures .0) t ((c .before .before .before .before .before .before .before .before .before .before .before .before .before .before .before .before .before .before .before .before .before .before .before .before .before .before .before .before .before .before .before .before .before .before .before .before .before .before .pre) .0) (w .1 .1 .0) (w .1 .1 .1 .0) (w .1 .1 .1 .1 .0) ((c .before .before .before .before .before .before .before .put-line) .result) ((c .before .before .before .before .before .before .before .before .before .before .before .before .before .before .before .before .before .before .before .before .before .before .before .before .before .before .if1) .left) ((c .before .before .before .before .before .before .before .put-line) .ensures), λ h. (c .before .before .before .before .before .before .before .before .before .before .before .before .before .before .before .before .before .before .before .before .before .read-rest) .ensures .1 t)
 
 pub read-line-spec : {M : Type 1} → statement M
 read-line-spec =

@@ -1,5 +1,4 @@
-use mathlib.Core.Path.{refl}
-use Prim.Native.Nat.{_+_, _*_, _-_}
+use Prim.Native.Nat.{_*_, _-_}
 use native.Mathlib.Omega.{arith}
 use Rattle.lines.proofs.InLine.{place-read}
 use Rattle.decode_line.specs.Answers.{operandTable}
@@ -7,54 +6,40 @@ use Rattle.decode_store.proofs.PutLaws.{form-as, rest-stop, rest-fields
 use borrow.Author.Needs.{needs}
 use Rattle.decode_store.proofs.read_rest.Statement.{statement}
 use Rattle.decode_store.proofs.read_rest.Tie as tie
-use Rattle.decode_store.proofs.read_rest.Reads as reads
-use Rattle.decode_store.proofs.read_rest.Lts as lts
-use Rattle.decode_line.proofs.read_form.Reads as read-form-reads
 
--- src/lib.rt:113:13
 mul-p : tie.Need-mul-p
 mul-p c = search needs
 
--- src/lib.rt:115:28
 sub-read-form : tie.Need-sub-read-form
 sub-read-form c =
     let h = place-read (((c .before .before .before .before .before .before .args) .text) .now) ((c .before .before .before .before .before .before .args) .f) ((c .before .before .before .before .before .before .pre) .1 .place) in
     omega arith
 
--- src/lib.rt:115:28
 part-read-form-start : tie.Need-part-read-form-start
 part-read-form-start c =
     let h = place-read (((c .before .before .before .before .before .before .args) .text) .now) ((c .before .before .before .before .before .before .args) .f) ((c .before .before .before .before .before .before .pre) .1 .place) in
     omega arith
 
--- src/lib.rt:115:28
 part-read-form-end : tie.Need-part-read-form-end
 part-read-form-end c = search needs
 
--- src/lib.rt:115:5
 read-form-requires : tie.Need-read-form-requires
 read-form-requires c κs =
     let u = (c .before .before .before .before .before .before .before .before .before .before .before .pre) .4 in
-    let r = (c .before .before .before .before .before .before .before .before .before .before .before .pre) .3 in
-    ((c .before .before .before .before .before .before .before .before .before .before .before .pre) .0, omega (arith, (c .before .before .before .before .before .before .before .before .before .before .before .pre) .2, u .rows), omega (arith, u .rows), record { kinds = omega (arith, r .kinds, u .operands, u .instrs); bases = omega (arith, r .bases, u .operands, u .instrs); rows = omega (arith, r .rows, u .operands, u .instrs) }, rest-stop (((c .before .before .before .before .before .before .before .before .before .before .before .args) .text) .now) ((c .before .before .before .before .before .before .before .before .before .before .before .args) .f) ((c .before .before .before .before .before .before .before .before .before .before .before .pre) .1))
+    ((c .before .before .before .before .before .before .before .before .before .before .before .pre) .0, omega (arith, (c .before .before .before .before .before .before .before .before .before .before .before .pre) .2), omega (arith, u .rows), (c .before .before .before .before .before .before .before .before .before .before .before .pre) .3, rest-stop (((c .before .before .before .before .before .before .before .before .before .before .before .args) .text) .now) ((c .before .before .before .before .before .before .before .before .before .before .before .args) .f) ((c .before .before .before .before .before .before .before .before .before .before .before .pre) .1))
 
--- src/lib.rt:100:1
 same-length : tie.Need-same-length
 same-length c = search needs
 
--- src/lib.rt:100:1
 same-length-2 : tie.Need-same-length-2
 same-length-2 c = search needs
 
--- src/lib.rt:100:1
 same-length-3 : tie.Need-same-length-3
 same-length-3 c = search needs
 
--- src/lib.rt:100:1
 same-length-4 : tie.Need-same-length-4
 same-length-4 c = search needs
 
--- src/lib.rt:100:1
 returns : tie.Need-returns
 returns c =
     let l = (c .before .before .before .before .before .before .before .before .read-form) .last in

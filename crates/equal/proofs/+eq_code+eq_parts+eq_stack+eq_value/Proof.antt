@@ -12,7 +12,7 @@ use Rattle.pending.proofs.Meets.{length-args}
 use Rattle.equal.specs.Fit.{big}
 use Rattle.equal.proofs.Items.{own-room, given-room, tabled-low, tabled-given, tabled-arg, few-left, few-right, few-arg, few-args, room-of, spare-low, spare-arg, spare-kept, spare-own, spare-given}
 use Rattle.equal.proofs.Values.{big-of, pair-ok, value-pair, filled-value, filled-not, place-value, both-same, one-differs, heads-low, PartsLeft, parts-first, parts-last, parts-apart, parts-differ, parts-next, codes-off, codes-on}
-use Rattle.equal.proofs.Stacks.{s-place, Matching, match-first, match-over, match-unlike, match-onward, match-own, match-given, own-not, given-not, own-low, given-low, agree-mid, length-part, pends-more, not-true, not-false, plain-args}
+use Rattle.equal.proofs.Stacks.{Matching, match-first, match-over, match-unlike, match-onward, match-own, match-given, own-not, given-not, own-low, given-low, agree-mid, length-part, pends-more, not-true, not-false, plain-args}
 use Prim.Native.Nat.{ℕ, _<_}
 use borrow.Fn.Kinds.{In}
 use borrow.Fn.PlainCycle.{Measures, is, falls, and}
@@ -32,6 +32,7 @@ use Rattle.equal.proofs.next_pair.Reads as next-pair-reads
 use Rattle.equal.proofs.pair_up.Reads as pair-up-reads
 use Rattle.equal.proofs.same_letters.Reads as same-letters-reads
 use Rattle.equal.proofs.same_place.Reads as same-place-reads
+use Rattle.equal.proofs.same_stack.Reads as same-stack-reads
 use Rattle.equal.proofs.two_slots.Reads as two-slots-reads
 use Rattle.rows.proofs.at.Reads as at-reads
 use Rattle.rows.proofs.is_stack.Reads as is-stack-reads
@@ -691,31 +692,34 @@ abbrev eq-stack-μ-loop : eq-stack-lts.MeasureT-loop
 eq-stack-μ-loop rows parts args m by d l by2 d2 r left₀ right₀ i₀ j₀ left right i j = mass left i
 
 -- src/lib.rt:533:8
-eq-stack-same-place-requires : (t : ℕ) → eq-stack-lts.Need-same-place-requires (
-  same-place-reads.Asked,
-  same-place-reads.Learnt,
+eq-stack-same-stack-requires : (t : ℕ) → eq-stack-lts.Need-same-stack-requires (
+  same-stack-reads.Asked,
+  same-stack-reads.Learnt,
   next-pair-reads.Asked,
   next-pair-reads.Learnt,
   eq-value-below t,
   eq-value.Post,
 ) (eq-stack-at t) eq-stack.Post eq-stack-Inv-loop eq-stack-μ-loop
-eq-stack-same-place-requires t c κs = search needs
+eq-stack-same-stack-requires t c κs =
+    let rl = (c .before .before .before .before .before .pre) .1 .1 in
+    let fl = few-left (tab ((c .before .before .before .before .before .args) .rows .now) ((c .before .before .before .before .before .args) .parts .now)) ((c .before .before .before .before .before .args) .args .now) ((c .before .before .before .before .before .pre) .1 .0) in
+    (omega arith, omega arith)
 
 -- src/lib.rt:534:9
 eq-stack-returns : (t : ℕ) → eq-stack-lts.Need-returns (
-  same-place-reads.Asked,
-  same-place-reads.Learnt,
+  same-stack-reads.Asked,
+  same-stack-reads.Learnt,
   next-pair-reads.Asked,
   next-pair-reads.Learnt,
   eq-value-below t,
   eq-value.Post,
 ) (eq-stack-at t) eq-stack.Post eq-stack-Inv-loop eq-stack-μ-loop
-eq-stack-returns t c = s-place (tab ((c .before .before .before .before .before .before .before .args) .rows .now) ((c .before .before .before .before .before .before .before .args) .parts .now)) ((c .before .before .before .before .before .before .before .args) .args .now) ((c .before .before .before .before .before .before .before .args) .m) ((c .before .before .before .before .before .before .before .args) .by) ((c .before .before .before .before .before .before .before .args) .d) ((c .before .before .before .before .before .before .before .args) .l) ((c .before .before .before .before .before .before .before .args) .by2) ((c .before .before .before .before .before .before .before .args) .d2) ((c .before .before .before .before .before .before .before .args) .r) ((c .before .same-place) .ensures) ((c .if1) .taken)
+eq-stack-returns t c = ((c .before .same-stack) .ensures) ((c .if1) .taken) ((c .before .before .before .before .before .before .before .args) .parts .now)
 
 -- src/lib.rt:536:5
 eq-stack-slice-write-left : (t : ℕ) → eq-stack-lts.Need-slice-write-left (
-  same-place-reads.Asked,
-  same-place-reads.Learnt,
+  same-stack-reads.Asked,
+  same-stack-reads.Learnt,
   next-pair-reads.Asked,
   next-pair-reads.Learnt,
   eq-value-below t,
@@ -730,8 +734,8 @@ eq-stack-slice-write-left t c =
 
 -- src/lib.rt:537:5
 eq-stack-slice-write-right : (t : ℕ) → eq-stack-lts.Need-slice-write-right (
-  same-place-reads.Asked,
-  same-place-reads.Learnt,
+  same-stack-reads.Asked,
+  same-stack-reads.Learnt,
   next-pair-reads.Asked,
   next-pair-reads.Learnt,
   eq-value-below t,
@@ -746,8 +750,8 @@ eq-stack-slice-write-right t c =
 
 -- src/lib.rt:540:5
 eq-stack-loop-holds : (t : ℕ) → eq-stack-lts.Need-loop-holds (
-  same-place-reads.Asked,
-  same-place-reads.Learnt,
+  same-stack-reads.Asked,
+  same-stack-reads.Learnt,
   next-pair-reads.Asked,
   next-pair-reads.Learnt,
   eq-value-below t,
@@ -762,8 +766,8 @@ eq-stack-loop-holds t c =
 
 -- src/lib.rt:541:13
 eq-stack-next-pair-requires : (t : ℕ) → eq-stack-lts.Need-next-pair-requires (
-  same-place-reads.Asked,
-  same-place-reads.Learnt,
+  same-stack-reads.Asked,
+  same-stack-reads.Learnt,
   next-pair-reads.Asked,
   next-pair-reads.Learnt,
   eq-value-below t,
@@ -783,8 +787,8 @@ eq-stack-next-pair-requires t c κs =
 
 -- src/lib.rt:544:17
 eq-stack-enum-told : (t : ℕ) → eq-stack-lts.Need-enum-told (
-  same-place-reads.Asked,
-  same-place-reads.Learnt,
+  same-stack-reads.Asked,
+  same-stack-reads.Learnt,
   next-pair-reads.Asked,
   next-pair-reads.Learnt,
   eq-value-below t,
@@ -794,8 +798,8 @@ eq-stack-enum-told t c = search needs
 
 -- src/lib.rt:544:17
 eq-stack-same-length : (t : ℕ) → eq-stack-lts.Need-same-length (
-  same-place-reads.Asked,
-  same-place-reads.Learnt,
+  same-stack-reads.Asked,
+  same-stack-reads.Learnt,
   next-pair-reads.Asked,
   next-pair-reads.Learnt,
   eq-value-below t,
@@ -805,8 +809,8 @@ eq-stack-same-length t c = ((c .before .before .before .before .before .before .
 
 -- src/lib.rt:544:17
 eq-stack-same-length-2 : (t : ℕ) → eq-stack-lts.Need-same-length-2 (
-  same-place-reads.Asked,
-  same-place-reads.Learnt,
+  same-stack-reads.Asked,
+  same-stack-reads.Learnt,
   next-pair-reads.Asked,
   next-pair-reads.Learnt,
   eq-value-below t,
@@ -816,8 +820,8 @@ eq-stack-same-length-2 t c = ((c .before .before .before .before .before .before
 
 -- src/lib.rt:544:17
 eq-stack-returns-2 : (t : ℕ) → eq-stack-lts.Need-returns-2 (
-  same-place-reads.Asked,
-  same-place-reads.Learnt,
+  same-stack-reads.Asked,
+  same-stack-reads.Learnt,
   next-pair-reads.Asked,
   next-pair-reads.Learnt,
   eq-value-below t,
@@ -827,8 +831,8 @@ eq-stack-returns-2 t c = match-over (tab ((c .before .before .before .before .be
 
 -- src/lib.rt:547:17
 eq-stack-enum-told-2 : (t : ℕ) → eq-stack-lts.Need-enum-told-2 (
-  same-place-reads.Asked,
-  same-place-reads.Learnt,
+  same-stack-reads.Asked,
+  same-stack-reads.Learnt,
   next-pair-reads.Asked,
   next-pair-reads.Learnt,
   eq-value-below t,
@@ -838,8 +842,8 @@ eq-stack-enum-told-2 t c = search needs
 
 -- src/lib.rt:547:17
 eq-stack-same-length-3 : (t : ℕ) → eq-stack-lts.Need-same-length-3 (
-  same-place-reads.Asked,
-  same-place-reads.Learnt,
+  same-stack-reads.Asked,
+  same-stack-reads.Learnt,
   next-pair-reads.Asked,
   next-pair-reads.Learnt,
   eq-value-below t,
@@ -849,8 +853,8 @@ eq-stack-same-length-3 t c = ((c .before .before .before .before .before .before
 
 -- src/lib.rt:547:17
 eq-stack-same-length-4 : (t : ℕ) → eq-stack-lts.Need-same-length-4 (
-  same-place-reads.Asked,
-  same-place-reads.Learnt,
+  same-stack-reads.Asked,
+  same-stack-reads.Learnt,
   next-pair-reads.Asked,
   next-pair-reads.Learnt,
   eq-value-below t,
@@ -860,8 +864,8 @@ eq-stack-same-length-4 t c = ((c .before .before .before .before .before .before
 
 -- src/lib.rt:547:17
 eq-stack-returns-3 : (t : ℕ) → eq-stack-lts.Need-returns-3 (
-  same-place-reads.Asked,
-  same-place-reads.Learnt,
+  same-stack-reads.Asked,
+  same-stack-reads.Learnt,
   next-pair-reads.Asked,
   next-pair-reads.Learnt,
   eq-value-below t,
@@ -871,8 +875,8 @@ eq-stack-returns-3 t c = match-unlike (tab ((c .before .before .before .before .
 
 -- src/lib.rt:549:25
 eq-stack-enum-known-s : (t : ℕ) → eq-stack-lts.Need-enum-known-s (
-  same-place-reads.Asked,
-  same-place-reads.Learnt,
+  same-stack-reads.Asked,
+  same-stack-reads.Learnt,
   next-pair-reads.Asked,
   next-pair-reads.Learnt,
   eq-value-below t,
@@ -882,8 +886,8 @@ eq-stack-enum-known-s t c = search needs
 
 -- src/lib.rt:540:5
 eq-stack-loop-less : (t : ℕ) → eq-stack-lts.Need-loop-less (
-  same-place-reads.Asked,
-  same-place-reads.Learnt,
+  same-stack-reads.Asked,
+  same-stack-reads.Learnt,
   next-pair-reads.Asked,
   next-pair-reads.Learnt,
   eq-value-below t,
@@ -893,8 +897,8 @@ eq-stack-loop-less t c = (match-onward (tab ((c .before .before .before .before 
 
 -- src/lib.rt:540:5
 eq-stack-loop-again : (t : ℕ) → eq-stack-lts.Need-loop-again (
-  same-place-reads.Asked,
-  same-place-reads.Learnt,
+  same-stack-reads.Asked,
+  same-stack-reads.Learnt,
   next-pair-reads.Asked,
   next-pair-reads.Learnt,
   eq-value-below t,
@@ -904,8 +908,8 @@ eq-stack-loop-again t c = ((match-onward (tab ((c .before .before .before .befor
 
 -- src/lib.rt:554:25
 eq-stack-enum-known-s-2 : (t : ℕ) → eq-stack-lts.Need-enum-known-s-2 (
-  same-place-reads.Asked,
-  same-place-reads.Learnt,
+  same-stack-reads.Asked,
+  same-stack-reads.Learnt,
   next-pair-reads.Asked,
   next-pair-reads.Learnt,
   eq-value-below t,
@@ -915,8 +919,8 @@ eq-stack-enum-known-s-2 t c = search needs
 
 -- src/lib.rt:566:21
 eq-stack-mul-eq-value : (t : ℕ) → eq-stack-lts.Need-mul-eq-value (
-  same-place-reads.Asked,
-  same-place-reads.Learnt,
+  same-stack-reads.Asked,
+  same-stack-reads.Learnt,
   next-pair-reads.Asked,
   next-pair-reads.Learnt,
   eq-value-below t,
@@ -932,8 +936,8 @@ eq-stack-mul-eq-value t c =
 
 -- src/lib.rt:566:21
 eq-stack-sub-eq-value : (t : ℕ) → eq-stack-lts.Need-sub-eq-value (
-  same-place-reads.Asked,
-  same-place-reads.Learnt,
+  same-stack-reads.Asked,
+  same-stack-reads.Learnt,
   next-pair-reads.Asked,
   next-pair-reads.Learnt,
   eq-value-below t,
@@ -949,8 +953,8 @@ eq-stack-sub-eq-value t c =
 
 -- src/lib.rt:566:21
 eq-stack-part-eq-value-start : (t : ℕ) → eq-stack-lts.Need-part-eq-value-start (
-  same-place-reads.Asked,
-  same-place-reads.Learnt,
+  same-stack-reads.Asked,
+  same-stack-reads.Learnt,
   next-pair-reads.Asked,
   next-pair-reads.Learnt,
   eq-value-below t,
@@ -966,8 +970,8 @@ eq-stack-part-eq-value-start t c =
 
 -- src/lib.rt:566:21
 eq-stack-part-eq-value-end : (t : ℕ) → eq-stack-lts.Need-part-eq-value-end (
-  same-place-reads.Asked,
-  same-place-reads.Learnt,
+  same-stack-reads.Asked,
+  same-stack-reads.Learnt,
   next-pair-reads.Asked,
   next-pair-reads.Learnt,
   eq-value-below t,
@@ -983,8 +987,8 @@ eq-stack-part-eq-value-end t c =
 
 -- src/lib.rt:567:21
 eq-stack-mul-eq-value-2 : (t : ℕ) → eq-stack-lts.Need-mul-eq-value-2 (
-  same-place-reads.Asked,
-  same-place-reads.Learnt,
+  same-stack-reads.Asked,
+  same-stack-reads.Learnt,
   next-pair-reads.Asked,
   next-pair-reads.Learnt,
   eq-value-below t,
@@ -1000,8 +1004,8 @@ eq-stack-mul-eq-value-2 t c =
 
 -- src/lib.rt:567:21
 eq-stack-sub-eq-value-2 : (t : ℕ) → eq-stack-lts.Need-sub-eq-value-2 (
-  same-place-reads.Asked,
-  same-place-reads.Learnt,
+  same-stack-reads.Asked,
+  same-stack-reads.Learnt,
   next-pair-reads.Asked,
   next-pair-reads.Learnt,
   eq-value-below t,
@@ -1017,8 +1021,8 @@ eq-stack-sub-eq-value-2 t c =
 
 -- src/lib.rt:567:21
 eq-stack-part-eq-value-start-2 : (t : ℕ) → eq-stack-lts.Need-part-eq-value-start-2 (
-  same-place-reads.Asked,
-  same-place-reads.Learnt,
+  same-stack-reads.Asked,
+  same-stack-reads.Learnt,
   next-pair-reads.Asked,
   next-pair-reads.Learnt,
   eq-value-below t,
@@ -1034,8 +1038,8 @@ eq-stack-part-eq-value-start-2 t c =
 
 -- src/lib.rt:567:21
 eq-stack-part-eq-value-end-2 : (t : ℕ) → eq-stack-lts.Need-part-eq-value-end-2 (
-  same-place-reads.Asked,
-  same-place-reads.Learnt,
+  same-stack-reads.Asked,
+  same-stack-reads.Learnt,
   next-pair-reads.Asked,
   next-pair-reads.Learnt,
   eq-value-below t,
@@ -1051,8 +1055,8 @@ eq-stack-part-eq-value-end-2 t c =
 
 -- src/lib.rt:555:21
 eq-stack-eq-value-requires : (t : ℕ) → eq-stack-lts.Need-eq-value-requires (
-  same-place-reads.Asked,
-  same-place-reads.Learnt,
+  same-stack-reads.Asked,
+  same-stack-reads.Learnt,
   next-pair-reads.Asked,
   next-pair-reads.Learnt,
   eq-value-below t,
@@ -1069,8 +1073,8 @@ eq-stack-eq-value-requires t c κs =
 
 -- src/lib.rt:569:21
 eq-stack-same-length-5 : (t : ℕ) → eq-stack-lts.Need-same-length-5 (
-  same-place-reads.Asked,
-  same-place-reads.Learnt,
+  same-stack-reads.Asked,
+  same-stack-reads.Learnt,
   next-pair-reads.Asked,
   next-pair-reads.Learnt,
   eq-value-below t,
@@ -1080,8 +1084,8 @@ eq-stack-same-length-5 t c = same-len-mid ((c .before .before .before .before .b
 
 -- src/lib.rt:569:21
 eq-stack-same-length-6 : (t : ℕ) → eq-stack-lts.Need-same-length-6 (
-  same-place-reads.Asked,
-  same-place-reads.Learnt,
+  same-stack-reads.Asked,
+  same-stack-reads.Learnt,
   next-pair-reads.Asked,
   next-pair-reads.Learnt,
   eq-value-below t,
@@ -1091,8 +1095,8 @@ eq-stack-same-length-6 t c = same-len-mid ((c .before .before .before .before .b
 
 -- src/lib.rt:569:21
 eq-stack-returns-4 : (t : ℕ) → eq-stack-lts.Need-returns-4 (
-  same-place-reads.Asked,
-  same-place-reads.Learnt,
+  same-stack-reads.Asked,
+  same-stack-reads.Learnt,
   next-pair-reads.Asked,
   next-pair-reads.Learnt,
   eq-value-below t,
@@ -1102,8 +1106,8 @@ eq-stack-returns-4 t c = own-not (tab ((c .before .before .before .before .befor
 
 -- src/lib.rt:540:5
 eq-stack-loop-less-2 : (t : ℕ) → eq-stack-lts.Need-loop-less-2 (
-  same-place-reads.Asked,
-  same-place-reads.Learnt,
+  same-stack-reads.Asked,
+  same-stack-reads.Learnt,
   next-pair-reads.Asked,
   next-pair-reads.Learnt,
   eq-value-below t,
@@ -1119,8 +1123,8 @@ eq-stack-loop-less-2 t c =
 
 -- src/lib.rt:540:5
 eq-stack-loop-again-2 : (t : ℕ) → eq-stack-lts.Need-loop-again-2 (
-  same-place-reads.Asked,
-  same-place-reads.Learnt,
+  same-stack-reads.Asked,
+  same-stack-reads.Learnt,
   next-pair-reads.Asked,
   next-pair-reads.Learnt,
   eq-value-below t,
@@ -1136,8 +1140,8 @@ eq-stack-loop-again-2 t c =
 
 -- src/lib.rt:575:27
 eq-stack-enum-known-s-3 : (t : ℕ) → eq-stack-lts.Need-enum-known-s-3 (
-  same-place-reads.Asked,
-  same-place-reads.Learnt,
+  same-stack-reads.Asked,
+  same-stack-reads.Learnt,
   next-pair-reads.Asked,
   next-pair-reads.Learnt,
   eq-value-below t,
@@ -1147,8 +1151,8 @@ eq-stack-enum-known-s-3 t c = search needs
 
 -- src/lib.rt:587:21
 eq-stack-mul-eq-value-3 : (t : ℕ) → eq-stack-lts.Need-mul-eq-value-3 (
-  same-place-reads.Asked,
-  same-place-reads.Learnt,
+  same-stack-reads.Asked,
+  same-stack-reads.Learnt,
   next-pair-reads.Asked,
   next-pair-reads.Learnt,
   eq-value-below t,
@@ -1164,8 +1168,8 @@ eq-stack-mul-eq-value-3 t c =
 
 -- src/lib.rt:587:21
 eq-stack-sub-eq-value-3 : (t : ℕ) → eq-stack-lts.Need-sub-eq-value-3 (
-  same-place-reads.Asked,
-  same-place-reads.Learnt,
+  same-stack-reads.Asked,
+  same-stack-reads.Learnt,
   next-pair-reads.Asked,
   next-pair-reads.Learnt,
   eq-value-below t,
@@ -1181,8 +1185,8 @@ eq-stack-sub-eq-value-3 t c =
 
 -- src/lib.rt:587:21
 eq-stack-part-eq-value-start-3 : (t : ℕ) → eq-stack-lts.Need-part-eq-value-start-3 (
-  same-place-reads.Asked,
-  same-place-reads.Learnt,
+  same-stack-reads.Asked,
+  same-stack-reads.Learnt,
   next-pair-reads.Asked,
   next-pair-reads.Learnt,
   eq-value-below t,
@@ -1198,8 +1202,8 @@ eq-stack-part-eq-value-start-3 t c =
 
 -- src/lib.rt:587:21
 eq-stack-part-eq-value-end-3 : (t : ℕ) → eq-stack-lts.Need-part-eq-value-end-3 (
-  same-place-reads.Asked,
-  same-place-reads.Learnt,
+  same-stack-reads.Asked,
+  same-stack-reads.Learnt,
   next-pair-reads.Asked,
   next-pair-reads.Learnt,
   eq-value-below t,
@@ -1215,8 +1219,8 @@ eq-stack-part-eq-value-end-3 t c =
 
 -- src/lib.rt:588:21
 eq-stack-mul-eq-value-4 : (t : ℕ) → eq-stack-lts.Need-mul-eq-value-4 (
-  same-place-reads.Asked,
-  same-place-reads.Learnt,
+  same-stack-reads.Asked,
+  same-stack-reads.Learnt,
   next-pair-reads.Asked,
   next-pair-reads.Learnt,
   eq-value-below t,
@@ -1232,8 +1236,8 @@ eq-stack-mul-eq-value-4 t c =
 
 -- src/lib.rt:588:21
 eq-stack-sub-eq-value-4 : (t : ℕ) → eq-stack-lts.Need-sub-eq-value-4 (
-  same-place-reads.Asked,
-  same-place-reads.Learnt,
+  same-stack-reads.Asked,
+  same-stack-reads.Learnt,
   next-pair-reads.Asked,
   next-pair-reads.Learnt,
   eq-value-below t,
@@ -1249,8 +1253,8 @@ eq-stack-sub-eq-value-4 t c =
 
 -- src/lib.rt:588:21
 eq-stack-part-eq-value-start-4 : (t : ℕ) → eq-stack-lts.Need-part-eq-value-start-4 (
-  same-place-reads.Asked,
-  same-place-reads.Learnt,
+  same-stack-reads.Asked,
+  same-stack-reads.Learnt,
   next-pair-reads.Asked,
   next-pair-reads.Learnt,
   eq-value-below t,
@@ -1266,8 +1270,8 @@ eq-stack-part-eq-value-start-4 t c =
 
 -- src/lib.rt:588:21
 eq-stack-part-eq-value-end-4 : (t : ℕ) → eq-stack-lts.Need-part-eq-value-end-4 (
-  same-place-reads.Asked,
-  same-place-reads.Learnt,
+  same-stack-reads.Asked,
+  same-stack-reads.Learnt,
   next-pair-reads.Asked,
   next-pair-reads.Learnt,
   eq-value-below t,
@@ -1283,8 +1287,8 @@ eq-stack-part-eq-value-end-4 t c =
 
 -- src/lib.rt:576:21
 eq-stack-eq-value-requires-2 : (t : ℕ) → eq-stack-lts.Need-eq-value-requires-2 (
-  same-place-reads.Asked,
-  same-place-reads.Learnt,
+  same-stack-reads.Asked,
+  same-stack-reads.Learnt,
   next-pair-reads.Asked,
   next-pair-reads.Learnt,
   eq-value-below t,
@@ -1305,8 +1309,8 @@ eq-stack-eq-value-requires-2 t c κs =
 
 -- src/lib.rt:590:21
 eq-stack-same-length-7 : (t : ℕ) → eq-stack-lts.Need-same-length-7 (
-  same-place-reads.Asked,
-  same-place-reads.Learnt,
+  same-stack-reads.Asked,
+  same-stack-reads.Learnt,
   next-pair-reads.Asked,
   next-pair-reads.Learnt,
   eq-value-below t,
@@ -1316,8 +1320,8 @@ eq-stack-same-length-7 t c = same-len-mid ((c .before .before .before .before .b
 
 -- src/lib.rt:590:21
 eq-stack-same-length-8 : (t : ℕ) → eq-stack-lts.Need-same-length-8 (
-  same-place-reads.Asked,
-  same-place-reads.Learnt,
+  same-stack-reads.Asked,
+  same-stack-reads.Learnt,
   next-pair-reads.Asked,
   next-pair-reads.Learnt,
   eq-value-below t,
@@ -1327,8 +1331,8 @@ eq-stack-same-length-8 t c = same-len-mid ((c .before .before .before .before .b
 
 -- src/lib.rt:590:21
 eq-stack-returns-5 : (t : ℕ) → eq-stack-lts.Need-returns-5 (
-  same-place-reads.Asked,
-  same-place-reads.Learnt,
+  same-stack-reads.Asked,
+  same-stack-reads.Learnt,
   next-pair-reads.Asked,
   next-pair-reads.Learnt,
   eq-value-below t,
@@ -1338,8 +1342,8 @@ eq-stack-returns-5 t c = given-not (tab ((c .before .before .before .before .bef
 
 -- src/lib.rt:540:5
 eq-stack-loop-less-3 : (t : ℕ) → eq-stack-lts.Need-loop-less-3 (
-  same-place-reads.Asked,
-  same-place-reads.Learnt,
+  same-stack-reads.Asked,
+  same-stack-reads.Learnt,
   next-pair-reads.Asked,
   next-pair-reads.Learnt,
   eq-value-below t,
@@ -1355,8 +1359,8 @@ eq-stack-loop-less-3 t c =
 
 -- src/lib.rt:540:5
 eq-stack-loop-again-3 : (t : ℕ) → eq-stack-lts.Need-loop-again-3 (
-  same-place-reads.Asked,
-  same-place-reads.Learnt,
+  same-stack-reads.Asked,
+  same-stack-reads.Learnt,
   next-pair-reads.Asked,
   next-pair-reads.Learnt,
   eq-value-below t,
@@ -2238,8 +2242,8 @@ pub +eq-code+eq-parts+eq-stack+eq-value-spec : {M : Type 1} → statement M
     (eq-parts-same-length-6 t)
     (eq-parts-returns-3 t))
     (λ t. eq-stack-lts.spec (
-      same-place-reads.Asked,
-      same-place-reads.Learnt,
+      same-stack-reads.Asked,
+      same-stack-reads.Learnt,
       next-pair-reads.Asked,
       next-pair-reads.Learnt,
       eq-value-below t,
@@ -2249,7 +2253,7 @@ pub +eq-code+eq-parts+eq-stack+eq-value-spec : {M : Type 1} → statement M
     eq-stack.Post
     eq-stack-Inv-loop
     eq-stack-μ-loop
-    (eq-stack-same-place-requires t)
+    (eq-stack-same-stack-requires t)
     (eq-stack-returns t)
     (eq-stack-slice-write-left t)
     (eq-stack-slice-write-right t)

@@ -1,124 +1,106 @@
-use mathlib.Core.Path.{ap, sym, _∙_}
-use Rattle.machine.specs.Step.{stateOf}
-use Rattle.launch.specs.declared.Outcome.{Outcome}
-use Rattle.launch.specs.Answers.{outcomeIs}
-use Rattle.execute.proofs.Laws.{start-refused, started}
+use mathlib.Core.Path.{ap, _∙_}
+use Rattle.exec.specs.Run.{starting}
 use borrow.Author.Needs.{needs}
 use Rattle.execute.proofs.start.Statement.{statement}
 use Rattle.execute.proofs.start.Tie as tie
-use Rattle.execute.proofs.start.Reads as reads
-use Rattle.execute.proofs.start.Lts as lts
-use Rattle.launch.proofs.refuse.Reads as refuse-reads
-use Rattle.launch.proofs.start_ready.Reads as start-ready-reads
-use Rattle.ready.proofs.make_ready.Reads as make-ready-reads
 
--- src/lib.rt:31:37
-slice-aggregate-make-ready : tie.Need-slice-aggregate-make-ready
-slice-aggregate-make-ready c = search needs
+start-large-requires : tie.Need-start-large-requires
+start-large-requires c κs = search needs
 
--- src/lib.rt:31:52
-slice-aggregate-make-ready-2 : tie.Need-slice-aggregate-make-ready-2
-slice-aggregate-make-ready-2 c = search needs
-
--- src/lib.rt:31:66
-slice-aggregate-make-ready-3 : tie.Need-slice-aggregate-make-ready-3
-slice-aggregate-make-ready-3 c = search needs
-
--- src/lib.rt:31:79
-slice-aggregate-make-ready-4 : tie.Need-slice-aggregate-make-ready-4
-slice-aggregate-make-ready-4 c = search needs
-
--- src/lib.rt:31:9
-make-ready-requires : tie.Need-make-ready-requires
-make-ready-requires c κs = search needs
-
--- src/lib.rt:34:9
-refuse-requires : tie.Need-refuse-requires
-refuse-requires c κs = search needs
-
--- src/lib.rt:34:9
-returns : tie.Need-returns
-returns c =
-    let d = (c .before .before .before .before .before .before .make-ready) .last .1 in
-    ap (λ (o : Outcome). outcomeIs o (((c .before .before .before .before .before .before .before .before .before .before .before .before .before .before .before .before .before .before .before .args) .rk) .now) (((c .before .before .before .before .before .before .before .before .before .before .before .before .before .before .before .before .before .before .before .args) .rn) .now) (((c .before .before .before .before .before .before .before .before .before .before .before .before .before .before .before .before .before .before .before .args) .sk) .now) (((c .before .before .before .before .before .before .before .before .before .before .before .before .before .before .before .before .before .before .before .args) .sn) .now) (((c .before .before .before .before .before .before .before .before .before .before .before .before .before .before .before .before .before .before .before .args) .hk) .now) (((c .before .before .before .before .before .before .before .before .before .before .before .before .before .before .before .before .before .before .before .args) .hn) .now)) ((c .refuse) .ensures) ∙ sym (start-refused (((c .before .before .before .before .before .before .before .before .before .before .before .before .before .before .before .before .before .before .before .args) .text) .now) (d .1 .1 .0) (d .0) (d .1 .0) (d .1 .1 .1 .0) ((c .before .before .before .before .before .before .make-ready) .result) ((c .before .before .before .before .before .before .make-ready) .ensures) ((c .before .before .before .before .before .before .before .before .before .before .before .before .before .before .before .before .before .before .before .args) .budget) (stateOf (((c .before .before .before .before .before .before .before .before .before .before .before .before .before .before .before .before .before .before .before .args) .rk) .now) (((c .before .before .before .before .before .before .before .before .before .before .before .before .before .before .before .before .before .before .before .args) .rn) .now) (((c .before .before .before .before .before .before .before .before .before .before .before .before .before .before .before .before .before .before .before .args) .sk) .now) (((c .before .before .before .before .before .before .before .before .before .before .before .before .before .before .before .before .before .before .before .args) .sn) .now) (((c .before .before .before .before .before .before .before .before .before .before .before .before .before .before .before .before .before .before .before .args) .hk) .now) (((c .before .before .before .before .before .before .before .before .before .before .before .before .before .before .before .before .before .before .before .args) .hn) .now) ((c .before .before .before .before .before .before .before .before .before .before .before .before .before .before .before .before .before .before .before .args) .place)) (((c .before .before .before .before .before .before .before .before .before .before .before .before .before .before .before .before .before .before .before .args) .samples) .now) ((c .before .if1) .taken))
-
--- src/lib.rt:39:9
-slice-aggregate-start-ready : tie.Need-slice-aggregate-start-ready
-slice-aggregate-start-ready c = search needs
-
--- src/lib.rt:40:9
-slice-aggregate-start-ready-2 : tie.Need-slice-aggregate-start-ready-2
-slice-aggregate-start-ready-2 c = search needs
-
--- src/lib.rt:41:9
-slice-aggregate-start-ready-3 : tie.Need-slice-aggregate-start-ready-3
-slice-aggregate-start-ready-3 c = search needs
-
--- src/lib.rt:42:9
-slice-aggregate-start-ready-4 : tie.Need-slice-aggregate-start-ready-4
-slice-aggregate-start-ready-4 c = search needs
-
--- src/lib.rt:45:9
-slice-aggregate-start-ready-5 : tie.Need-slice-aggregate-start-ready-5
-slice-aggregate-start-ready-5 c = search needs
-
--- src/lib.rt:36:5
-start-ready-requires : tie.Need-start-ready-requires
-start-ready-requires c κs =
-    let s = (c .before .before .before .before .before .before .before .before .before .before .before .before .before .before .before .before .make-ready) .ensures .startable ((c .before .before .before .before .before .before .before .before .before .before .before .if1) .left) in
-    (s .few, s .fit, search needs)
-
--- src/lib.rt:12:1
 same-length : tie.Need-same-length
-same-length c = search needs
+same-length c = (c .before .before .before .before .before .before .before .before .before .before .before .before .start-large) .kept .1 .1 .1 .0
 
--- src/lib.rt:12:1
 same-length-2 : tie.Need-same-length-2
-same-length-2 c = search needs
+same-length-2 c = (c .before .before .before .before .before .before .before .before .before .before .before .before .start-large) .kept .1 .1 .1 .1 .0
 
--- src/lib.rt:12:1
 same-length-3 : tie.Need-same-length-3
-same-length-3 c = search needs
+same-length-3 c = (c .before .before .before .before .before .before .before .before .before .before .before .before .start-large) .kept .1 .1 .1 .1 .1 .0
 
--- src/lib.rt:12:1
 same-length-4 : tie.Need-same-length-4
-same-length-4 c = search needs
+same-length-4 c = (c .before .before .before .before .before .before .before .before .before .before .before .before .start-large) .kept .1 .1 .1 .1 .1 .1 .0
 
--- src/lib.rt:12:1
 same-length-5 : tie.Need-same-length-5
-same-length-5 c = search needs
+same-length-5 c = (c .before .before .before .before .before .before .before .before .before .before .before .before .start-large) .kept .1 .1 .1 .1 .1 .1 .1 .0
 
--- src/lib.rt:12:1
 same-length-6 : tie.Need-same-length-6
-same-length-6 c = search needs
+same-length-6 c = (c .before .before .before .before .before .before .before .before .before .before .before .before .start-large) .kept .1 .1 .1 .1 .1 .1 .1 .1 .0
 
--- src/lib.rt:12:1
+returns : tie.Need-returns
+returns c = (c .before .before .before .before .before .before .before .before .before .before .before .before .start-large) .ensures
+
+start-small-requires : tie.Need-start-small-requires
+start-small-requires c κs = search needs
+
+same-length-7 : tie.Need-same-length-7
+same-length-7 c = (c .before .before .before .before .before .before .before .before .before .before .before .before .before .before .start-small) .kept .1 .1 .1 .0
+
+same-length-8 : tie.Need-same-length-8
+same-length-8 c = (c .before .before .before .before .before .before .before .before .before .before .before .before .before .before .start-small) .kept .1 .1 .1 .1 .0
+
+same-length-9 : tie.Need-same-length-9
+same-length-9 c = (c .before .before .before .before .before .before .before .before .before .before .before .before .before .before .start-small) .kept .1 .1 .1 .1 .1 .0
+
+same-length-10 : tie.Need-same-length-10
+same-length-10 c = (c .before .before .before .before .before .before .before .before .before .before .before .before .before .before .start-small) .kept .1 .1 .1 .1 .1 .1 .0
+
+same-length-11 : tie.Need-same-length-11
+same-length-11 c = (c .before .before .before .before .before .before .before .before .before .before .before .before .before .before .start-small) .kept .1 .1 .1 .1 .1 .1 .1 .0
+
+same-length-12 : tie.Need-same-length-12
+same-length-12 c = (c .before .before .before .before .before .before .before .before .before .before .before .before .before .before .start-small) .kept .1 .1 .1 .1 .1 .1 .1 .1 .0
+
 returns-2 : tie.Need-returns-2
-returns-2 c =
-    let d = (c .before .before .before .before .before .before .before .before .before .before .before .before .before .before .before .before .before .before .before .before .before .before .before .before .before .before .before .before .before .before .make-ready) .last .1 in
-    started (((c .before .before .before .before .before .before .before .before .before .before .before .before .before .before .before .before .before .before .before .before .before .before .before .before .before .before .before .before .before .before .before .before .before .before .before .before .before .before .before .before .before .before .before .args) .text) .now) (d .1 .1 .0) (d .0) (d .1 .0) (d .1 .1 .1 .0) ((c .before .before .before .before .before .before .before .before .before .before .before .before .before .before .before .before .before .before .before .before .before .before .before .before .before .before .before .before .before .before .make-ready) .result) ((c .before .before .before .before .before .before .before .before .before .before .before .before .before .before .before .before .before .before .before .before .before .before .before .before .before .before .before .before .before .before .make-ready) .ensures) ((c .before .before .before .before .before .before .before .before .before .before .before .before .before .before .before .before .before .before .before .before .before .before .before .before .before .before .before .before .before .before .before .before .before .before .before .before .before .before .before .before .before .before .before .args) .budget) (stateOf (((c .before .before .before .before .before .before .before .before .before .before .before .before .before .before .before .before .before .before .before .before .before .before .before .before .before .before .before .before .before .before .before .before .before .before .before .before .before .before .before .before .before .before .before .args) .rk) .now) (((c .before .before .before .before .before .before .before .before .before .before .before .before .before .before .before .before .before .before .before .before .before .before .before .before .before .before .before .before .before .before .before .before .before .before .before .before .before .before .before .before .before .before .before .args) .rn) .now) (((c .before .before .before .before .before .before .before .before .before .before .before .before .before .before .before .before .before .before .before .before .before .before .before .before .before .before .before .before .before .before .before .before .before .before .before .before .before .before .before .before .before .before .before .args) .sk) .now) (((c .before .before .before .before .before .before .before .before .before .before .before .before .before .before .before .before .before .before .before .before .before .before .before .before .before .before .before .before .before .before .before .before .before .before .before .before .before .before .before .before .before .before .before .args) .sn) .now) (((c .before .before .before .before .before .before .before .before .before .before .before .before .before .before .before .before .before .before .before .before .before .before .before .before .before .before .before .before .before .before .before .before .before .before .before .before .before .before .before .before .before .before .before .args) .hk) .now) (((c .before .before .before .before .before .before .before .before .before .before .before .before .before .before .before .before .before .before .before .before .before .before .before .before .before .before .before .before .before .before .before .before .before .before .before .before .before .before .before .before .before .before .before .args) .hn) .now) ((c .before .before .before .before .before .before .before .before .before .before .before .before .before .before .before .before .before .before .before .before .before .before .before .before .before .before .before .before .before .before .before .before .before .before .before .before .before .before .before .before .before .before .before .args) .place)) (((c .before .before .before .before .before .before .before .before .before .before .before .before .before .before .before .before .before .before .before .before .before .before .before .before .before .before .before .before .before .before .before .before .before .before .before .before .before .before .before .before .before .before .before .args) .samples) .now) ((c .before .before .before .before .before .before .before .before .before .before .before .before .before .before .before .before .before .before .before .before .before .before .before .before .before .if1) .left) _ (λ args P rep w. (c .before .before .before .before .before .before .before .before .before .before .before .before .before .start-ready) .ensures args P rep w)
+returns-2 c = (c .before .before .before .before .before .before .before .before .before .before .before .before .before .before .start-small) .ensures .done ((c .before .if2) .taken)
+
+start-large-requires-2 : tie.Need-start-large-requires-2
+start-large-requires-2 c κs = search needs
+
+same-length-13 : tie.Need-same-length-13
+same-length-13 c = (c .before .before .before .before .before .before .before .before .before .before .before .before .start-large2) .kept .1 .1 .1 .0 ∙ (c .before .before .before .before .before .before .before .before .before .before .before .before .before .before .before .before .before .before .before .before .before .before .before .before .before .before .before .before .before .before .before .before .start-small) .kept .1 .1 .1 .0
+
+same-length-14 : tie.Need-same-length-14
+same-length-14 c = (c .before .before .before .before .before .before .before .before .before .before .before .before .start-large2) .kept .1 .1 .1 .1 .0 ∙ (c .before .before .before .before .before .before .before .before .before .before .before .before .before .before .before .before .before .before .before .before .before .before .before .before .before .before .before .before .before .before .before .before .start-small) .kept .1 .1 .1 .1 .0
+
+same-length-15 : tie.Need-same-length-15
+same-length-15 c = (c .before .before .before .before .before .before .before .before .before .before .before .before .start-large2) .kept .1 .1 .1 .1 .1 .0 ∙ (c .before .before .before .before .before .before .before .before .before .before .before .before .before .before .before .before .before .before .before .before .before .before .before .before .before .before .before .before .before .before .before .before .start-small) .kept .1 .1 .1 .1 .1 .0
+
+same-length-16 : tie.Need-same-length-16
+same-length-16 c = (c .before .before .before .before .before .before .before .before .before .before .before .before .start-large2) .kept .1 .1 .1 .1 .1 .1 .0 ∙ (c .before .before .before .before .before .before .before .before .before .before .before .before .before .before .before .before .before .before .before .before .before .before .before .before .before .before .before .before .before .before .before .before .start-small) .kept .1 .1 .1 .1 .1 .1 .0
+
+same-length-17 : tie.Need-same-length-17
+same-length-17 c = (c .before .before .before .before .before .before .before .before .before .before .before .before .start-large2) .kept .1 .1 .1 .1 .1 .1 .1 .0 ∙ (c .before .before .before .before .before .before .before .before .before .before .before .before .before .before .before .before .before .before .before .before .before .before .before .before .before .before .before .before .before .before .before .before .start-small) .kept .1 .1 .1 .1 .1 .1 .1 .0
+
+same-length-18 : tie.Need-same-length-18
+same-length-18 c = (c .before .before .before .before .before .before .before .before .before .before .before .before .start-large2) .kept .1 .1 .1 .1 .1 .1 .1 .1 .0 ∙ (c .before .before .before .before .before .before .before .before .before .before .before .before .before .before .before .before .before .before .before .before .before .before .before .before .before .before .before .before .before .before .before .before .start-small) .kept .1 .1 .1 .1 .1 .1 .1 .1 .0
+
+returns-3 : tie.Need-returns-3
+returns-3 c = (c .before .before .before .before .before .before .before .before .before .before .before .before .start-large2) .ensures ∙ ap (starting (((c .before .before .before .before .before .before .before .before .before .before .before .before .before .before .before .before .before .before .before .before .before .before .before .before .before .before .before .before .before .before .before .before .before .before .before .before .before .before .before .before .before .before .before .before .before .before .before .before .args) .text) .now) (((c .before .before .before .before .before .before .before .before .before .before .before .before .before .before .before .before .before .before .before .before .before .before .before .before .before .before .before .before .before .before .before .before .before .before .before .before .before .before .before .before .before .before .before .before .before .before .before .before .args) .samples) .now) ((c .before .before .before .before .before .before .before .before .before .before .before .before .before .before .before .before .before .before .before .before .before .before .before .before .before .before .before .before .before .before .before .before .before .before .before .before .before .before .before .before .before .before .before .before .before .before .before .before .args) .budget)) ((c .before .before .before .before .before .before .before .before .before .before .before .before .before .before .before .before .before .before .before .before .before .before .before .before .before .before .before .before .before .before .before .before .start-small) .ensures .kept ((c .before .before .before .before .before .before .before .before .before .before .before .before .before .before .before .before .before .before .before .if2) .left))
 
 pub start-spec : {M : Type 1} → statement M
 start-spec =
     tie.close
     (tie.spec
-    slice-aggregate-make-ready
-    slice-aggregate-make-ready-2
-    slice-aggregate-make-ready-3
-    slice-aggregate-make-ready-4
-    make-ready-requires
-    refuse-requires
-    returns
-    slice-aggregate-start-ready
-    slice-aggregate-start-ready-2
-    slice-aggregate-start-ready-3
-    slice-aggregate-start-ready-4
-    slice-aggregate-start-ready-5
-    start-ready-requires
+    start-large-requires
     same-length
     same-length-2
     same-length-3
     same-length-4
     same-length-5
     same-length-6
-    returns-2)
+    returns
+    start-small-requires
+    same-length-7
+    same-length-8
+    same-length-9
+    same-length-10
+    same-length-11
+    same-length-12
+    returns-2
+    start-large-requires-2
+    same-length-13
+    same-length-14
+    same-length-15
+    same-length-16
+    same-length-17
+    same-length-18
+    returns-3)

@@ -7,45 +7,33 @@ use Rattle.launch.proofs.Laws.{at-halt, at-stop}
 use borrow.Author.Needs.{needs}
 use Rattle.launch.proofs.answer_at.Statement.{statement}
 use Rattle.launch.proofs.answer_at.Tie as tie
-use Rattle.launch.proofs.answer_at.Reads as reads
-use Rattle.launch.proofs.answer_at.Lts as lts
-use Rattle.memory.proofs.at.Reads as at-reads
 
--- src/lib.rt:51:17
 enum-told : tie.Need-enum-told
 enum-told c = search needs
 
--- src/lib.rt:51:17
 at-requires : tie.Need-at-requires
 at-requires c κs = search needs
 
--- src/lib.rt:54:28
 enum-told-2 : tie.Need-enum-told-2
 enum-told-2 c = search needs
 
--- src/lib.rt:55:27
 enum-told-3 : tie.Need-enum-told-3
 enum-told-3 c = search needs
 
--- src/lib.rt:56:24
 enum-told-4 : tie.Need-enum-told-4
 enum-told-4 c = search needs
 
--- src/lib.rt:46:1
 returns : tie.Need-returns
 returns c = at-halt ((c .before .before .before .before .before .args) .steps) ((c .before .enum-told) .given .1) ((c .at) .ensures)
 
--- src/lib.rt:46:1
 returns-2 : tie.Need-returns-2
 unfolding answerOf
 returns-2 c = at-stop StackFull (at (lent (((c .before .before .before .before .args) .rk) .now) (((c .before .before .before .before .args) .rn) .now)) 0) ((c .before .before .before .before .args) .steps) ((c .enum-told2) .given .1) refl
 
--- src/lib.rt:46:1
 returns-3 : tie.Need-returns-3
 unfolding answerOf
 returns-3 c = at-stop HeapFull (at (lent (((c .before .before .before .before .args) .rk) .now) (((c .before .before .before .before .args) .rn) .now)) 0) ((c .before .before .before .before .args) .steps) ((c .enum-told3) .given .1) refl
 
--- src/lib.rt:46:1
 returns-4 : tie.Need-returns-4
 unfolding answerOf
 returns-4 c = at-stop Stuck (at (lent (((c .before .before .before .before .args) .rk) .now) (((c .before .before .before .before .args) .rn) .now)) 0) ((c .before .before .before .before .args) .steps) ((c .enum-told4) .given .1) refl

@@ -2,14 +2,10 @@ use borrow.Author.Needs.{needs}
 use Rattle.launch.proofs.Laws.{under-cap, over-cap}
 use Rattle.launch.proofs.capped.Statement.{statement}
 use Rattle.launch.proofs.capped.Tie as tie
-use Rattle.launch.proofs.capped.Reads as reads
-use Rattle.launch.proofs.capped.Lts as lts
 
--- src/lib.rt:77:1
 returns : tie.Need-returns
 returns c = under-cap ((c .before .args) .m) ((c .if1) .taken)
 
--- src/lib.rt:77:1
 returns-2 : tie.Need-returns-2
 returns-2 c = over-cap ((c .before .args) .m) ((c .if1) .left)
 

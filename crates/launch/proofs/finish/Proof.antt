@@ -2,27 +2,19 @@ use Rattle.launch.proofs.Laws.{at-pause, at-end}
 use borrow.Author.Needs.{needs}
 use Rattle.launch.proofs.finish.Statement.{statement}
 use Rattle.launch.proofs.finish.Tie as tie
-use Rattle.launch.proofs.finish.Reads as reads
-use Rattle.launch.proofs.finish.Lts as lts
-use Rattle.launch.proofs.answer_at.Reads as answer-at-reads
 
--- src/lib.rt:65:33
 enum-known-ran : tie.Need-enum-known-ran
 enum-known-ran c = search needs
 
--- src/lib.rt:69:32
 enum-known-ran-2 : tie.Need-enum-known-ran-2
 enum-known-ran-2 c = search needs
 
--- src/lib.rt:70:21
 answer-at-requires : tie.Need-answer-at-requires
 answer-at-requires c κs = search needs
 
--- src/lib.rt:61:1
 returns : tie.Need-returns
 returns c = λ sk sn hk hn. at-pause (((c .before .before .before .before .before .args) .rk) .now) (((c .before .before .before .before .before .args) .rn) .now) sk sn hk hn ((c .before .ran) .given .1)
 
--- src/lib.rt:61:1
 returns-2 : tie.Need-returns-2
 returns-2 c = λ sk sn hk hn. at-end (((c .before .before .before .before .before .before .args) .rk) .now) (((c .before .before .before .before .before .before .args) .rn) .now) sk sn hk hn ((c .before .before .ran2) .given .1) ((c .answer-at) .ensures)
 

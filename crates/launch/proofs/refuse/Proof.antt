@@ -1,10 +1,7 @@
 use mathlib.Core.Path.{refl}
 use Rattle.launch.proofs.refuse.Statement.{statement}
 use Rattle.launch.proofs.refuse.Tie as tie
-use Rattle.launch.proofs.refuse.Reads as reads
-use Rattle.launch.proofs.refuse.Lts as lts
 
--- src/lib.rt:40:1
 returns : tie.Need-returns
 returns c = refl
 

@@ -5,53 +5,37 @@ use Rattle.machine.specs.Step.{stateOf}
 use borrow.Author.Needs.{needs}
 use Rattle.launch.proofs.run_from.Statement.{statement}
 use Rattle.launch.proofs.run_from.Tie as tie
-use Rattle.launch.proofs.run_from.Reads as reads
-use Rattle.launch.proofs.run_from.Lts as lts
-use Rattle.launch.proofs.capped.Reads as capped-reads
-use Rattle.launch.proofs.finish.Reads as finish-reads
-use Rattle.runner.proofs.run.Reads as run-reads
 
--- src/lib.rt:122:9
 capped-requires : tie.Need-capped-requires
 capped-requires c κs = search needs
 
--- src/lib.rt:107:9
 run-requires : tie.Need-run-requires
 run-requires c κs = search needs
 
--- src/lib.rt:124:5
 finish-requires : tie.Need-finish-requires
 finish-requires c κs = search needs
 
--- src/lib.rt:87:1
 same-length : tie.Need-same-length
 same-length c = search needs
 
--- src/lib.rt:87:1
 same-length-2 : tie.Need-same-length-2
 same-length-2 c = search needs
 
--- src/lib.rt:87:1
 same-length-3 : tie.Need-same-length-3
 same-length-3 c = search needs
 
--- src/lib.rt:87:1
 same-length-4 : tie.Need-same-length-4
 same-length-4 c = search needs
 
--- src/lib.rt:87:1
 same-length-5 : tie.Need-same-length-5
 same-length-5 c = search needs
 
--- src/lib.rt:87:1
 same-length-6 : tie.Need-same-length-6
 same-length-6 c = search needs
 
--- src/lib.rt:87:1
 same-length-7 : tie.Need-same-length-7
 same-length-7 c = search needs
 
--- src/lib.rt:87:1
 returns : tie.Need-returns
 returns c =
     let d = (c .before .before .before .before .before .before .before .before .before .before .before .before .before .before .before .before .before .run) .last .1 .1 .1 .1 .1 .1 .1 in

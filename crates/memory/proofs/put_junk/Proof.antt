@@ -31,11 +31,11 @@ loop-holds c =
     let a = c .before .before .before .before .args in
     (search needs, refl, refl, rw (add-zero, sub-zero) (ap₂ (λ (x y : ℕ). puts (lent (a .kinds .now) (a .numbers .now)) x (replicate y junkWord)) (c .before .wide .ensures .0) (c .wide2 .ensures .0)))
 
-add-put : tie.Need-add-put Inv-loop μ-loop
-add-put c = search needs
+add-set : tie.Need-add-set Inv-loop μ-loop
+add-set c = search needs
 
-put-requires : tie.Need-put-requires Inv-loop μ-loop
-put-requires c κs = search needs
+set-requires : tie.Need-set-requires Inv-loop μ-loop
+set-requires c κs = search needs
 
 add-i : tie.Need-add-i Inv-loop μ-loop
 add-i c = search needs
@@ -47,7 +47,7 @@ loop-again : tie.Need-loop-again Inv-loop μ-loop
 loop-again c =
     let l = c .before .before .before .before .before .before .before .before .loop in
     let s = c .before .before .before .before .before .before .before .before .before .before .wide .result in
-    let p = c .before .before .before .before .put in
+    let p = c .before .before .before .before .set in
     let e : s + (l .i + 1) ≡ suc (s + l .i) = omega arith in (
       search needs,
       p .kept .0 ∙ l .inv .1,
@@ -75,8 +75,8 @@ put-junk-spec =
     wide-requires
     wide-requires-2
     loop-holds
-    add-put
-    put-requires
+    add-set
+    set-requires
     add-i
     loop-less
     loop-again

@@ -7,155 +7,117 @@ use Rattle.predecode.proofs.Laws.{row-is}
 use borrow.Author.Needs.{needs}
 use Rattle.predecode.proofs.make_row.Statement.{statement}
 use Rattle.predecode.proofs.make_row.Tie as tie
-use Rattle.predecode.proofs.make_row.Reads as reads
-use Rattle.predecode.proofs.make_row.Lts as lts
-use Rattle.memory.proofs.entry.Reads as entry-reads
-use Rattle.memory.proofs.wide.Reads as wide-reads
-use Rattle.predecode.proofs.branch_kind.Reads as branch-kind-reads
-use Rattle.predecode.proofs.checked.Reads as checked-reads
-use Rattle.predecode.proofs.choose.Reads as choose-reads
-use Rattle.predecode.proofs.column.Reads as column-reads
-use Rattle.predecode.proofs.form.Reads as form-reads
-use Rattle.predecode.proofs.goal.Reads as goal-reads
-use Rattle.predecode.proofs.kind_of.Reads as kind-of-reads
-use Rattle.predecode.proofs.last.Reads as last-reads
-use Rattle.predecode.proofs.narrow.Reads as narrow-reads
-use Rattle.predecode.proofs.number_at.Reads as number-at-reads
-use Rattle.predecode.proofs.put_row.Reads as put-row-reads
 
--- src/lib.rt:221:13
 mul-p : tie.Need-mul-p
 mul-p c = search needs
 
--- src/lib.rt:222:9
 entry-requires : tie.Need-entry-requires
 entry-requires c κs = search needs
 
--- src/lib.rt:223:9
 entry-requires-2 : tie.Need-entry-requires-2
 entry-requires-2 c κs = search needs
 
--- src/lib.rt:224:9
 entry-requires-3 : tie.Need-entry-requires-3
 entry-requires-3 c κs = search needs
 
--- src/lib.rt:225:9
 entry-requires-4 : tie.Need-entry-requires-4
 entry-requires-4 c κs = search needs
 
--- src/lib.rt:226:9
 entry-requires-5 : tie.Need-entry-requires-5
 entry-requires-5 c κs = search needs
 
--- src/lib.rt:227:9
 entry-requires-6 : tie.Need-entry-requires-6
 entry-requires-6 c κs = search needs
 
--- src/lib.rt:228:24
 entry-requires-7 : tie.Need-entry-requires-7
 entry-requires-7 c κs = search needs
 
--- src/lib.rt:228:9
 kind-of-requires : tie.Need-kind-of-requires
 kind-of-requires c κs = search needs
 
--- src/lib.rt:229:9
 number-at-requires : tie.Need-number-at-requires
 number-at-requires c κs = search needs
 
--- src/lib.rt:230:9
 wide-requires : tie.Need-wide-requires
 wide-requires c κs = search needs
 
--- src/lib.rt:231:9
 entry-requires-8 : tie.Need-entry-requires-8
 entry-requires-8 c κs = search needs
 
--- src/lib.rt:232:9
 branch-kind-requires : tie.Need-branch-kind-requires
 branch-kind-requires c κs = search needs
 
--- src/lib.rt:233:20
+constant-kind-requires : tie.Need-constant-kind-requires
+constant-kind-requires c κs = search needs
+
 column-requires : tie.Need-column-requires
 column-requires c κs = search needs
 
--- src/lib.rt:233:9
 choose-requires : tie.Need-choose-requires
 choose-requires c κs =
-    let o : (c .before .branch-kind) .result < 65536 = omega (arith, (c .before .branch-kind) .ensures, (c .before .before .before .before .before .before .before .before .before .before .before .before .entry) .ensures .1) in
-    ((c .before .before .before .before .before .before .before .before .before .before .before .entry2) .ensures .1, (c .before .before .before .before .before .before .before .before .before .before .entry3) .ensures .1, (c .before .before .before .before .before .before .before .before .before .entry4) .ensures .1, (c .before .before .entry8) .ensures .1, (c .before .before .before .before .before .before .before .before .entry5) .ensures .1, o)
+    let o : (c .before .before .branch-kind) .result < 65536 = omega (arith, (c .before .before .branch-kind) .ensures, (c .before .before .before .before .before .before .before .before .before .before .before .before .before .entry) .ensures .1) in
+    let q : (c .before .constant-kind) .result < 65536 = omega (arith, (c .before .constant-kind) .ensures, (c .before .before .before .before .before .before .kind-of) .ensures .1) in
+    ((c .before .before .before .before .before .before .before .before .before .before .before .before .entry2) .ensures .1, (c .before .before .before .before .before .before .before .before .before .before .before .entry3) .ensures .1, (c .before .before .before .before .before .before .before .before .before .before .entry4) .ensures .1, (c .before .before .before .entry8) .ensures .1, (c .before .before .before .before .before .before .before .before .before .entry5) .ensures .1, o, q)
 
--- src/lib.rt:234:20
 column-requires-2 : tie.Need-column-requires-2
 column-requires-2 c κs = search needs
 
--- src/lib.rt:234:9
 choose-requires-2 : tie.Need-choose-requires-2
 choose-requires-2 c κs =
-    let o : (c .before .before .before .branch-kind) .result < 65536 = omega (arith, (c .before .before .before .branch-kind) .ensures, (c .before .before .before .before .before .before .before .before .before .before .before .before .before .before .entry) .ensures .1) in
-    ((c .before .before .before .before .before .before .before .before .before .before .before .before .before .entry2) .ensures .1, (c .before .before .before .before .before .before .before .before .before .before .before .before .entry3) .ensures .1, (c .before .before .before .before .before .before .before .before .before .before .before .entry4) .ensures .1, (c .before .before .before .before .entry8) .ensures .1, (c .before .before .before .before .before .before .before .before .before .before .entry5) .ensures .1, o)
+    let o : (c .before .before .before .before .branch-kind) .result < 65536 = omega (arith, (c .before .before .before .before .branch-kind) .ensures, (c .before .before .before .before .before .before .before .before .before .before .before .before .before .before .before .entry) .ensures .1) in
+    let q : (c .before .before .before .constant-kind) .result < 65536 = omega (arith, (c .before .before .before .constant-kind) .ensures, (c .before .before .before .before .before .before .before .before .kind-of) .ensures .1) in
+    ((c .before .before .before .before .before .before .before .before .before .before .before .before .before .before .entry2) .ensures .1, (c .before .before .before .before .before .before .before .before .before .before .before .before .before .entry3) .ensures .1, (c .before .before .before .before .before .before .before .before .before .before .before .before .entry4) .ensures .1, (c .before .before .before .before .before .entry8) .ensures .1, (c .before .before .before .before .before .before .before .before .before .before .before .entry5) .ensures .1, o, q)
 
--- src/lib.rt:235:20
 column-requires-3 : tie.Need-column-requires-3
 column-requires-3 c κs = search needs
 
--- src/lib.rt:235:9
 choose-requires-3 : tie.Need-choose-requires-3
 choose-requires-3 c κs =
-    let o : (c .before .before .before .before .before .branch-kind) .result < 65536 = omega (arith, (c .before .before .before .before .before .branch-kind) .ensures, (c .before .before .before .before .before .before .before .before .before .before .before .before .before .before .before .before .entry) .ensures .1) in
-    ((c .before .before .before .before .before .before .before .before .before .before .before .before .before .before .before .entry2) .ensures .1, (c .before .before .before .before .before .before .before .before .before .before .before .before .before .before .entry3) .ensures .1, (c .before .before .before .before .before .before .before .before .before .before .before .before .before .entry4) .ensures .1, (c .before .before .before .before .before .before .entry8) .ensures .1, (c .before .before .before .before .before .before .before .before .before .before .before .before .entry5) .ensures .1, o)
+    let o : (c .before .before .before .before .before .before .branch-kind) .result < 65536 = omega (arith, (c .before .before .before .before .before .before .branch-kind) .ensures, (c .before .before .before .before .before .before .before .before .before .before .before .before .before .before .before .before .before .entry) .ensures .1) in
+    let q : (c .before .before .before .before .before .constant-kind) .result < 65536 = omega (arith, (c .before .before .before .before .before .constant-kind) .ensures, (c .before .before .before .before .before .before .before .before .before .before .kind-of) .ensures .1) in
+    ((c .before .before .before .before .before .before .before .before .before .before .before .before .before .before .before .before .entry2) .ensures .1, (c .before .before .before .before .before .before .before .before .before .before .before .before .before .before .before .entry3) .ensures .1, (c .before .before .before .before .before .before .before .before .before .before .before .before .before .before .entry4) .ensures .1, (c .before .before .before .before .before .before .before .entry8) .ensures .1, (c .before .before .before .before .before .before .before .before .before .before .before .before .before .entry5) .ensures .1, o, q)
 
--- src/lib.rt:236:21
 form-requires : tie.Need-form-requires
 form-requires c κs = search needs
 
--- src/lib.rt:236:9
 checked-requires : tie.Need-checked-requires
 checked-requires c κs = search needs
 
--- src/lib.rt:240:9
+class-requires : tie.Need-class-requires
+class-requires c κs = search needs
+
 narrow-requires : tie.Need-narrow-requires
 narrow-requires c κs = search needs
 
--- src/lib.rt:241:9
 narrow-requires-2 : tie.Need-narrow-requires-2
 narrow-requires-2 c κs = search needs
 
--- src/lib.rt:242:9
 narrow-requires-3 : tie.Need-narrow-requires-3
 narrow-requires-3 c κs = search needs
 
--- src/lib.rt:243:9
-narrow-requires-4 : tie.Need-narrow-requires-4
-narrow-requires-4 c κs = search needs
-
--- src/lib.rt:244:9
 last-requires : tie.Need-last-requires
-last-requires c κs = (c .before .before .before .before .before .before .before .before .before .before .before .before .before .before .before .before .before .before .before .entry6) .ensures .1
+last-requires c κs = (c .before .before .before .before .before .before .before .before .before .before .before .before .before .before .before .before .before .before .before .before .entry6) .ensures .1
 
--- src/lib.rt:245:9
 goal-requires : tie.Need-goal-requires
-goal-requires c κs = ((c .before .before .before .before .before .before .before .before .before .before .before .before .before .before .before .entry8) .ensures .1, (c .before .before .before .before .before .before .before .before .before .before .before .before .before .before .before .before .before .before .before .before .before .before .before .before .before .before .before .before .before .before .before .pre) .1)
+goal-requires c κs = ((c .before .before .before .before .before .before .before .before .before .before .before .before .before .before .before .before .entry8) .ensures .1, (c .before .before .before .before .before .before .before .before .before .before .before .before .before .before .before .before .before .before .before .before .before .before .before .before .before .before .before .before .before .before .before .before .pre) .1)
 
--- src/lib.rt:246:9
+fifth-requires : tie.Need-fifth-requires
+fifth-requires c κs = (c .before .before .before .before .before .before .before .checked) .ensures .1
+
 goal-requires-2 : tie.Need-goal-requires-2
-goal-requires-2 c κs = ((c .before .before .before .before .before .before .before .before .before .before .before .before .before .before .before .before .entry8) .ensures .1, (c .before .before .before .before .before .before .before .before .before .before .before .before .before .before .before .before .before .before .before .before .before .before .before .before .before .before .before .before .before .before .before .before .pre) .1)
+goal-requires-2 c κs = ((c .before .before .before .before .before .before .before .before .before .before .before .before .before .before .before .before .before .before .entry8) .ensures .1, (c .before .before .before .before .before .before .before .before .before .before .before .before .before .before .before .before .before .before .before .before .before .before .before .before .before .before .before .before .before .before .before .before .before .before .pre) .1)
 
--- src/lib.rt:247:9
 goal-requires-3 : tie.Need-goal-requires-3
-goal-requires-3 c κs = ((c .before .before .before .before .before .before .before .before .before .before .before .before .before .before .before .before .before .entry8) .ensures .1, (c .before .before .before .before .before .before .before .before .before .before .before .before .before .before .before .before .before .before .before .before .before .before .before .before .before .before .before .before .before .before .before .before .before .pre) .1)
+goal-requires-3 c κs = ((c .before .before .before .before .before .before .before .before .before .before .before .before .before .before .before .before .before .before .before .entry8) .ensures .1, (c .before .before .before .before .before .before .before .before .before .before .before .before .before .before .before .before .before .before .before .before .before .before .before .before .before .before .before .before .before .before .before .before .before .before .before .pre) .1)
 
--- src/lib.rt:237:5
 put-row-requires : tie.Need-put-row-requires
-put-row-requires c κs = (c .before .before .before .before .before .before .before .before .before .before .before .before .before .before .before .before .before .before .before .before .before .before .before .before .before .before .before .before .before .before .before .before .before .before .pre) .0
+put-row-requires c κs = (c .before .before .before .before .before .before .before .before .before .before .before .before .before .before .before .before .before .before .before .before .before .before .before .before .before .before .before .before .before .before .before .before .before .before .before .before .pre) .0
 
--- src/lib.rt:209:1
 same-length : tie.Need-same-length
 same-length c = search needs
 
--- src/lib.rt:209:1
 returns : tie.Need-returns
-returns c = λ m. (c .before .before .put-row) .ensures ∙ ap (λ (vs : List ℕ). putRow (((c .before .before .before .before .before .before .before .before .before .before .before .before .before .before .before .before .before .before .before .before .before .before .before .before .before .before .before .before .before .before .before .before .before .before .before .before .before .args) .plan) .now) (8 * ((c .before .before .before .before .before .before .before .before .before .before .before .before .before .before .before .before .before .before .before .before .before .before .before .before .before .before .before .before .before .before .before .before .before .before .before .before .before .args) .j)) vs) (row-is (((c .before .before .before .before .before .before .before .before .before .before .before .before .before .before .before .before .before .before .before .before .before .before .before .before .before .before .before .before .before .before .before .before .before .before .before .before .before .args) .instrs) .now) (((c .before .before .before .before .before .before .before .before .before .before .before .before .before .before .before .before .before .before .before .before .before .before .before .before .before .before .before .before .before .before .before .before .before .before .before .before .before .args) .operands) .now) (((c .before .before .before .before .before .before .before .before .before .before .before .before .before .before .before .before .before .before .before .before .before .before .before .before .before .before .before .before .before .before .before .before .before .before .before .before .before .args) .bases) .now) (((c .before .before .before .before .before .before .before .before .before .before .before .before .before .before .before .before .before .before .before .before .before .before .before .before .before .before .before .before .before .before .before .before .before .before .before .before .before .args) .blocks) .now) ((c .before .before .before .before .before .before .before .before .before .before .before .before .before .before .before .before .before .before .before .before .before .before .before .before .before .before .before .before .before .before .before .before .before .before .before .before .before .args) .labels) ((c .before .before .before .before .before .before .before .before .before .before .before .before .before .before .before .before .before .before .before .before .before .before .before .before .before .before .before .before .before .before .before .before .before .before .before .before .before .args) .j) ((c .before .before .before .before .before .before .before .before .before .before .before .before .before .before .before .before .before .before .before .before .before .before .before .before .before .before .before .before .before .before .before .entry) .ensures .0) ((c .before .before .before .before .before .before .before .before .before .before .before .before .before .before .before .before .before .before .before .before .before .before .before .before .before .before .before .before .before .before .entry2) .ensures .0) ((c .before .before .before .before .before .before .before .before .before .before .before .before .before .before .before .before .before .before .before .before .before .before .before .before .before .before .before .before .before .entry3) .ensures .0) ((c .before .before .before .before .before .before .before .before .before .before .before .before .before .before .before .before .before .before .before .before .before .before .before .before .before .before .before .before .entry4) .ensures .0) ((c .before .before .before .before .before .before .before .before .before .before .before .before .before .before .before .before .before .before .before .before .before .before .before .before .before .before .before .entry5) .ensures .0) ((c .before .before .before .before .before .before .before .before .before .before .before .before .before .before .before .before .before .before .before .before .before .before .before .before .before .before .entry6) .ensures .0) ((c .before .before .before .before .before .before .before .before .before .before .before .before .before .before .before .before .before .before .before .before .before .before .before .before .before .entry7) .ensures .0) ((c .before .before .before .before .before .before .before .before .before .before .before .before .before .before .before .before .before .before .before .before .before .before .before .before .kind-of) .ensures .0) ((c .before .before .before .before .before .before .before .before .before .before .before .before .before .before .before .before .before .before .before .before .before .before .before .number-at) .ensures) ((c .before .before .before .before .before .before .before .before .before .before .before .before .before .before .before .before .before .before .before .before .before .before .wide) .ensures .0) ((c .before .before .before .before .before .before .before .before .before .before .before .before .before .before .before .before .before .before .before .before .before .entry8) .ensures .0) ((c .before .before .before .before .before .before .before .before .before .before .before .before .before .before .before .before .before .before .before .before .branch-kind) .ensures) m ((c .before .before .before .before .before .before .before .before .before .before .before .before .before .before .before .before .before .before .before .column) .ensures) ((c .before .before .before .before .before .before .before .before .before .before .before .before .before .before .before .before .before .before .choose) .ensures .0) ((c .before .before .before .before .before .before .before .before .before .before .before .before .before .before .before .before .before .column2) .ensures) ((c .before .before .before .before .before .before .before .before .before .before .before .before .before .before .before .before .choose2) .ensures .0) ((c .before .before .before .before .before .before .before .before .before .before .before .before .before .before .before .column3) .ensures) ((c .before .before .before .before .before .before .before .before .before .before .before .before .before .before .choose3) .ensures .0) ((c .before .before .before .before .before .before .before .before .before .before .before .before .before .form) .ensures .0) ((c .before .before .before .before .before .before .before .before .before .before .before .before .checked) .ensures .0) ((c .before .before .before .before .before .before .before .before .before .before .narrow) .ensures) ((c .before .before .before .before .before .before .before .before .before .narrow2) .ensures) ((c .before .before .before .before .before .before .before .before .narrow3) .ensures) ((c .before .before .before .before .before .before .before .narrow4) .ensures) ((c .before .before .before .before .before .before .last) .ensures) ((c .before .before .before .before .before .goal) .ensures) ((c .before .before .before .before .goal2) .ensures) ((c .before .before .before .goal3) .ensures))
+returns c = λ m. (c .before .before .put-row) .ensures ∙ ap (λ (vs : List ℕ). putRow (((c .before .before .before .before .before .before .before .before .before .before .before .before .before .before .before .before .before .before .before .before .before .before .before .before .before .before .before .before .before .before .before .before .before .before .before .before .before .before .before .args) .plan) .now) (8 * ((c .before .before .before .before .before .before .before .before .before .before .before .before .before .before .before .before .before .before .before .before .before .before .before .before .before .before .before .before .before .before .before .before .before .before .before .before .before .before .before .args) .j)) vs) (row-is (((c .before .before .before .before .before .before .before .before .before .before .before .before .before .before .before .before .before .before .before .before .before .before .before .before .before .before .before .before .before .before .before .before .before .before .before .before .before .before .before .args) .instrs) .now) (((c .before .before .before .before .before .before .before .before .before .before .before .before .before .before .before .before .before .before .before .before .before .before .before .before .before .before .before .before .before .before .before .before .before .before .before .before .before .before .before .args) .operands) .now) (((c .before .before .before .before .before .before .before .before .before .before .before .before .before .before .before .before .before .before .before .before .before .before .before .before .before .before .before .before .before .before .before .before .before .before .before .before .before .before .before .args) .bases) .now) (((c .before .before .before .before .before .before .before .before .before .before .before .before .before .before .before .before .before .before .before .before .before .before .before .before .before .before .before .before .before .before .before .before .before .before .before .before .before .before .before .args) .blocks) .now) ((c .before .before .before .before .before .before .before .before .before .before .before .before .before .before .before .before .before .before .before .before .before .before .before .before .before .before .before .before .before .before .before .before .before .before .before .before .before .before .before .args) .labels) ((c .before .before .before .before .before .before .before .before .before .before .before .before .before .before .before .before .before .before .before .before .before .before .before .before .before .before .before .before .before .before .before .before .before .before .before .before .before .before .before .args) .j) ((c .before .before .before .before .before .before .before .before .before .before .before .before .before .before .before .before .before .before .before .before .before .before .before .before .before .before .before .before .before .before .before .before .before .entry) .ensures .0) ((c .before .before .before .before .before .before .before .before .before .before .before .before .before .before .before .before .before .before .before .before .before .before .before .before .before .before .before .before .before .before .before .before .entry2) .ensures .0) ((c .before .before .before .before .before .before .before .before .before .before .before .before .before .before .before .before .before .before .before .before .before .before .before .before .before .before .before .before .before .before .before .entry3) .ensures .0) ((c .before .before .before .before .before .before .before .before .before .before .before .before .before .before .before .before .before .before .before .before .before .before .before .before .before .before .before .before .before .before .entry4) .ensures .0) ((c .before .before .before .before .before .before .before .before .before .before .before .before .before .before .before .before .before .before .before .before .before .before .before .before .before .before .before .before .before .entry5) .ensures .0) ((c .before .before .before .before .before .before .before .before .before .before .before .before .before .before .before .before .before .before .before .before .before .before .before .before .before .before .before .before .entry6) .ensures .0) ((c .before .before .before .before .before .before .before .before .before .before .before .before .before .before .before .before .before .before .before .before .before .before .before .before .before .before .before .entry7) .ensures .0) ((c .before .before .before .before .before .before .before .before .before .before .before .before .before .before .before .before .before .before .before .before .before .before .before .before .before .before .kind-of) .ensures .0) ((c .before .before .before .before .before .before .before .before .before .before .before .before .before .before .before .before .before .before .before .before .before .before .before .before .before .number-at) .ensures) ((c .before .before .before .before .before .before .before .before .before .before .before .before .before .before .before .before .before .before .before .before .before .before .before .before .wide) .ensures .0) ((c .before .before .before .before .before .before .before .before .before .before .before .before .before .before .before .before .before .before .before .before .before .before .before .entry8) .ensures .0) ((c .before .before .before .before .before .before .before .before .before .before .before .before .before .before .before .before .before .before .before .before .before .before .branch-kind) .ensures) ((c .before .before .before .before .before .before .before .before .before .before .before .before .before .before .before .before .before .before .before .before .before .constant-kind) .ensures) m ((c .before .before .before .before .before .before .before .before .before .before .before .before .before .before .before .before .before .before .before .before .column) .ensures) ((c .before .before .before .before .before .before .before .before .before .before .before .before .before .before .before .before .before .before .before .choose) .ensures .0) ((c .before .before .before .before .before .before .before .before .before .before .before .before .before .before .before .before .before .before .column2) .ensures) ((c .before .before .before .before .before .before .before .before .before .before .before .before .before .before .before .before .before .choose2) .ensures .0) ((c .before .before .before .before .before .before .before .before .before .before .before .before .before .before .before .before .column3) .ensures) ((c .before .before .before .before .before .before .before .before .before .before .before .before .before .before .before .choose3) .ensures .0) ((c .before .before .before .before .before .before .before .before .before .before .before .before .before .before .form) .ensures .0) ((c .before .before .before .before .before .before .before .before .before .before .before .before .before .checked) .ensures .0) ((c .before .before .before .before .before .before .before .before .before .before .before .class) .ensures) ((c .before .before .before .before .before .before .before .before .before .before .narrow) .ensures) ((c .before .before .before .before .before .before .before .before .before .narrow2) .ensures) ((c .before .before .before .before .before .before .before .before .narrow3) .ensures) ((c .before .before .before .before .before .before .before .last) .ensures) ((c .before .before .before .before .before .before .goal) .ensures) ((c .before .before .before .before .before .fifth) .ensures) ((c .before .before .before .before .goal2) .ensures) ((c .before .before .before .goal3) .ensures))
 
 pub make-row-spec : {M : Type 1} → statement M
 make-row-spec =
@@ -174,6 +136,7 @@ make-row-spec =
     wide-requires
     entry-requires-8
     branch-kind-requires
+    constant-kind-requires
     column-requires
     choose-requires
     column-requires-2
@@ -182,12 +145,13 @@ make-row-spec =
     choose-requires-3
     form-requires
     checked-requires
+    class-requires
     narrow-requires
     narrow-requires-2
     narrow-requires-3
-    narrow-requires-4
     last-requires
     goal-requires
+    fifth-requires
     goal-requires-2
     goal-requires-3
     put-row-requires

@@ -2,8 +2,6 @@ use mathlib.Core.Path.{refl}
 use borrow.Author.Needs.{needs}
 use Rattle.runner.proofs.any_left.Statement.{statement}
 use Rattle.runner.proofs.any_left.Tie as tie
-use Rattle.runner.proofs.any_left.Reads as reads
-use Rattle.runner.proofs.any_left.Lts as lts
 
 returns : tie.Need-returns
 returns c = refl

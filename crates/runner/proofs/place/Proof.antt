@@ -2,10 +2,7 @@ use borrow.Author.Needs.{needs}
 use Rattle.runner.proofs.Laws.{place-at}
 use Rattle.runner.proofs.place.Statement.{statement}
 use Rattle.runner.proofs.place.Tie as tie
-use Rattle.runner.proofs.place.Reads as reads
-use Rattle.runner.proofs.place.Lts as lts
 
--- src/lib.rt:26:1
 returns : tie.Need-returns
 returns c = λ j e. place-at ((c .args) .at) ((c .args) .depth) ((c .args) .used) j e
 

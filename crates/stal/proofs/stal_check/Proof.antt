@@ -5,7 +5,7 @@ use Rattle.stal.proofs.stal_check.Tie as tie
 use Rattle.stal.proofs.stal_check.Reads as reads
 use Rattle.stal.proofs.stal_check.Lts as lts
 use Rattle.checker.proofs.check.Reads as check-reads
-use Rattle.stal.proofs.verdict_of.Reads as verdict-of-reads
+use Rattle.stal_numbers.proofs.verdict_of.Reads as verdict-of-reads
 
 -- src/lib.rt:83:27
 check-requires : tie.Need-check-requires

@@ -5,7 +5,7 @@ use Rattle.stal.proofs.stal_continue.Tie as tie
 use Rattle.stal.proofs.stal_continue.Reads as reads
 use Rattle.stal.proofs.stal_continue.Lts as lts
 use Rattle.execute.proofs.resume.Reads as resume-reads
-use Rattle.stal.proofs.reply_of.Reads as reply-of-reads
+use Rattle.stal_numbers.proofs.reply_of.Reads as reply-of-reads
 
 -- src/lib.rt:153:9
 resume-requires : tie.Need-resume-requires

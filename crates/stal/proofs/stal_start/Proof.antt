@@ -5,7 +5,7 @@ use Rattle.stal.proofs.stal_start.Tie as tie
 use Rattle.stal.proofs.stal_start.Reads as reads
 use Rattle.stal.proofs.stal_start.Lts as lts
 use Rattle.execute.proofs.start.Reads as start-reads
-use Rattle.stal.proofs.reply_of.Reads as reply-of-reads
+use Rattle.stal_numbers.proofs.reply_of.Reads as reply-of-reads
 
 -- src/lib.rt:115:9
 start-requires : tie.Need-start-requires

@@ -1,17 +1,15 @@
-use borrow.Author.Needs.{needs}
 use Prim.Native.Nat.{_+_, _-_}
-use Rattle.exec.specs.Machine.{at}
 use Rattle.memory.specs.Lent.{lent}
 use Rattle.predecode.specs.Plan.{targetAt, goalIn}
-use Rattle.step.specs.Stepped.{held}
-use Rattle.step.proofs.Laws.{as-turned}
+use Rattle.moved.specs.Stepped.{held}
+use Rattle.moved.proofs.Laws.{as-turned}
 use Rattle.step.proofs.Tabled.{starts, next-place, in-table, goals, step-is}
+use borrow.Author.Needs.{needs}
 use Rattle.step.proofs.step.Statement.{statement}
 use Rattle.step.proofs.step.Tie as tie
 
 row-requires : tie.Need-row-requires
-row-requires c κs =
-    ((c .before .before .before .before .before .before .before .before .before .before .before .before .before .before .before .before .pre) .0, (c .before .before .before .before .before .before .before .before .before .before .before .before .before .before .before .before .pre) .1, (c .before .before .before .before .before .before .before .before .before .before .before .before .before .before .before .before .pre) .2, (c .before .before .before .before .before .before .before .before .before .before .before .before .before .before .before .before .pre) .3, (c .before .before .before .before .before .before .before .before .before .before .before .before .before .before .before .before .pre) .4, (c .before .before .before .before .before .before .before .before .before .before .before .before .before .before .before .before .pre) .5, (c .before .before .before .before .before .before .before .before .before .before .before .before .before .before .before .before .pre) .6, (c .before .before .before .before .before .before .before .before .before .before .before .before .before .before .before .before .pre) .7)
+row-requires c κs = ((c .before .before .before .before .before .before .before .before .before .before .before .before .before .before .before .before .pre) .0, (c .before .before .before .before .before .before .before .before .before .before .before .before .before .before .before .before .pre) .1, (c .before .before .before .before .before .before .before .before .before .before .before .before .before .before .before .before .pre) .2, (c .before .before .before .before .before .before .before .before .before .before .before .before .before .before .before .before .pre) .3, (c .before .before .before .before .before .before .before .before .before .before .before .before .before .before .before .before .pre) .4, (c .before .before .before .before .before .before .before .before .before .before .before .before .before .before .before .before .pre) .5, (c .before .before .before .before .before .before .before .before .before .before .before .before .before .before .before .before .pre) .6, (c .before .before .before .before .before .before .before .before .before .before .before .before .before .before .before .before .pre) .7, (c .before .before .before .before .before .before .before .before .before .before .before .before .before .before .before .before .pre) .8, (c .before .before .before .before .before .before .before .before .before .before .before .before .before .before .before .before .pre) .9)
 
 same-length : tie.Need-same-length
 same-length c = search needs
@@ -33,8 +31,8 @@ same-length-6 c = search needs
 
 returns : tie.Need-returns
 returns c =
-    let a = c .before .before .before .before .before .before .before .before .before .before .before .before .before .before .before .before .before .before .before .before .before .before .before .before .before .before .before .before .before .args in
-    λ T j pl fit e lj el eβ eo eb. as-turned (T .count) (a .more) (held (lent (a .rk .now) (a .rn .now)) (lent (a .sk .now) (a .sn .now)) (lent (a .hk .now) (a .hn .now)) (a .depth) (a .used) j) ((c .before .before .before .before .before .before .before .before .before .before .before .before .row) .result) (lent ((c .before .before .before .before .before .before .before .before .before .before .before .before .row) .last .1 .1 .1 .1 .1 .0) ((c .before .before .before .before .before .before .before .before .before .before .before .before .row) .last .1 .1 .1 .1 .1 .1 .0)) (lent ((c .before .before .before .before .before .before .before .before .before .before .before .before .row) .last .1 .1 .1 .1 .1 .1 .1 .0) ((c .before .before .before .before .before .before .before .before .before .before .before .before .row) .last .1 .1 .1 .1 .1 .1 .1 .1 .0)) (lent ((c .before .before .before .before .before .before .before .before .before .before .before .before .row) .last .1 .1 .1 .1 .1 .1 .1 .1 .1 .0) ((c .before .before .before .before .before .before .before .before .before .before .before .before .row) .last .1 .1 .1 .1 .1 .1 .1 .1 .1 .1 .0)) (step-is T ((a .plan) .now) (a .at) j e pl lj (lent (a .rk .now) (a .rn .now)) (lent (a .sk .now) (a .sn .now)) (lent (a .hk .now) (a .hn .now)) (a .depth) (a .used) el eβ eo eb) ((c .before .before .before .before .before .before .before .before .before .before .before .before .row) .ensures (T .count) (targetAt T j) j (j + 1) (goalIn T j) (starts T fit el eβ) (goals T ((a .plan) .now) (a .at) j e pl lj (lent (a .rk .now) (a .rn .now)) (lent (a .sk .now) (a .sn .now)) (lent (a .hk .now) (a .hn .now)) (a .depth) (a .used) fit) (next-place T ((a .plan) .now) (a .at) j e) (in-table T ((a .plan) .now) (a .at) j e pl lj (lent (a .rk .now) (a .rn .now)) (lent (a .sk .now) (a .sn .now)) (lent (a .hk .now) (a .hn .now)) (a .depth) (a .used)))
+    let a = (c .before .before .before .before .before .before .before .before .before .before .before .before .before .before .before .before .before .before .before .before .before .before .before .before .before .before .before .before .before .args) in
+    λ T j pl fit e lj el eβ eo eb. as-turned (T .count) (a .more) (held (lent (a .rk .now) (a .rn .now)) (lent (a .sk .now) (a .sn .now)) (lent (a .hk .now) (a .hn .now)) (a .depth) (a .used) j) ((c .before .before .before .before .before .before .before .before .before .before .before .before .row) .result) (lent ((c .before .before .before .before .before .before .before .before .before .before .before .before .row) .last .1 .1 .1 .1 .1 .0) ((c .before .before .before .before .before .before .before .before .before .before .before .before .row) .last .1 .1 .1 .1 .1 .1 .0)) (lent ((c .before .before .before .before .before .before .before .before .before .before .before .before .row) .last .1 .1 .1 .1 .1 .1 .1 .0) ((c .before .before .before .before .before .before .before .before .before .before .before .before .row) .last .1 .1 .1 .1 .1 .1 .1 .1 .0)) (lent ((c .before .before .before .before .before .before .before .before .before .before .before .before .row) .last .1 .1 .1 .1 .1 .1 .1 .1 .1 .0) ((c .before .before .before .before .before .before .before .before .before .before .before .before .row) .last .1 .1 .1 .1 .1 .1 .1 .1 .1 .1 .0)) (step-is T (a .plan .now) (a .at) j e pl lj (lent (a .rk .now) (a .rn .now)) (lent (a .sk .now) (a .sn .now)) (lent (a .hk .now) (a .hn .now)) (a .depth) (a .used) el eβ eo eb) ((c .before .before .before .before .before .before .before .before .before .before .before .before .row) .ensures (T .count) (targetAt T j) j (j + 1) (goalIn T j) (starts T fit el eβ) (goals T (a .plan .now) (a .at) j e pl lj (lent (a .rk .now) (a .rn .now)) (lent (a .sk .now) (a .sn .now)) (lent (a .hk .now) (a .hn .now)) (a .depth) (a .used) fit) (next-place T (a .plan .now) (a .at) j e) (in-table T (a .plan .now) (a .at) j e pl lj (lent (a .rk .now) (a .rn .now)) (lent (a .sk .now) (a .sn .now)) (lent (a .hk .now) (a .hn .now)) (a .depth) (a .used)))
 
 pub step-spec : {M : Type 1} → statement M
 step-spec =

@@ -1,0 +1,74 @@
+// The answers of check, start and continue as numbers, for crate stal: a code, and the values that document 01 gives for it.
+// Promised: the numbers that specs/Numbers.antt has for each case. Nothing is asked.
+use launch::Answer;
+ghost use mathlib.Core.Path.{_≡_};
+ghost use Rattle.launch.specs.Answers.{answerIs};
+ghost use Rattle.stal_numbers.specs.Numbers.{verdictBy, reply, replyOf};
+
+// Check's answer in numbers: 0, blocks and instructions, or a fault's number, its line and an item.
+pub struct Verdict {
+    pub code: usize,
+    pub first: usize,
+    pub second: usize,
+}
+
+// A run's answer in numbers: a fault's number and line, or a stop and the steps, a halt with r1's kind and number.
+pub struct Reply {
+    pub code: usize,
+    pub first: usize,
+    pub kind: u8,
+    pub number: u32,
+}
+
+fn stopped(code: usize, first: usize) -> Reply
+    ensures { λ r. ⌜ r ≡ reply code first 0 0 ⌝ }
+{
+    Reply {
+        code: code,
+        first: first,
+        kind: 0,
+        number: 0,
+    }
+}
+
+// The numbers of an answer to start or continue.
+pub fn reply_of(a: Answer) -> Reply
+    ensures { λ r. ⌜ r ≡ replyOf (answerIs a) ⌝ }
+{
+    match a {
+        Answer::Refused(number, line) => stopped(number, line),
+        Answer::Halted(steps, kind, number) => Reply {
+            code: 0,
+            first: steps,
+            kind: kind,
+            number: number,
+        },
+        Answer::Paused(steps) => stopped(17, steps),
+        Answer::StackFull(steps) => stopped(18, steps),
+        Answer::HeapFull(steps) => stopped(19, steps),
+        Answer::Stuck(steps) => stopped(20, steps),
+    }
+}
+
+// The numbers of an answer to check.
+pub fn verdict_of(a: checker::Answer) -> Verdict
+    ensures { λ r. ⌜ r ≡ verdictBy a ⌝ }
+{
+    match a {
+        checker::Answer::Accepted(blocks, instrs) => Verdict {
+            code: 0,
+            first: blocks,
+            second: instrs,
+        },
+        checker::Answer::Refused(number, line) => Verdict {
+            code: number,
+            first: line,
+            second: 100,
+        },
+        checker::Answer::Unfit(line, item) => Verdict {
+            code: 10,
+            first: line,
+            second: item,
+        },
+    }
+}
