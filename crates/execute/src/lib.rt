@@ -1,6 +1,6 @@
 // Starting and continuing a run, from a program's text, its samples' text and lent memory. Promised, on every input: the answer and the
 // whole lent state, one equation with `starting` and one with `continuing` of crate exec. A refusal changes nothing that is lent.
-// A small text is loaded into small tables; one that does not fit them goes to the large ones, which stand on the stack, some 530 KB.
+// A small text is loaded into small tables; one that does not fit them goes to the large ones, which stand on the stack, some 560 KB.
 // rk and rn are the registers' kinds and numbers, sk and sn the stack's, hk and hn the heap's; `place` says how much is in use.
 ghost use mathlib.Core.Path.{_≡_};
 ghost use mathlib.Core.Bool.{true};
