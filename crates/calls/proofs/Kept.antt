@@ -1,7 +1,7 @@
 -- A step of a program that can be started keeps good form, and so does a run.
 use Prim.Native.Nat.{ℕ, zero, suc, _+_, _-_, _≤_, _<_}
 use native.Mathlib.Omega.{arith}
-use mathlib.Core.Path.{_≡_, refl, sym, _∙_}
+use mathlib.Core.Path.{_≡_, refl, ap, sym, _∙_}
 use mathlib.Core.Bool.{Bool, true, false, cond}
 use mathlib.Core.Option.{Option, none, some}
 use mathlib.Core.List.{List, [], _∷_, _++_, map}
@@ -81,17 +81,24 @@ module _ (P : Bodies) (σ : State) (f : Form P σ) where
   operands-good [] h = tt
   operands-good (v ∷ vs) h = (operand-good v (h .0), operands-good vs (h .1))
 
-  -- component i of the tuple whose handle register r holds is in use, and no tuple starts there
+  -- the tuple whose handle register r holds is in use
+  pub handle-fits : (r : ℕ) → r < 8 → at (σ .registers) r .kind ≡ tupleKind → componentAt (at (σ .registers) r .number) (lengthAt σ (at (σ .registers) r .number)) ≤ σ .used
+  handle-fits r l k =
+      let a = at (σ .registers) r .number in
+      let b = tuple-fits H 0 a (f .tuples) (handle-starts H (at (σ .registers) r) k (register-good r l)) in
+      let n = use-length (σ .heap) (σ .used) in
+      let e : getD H a junkWord .number ≡ lengthAt σ a = ap (λ (w : Word). w .number) (use-at (σ .heap) (σ .used) a (omega arith)) in
+      omega arith
+
+  -- so is its component i, and no tuple starts there
   component : (r i : ℕ) → r < 8 → at (σ .registers) r .kind ≡ tupleKind → i < lengthAt σ (at (σ .registers) r .number)
       → (componentAt (at (σ .registers) r .number) i < σ .used) × (startsAt H 0 (componentAt (at (σ .registers) r .number) i) ≡ false)
   component r i l k h =
       let a = at (σ .registers) r .number in
-      let s = handle-starts H (at (σ .registers) r) k (register-good r l) in
-      let b = tuple-fits H 0 a (f .tuples) s in
-      let n = use-length (σ .heap) (σ .used) in
+      let b = handle-fits r l k in
       let e = use-at (σ .heap) (σ .used) a (omega arith) in
       let q : i < getD H a junkWord .number = rw e h in
-      (omega arith, tuple-inside H 0 a i (f .tuples) s q)
+      (omega arith, tuple-inside H 0 a i (f .tuples) (handle-starts H (at (σ .registers) r) k (register-good r l)) q)
 
   -- ---- what is written
   -- the heap as it was

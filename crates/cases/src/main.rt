@@ -2,10 +2,10 @@
 // answer and the whole lent state with what the cases say. Check: the counts of blocks and instructions, or number and line, and at fault 10
 // of a jump or branch the item named is one of those listed. Start and resume: the stop, the steps and r1's word, or number and line. State:
 // every lent word, the depth, the heap's use and the position. A case that differs is printed by its name, and at the end how many there are.
-use checker::Answer;
-use launch::Outcome;
 use libc::STDOUT_FILENO;
 use machine::Place;
+use outcome::Outcome;
+use verdict::Answer;
 ghost use Prim.Native.Nat.{_<_, _≤_};
 ghost use lib.ListN.{length};
 ghost use Rattle.io.specs.Counts.{Counts};
@@ -201,19 +201,19 @@ fn is_answer(line: &[u8], answer: Answer) -> bool {
 }
 
 // A call's answer is that of the line, from field 1 on.
-fn is_stop(line: &[u8], answer: launch::Answer) -> bool {
+fn is_stop(line: &[u8], answer: outcome::Answer) -> bool {
     match answer {
-        launch::Answer::Refused(number, at) => has_numbers(line, 1, 0, number, at),
-        launch::Answer::Halted(steps, kind, number) => {
+        outcome::Answer::Refused(number, at) => has_numbers(line, 1, 0, number, at),
+        outcome::Answer::Halted(steps, kind, number) => {
             if field(line, 4) != number as usize {
                 return false;
             }
             has_numbers(line, 1, 1, steps, kind as usize)
         }
-        launch::Answer::Paused(steps) => has_numbers(line, 1, 2, steps, 0),
-        launch::Answer::StackFull(steps) => has_numbers(line, 1, 3, steps, 0),
-        launch::Answer::HeapFull(steps) => has_numbers(line, 1, 4, steps, 0),
-        launch::Answer::Stuck(steps) => has_numbers(line, 1, 5, steps, 0),
+        outcome::Answer::Paused(steps) => has_numbers(line, 1, 2, steps, 0),
+        outcome::Answer::StackFull(steps) => has_numbers(line, 1, 3, steps, 0),
+        outcome::Answer::HeapFull(steps) => has_numbers(line, 1, 4, steps, 0),
+        outcome::Answer::Stuck(steps) => has_numbers(line, 1, 5, steps, 0),
     }
 }
 
@@ -521,7 +521,7 @@ fn call(
 }
 
 // After a call that is answered as the line says, or not.
-fn called(line: &[u8], b: Bench, answer: launch::Answer, place: Place) -> Bench {
+fn called(line: &[u8], b: Bench, answer: outcome::Answer, place: Place) -> Bench {
     let agrees = is_stop(line, answer);
     let mut next = b;
     next.calls = one_more(b.calls);

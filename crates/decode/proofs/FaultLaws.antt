@@ -11,13 +11,14 @@ use lib.Dec.{eqb, leb}
 use lib.ListN.{length}
 use borrow.Author.Tests.{lt-ltb, le-ltb, ne-eqb}
 use Rattle.syntax.specs.Syntax.{Row, Instr, Entry, row, block, instr}
-use Rattle.syntax.specs.Fault.{Fault, fault, numberOf, given, Pass, itemsOf, lowest, refuse, lowestLine}
+use Rattle.syntax.specs.Fault.{Fault, numberOf, given, Pass, itemsOf, lowest, refuse, lowestLine}
 use Rattle.syntax.proofs.Least.{leastOf, line-next, line-here}
 use Rattle.text.specs.Bytes.{linesOf}
 use Rattle.text.specs.Grammar.{parse}
 use Rattle.text.specs.PassOne.{isLast, Place, placeAfter, inOrder, mayEnd, Counts, counted, tooMany, lineFaults, after, with-one, linesFaults, passOne}
 use Rattle.decode_store.specs.Lines.{usedAfter}
-use Rattle.decode.specs.Decoded.{refusalOf, noneUsed, faultyRead, goodRead, lastRead, placeOf, placeBehind, faultOf, lineFault}
+use Rattle.decode.specs.Decoded.{refusalOf, placeOf}
+use Rattle.decode_state.specs.State.{noneUsed, faultyRead, goodRead, lastRead, placeBehind, faultOf, lineFault}
 use Rattle.decode_store.specs.declared.Used.{Used}
 use Rattle.decode_store.specs.declared.Line.{Line}
 use Rattle.decode_store.specs.declared.Line.the-variants as line

@@ -22,10 +22,11 @@ use Rattle.lines.proofs.Parts.{line-ended, line-unended, lines-none, end-from, 
 use Rattle.lines.proofs.InLine.{line-there, line-before}
 use Rattle.decode_store.specs.Store.{Store, rowTable, operandsOf, Room, RoomFor, Few, Same}
 use Rattle.decode_store.specs.Lines.{operandCount, usedAfter, endsBlock, Listed, LineIs, LineEnds}
-use Rattle.decode.specs.Decoded.{refusalOf, noneUsed, faultyRead, goodRead, lastRead, Decoded, ReadIs, placeOf, placeBehind, faultOf, lineFault}
+use Rattle.decode.specs.Decoded.{refusalOf, Decoded, ReadIs, placeOf}
+use Rattle.decode_state.specs.State.{noneUsed, faultyRead, goodRead, lastRead, placeBehind, faultOf, lineFault}
 use Rattle.decode_store.specs.declared.Used.{Used}
 use Rattle.decode_store.specs.declared.LineRead.{LineRead}
-use Rattle.decode.specs.declared.Read.{Read}
+use Rattle.decode_state.specs.declared.Read.{Read}
 use Rattle.decode_store.specs.declared.Line as decoded
 use Rattle.decode_store.specs.declared.Line.the-variants as line
 use Rattle.decode_store.proofs.LineLaws.{same-refl, room-for}

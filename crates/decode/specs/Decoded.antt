@@ -1,43 +1,20 @@
 -- What decoding a text answers, and what it leaves in the tables.
 use Prim.Native.Nat.{ℕ, zero, suc, _+_, _*_, _≤_, _<_}
 use mathlib.Core.Path.{_≡_}
-use mathlib.Core.Bool.{Bool, true, false, not, cond}
+use mathlib.Core.Bool.{Bool, true, cond}
 use mathlib.Core.Option.{Option, none, some}
 use mathlib.Core.List.{List, []}
-use lib.Dec.{eqb, leb}
+use lib.Dec.{eqb}
 use lib.ListN.{length}
 use Rattle.syntax.specs.Fault.{Refusal, lowestLine}
 use Rattle.text.specs.PassOne.{Place, atRows, inBlock, behindBlock, passOne, entriesOf, rowsOf, listingsOf}
 use Rattle.tables.specs.Tables.{cell, rowsIn, blocksFrom}
 use Rattle.decode_store.specs.Store.{Store, rowTable, operandsOf}
-use Rattle.decode_store.specs.declared.Used.{Used}
-use Rattle.decode_store.specs.declared.Line.{Line}
-use Rattle.decode_store.specs.declared.Line.the-variants.{NoForm, Row, Block, Instruction, Last}
-use Rattle.decode.specs.declared.Read.{Read}
-
--- before the first line
-abbrev pub noneUsed : Used
-noneUsed = record { rows = 0; blocks = 0; instrs = 0; operands = 0 }
+use Rattle.decode_state.specs.declared.Read.{Read}
 
 -- the fault that an answer names; 0 for none
 abbrev pub refusalOf : Read → Option Refusal
 refusalOf r = cond (eqb (r .fault) 0) none (some (record { number = r .fault; line = r .line; items = [] }))
-
--- the answer where the text does not fit the tables
-abbrev pub unfitRead : Read
-unfitRead = record { fits = false; fault = 0; line = 0; rows = 0; blocks = 0; instrs = 0 }
-
--- the answer that names fault n on a line
-abbrev pub faultyRead : ℕ → ℕ → Read
-faultyRead n line = record { fits = true; fault = n; line = line; rows = 0; blocks = 0; instrs = 0 }
-
--- the answer that names none, with what is in use
-abbrev pub goodRead : Used → Read
-goodRead u = record { fits = true; fault = 0; line = 0; rows = u .rows; blocks = u .blocks; instrs = u .instrs }
-
--- at the end of the text, at a place and with what is in use there
-abbrev pub lastRead : ℕ → ℕ → Used → Read
-lastRead place line u = cond (eqb place 1) (faultyRead 2 line) (goodRead u)
 
 -- the operands of instruction j stand in the tables: entry 5 says where they start, entry 6 how many they are
 abbrev pub OperandsIn : Store → ℕ → Type 0
@@ -75,24 +52,3 @@ abbrev pub placeOf : ℕ → Place
 placeOf zero = atRows
 placeOf (suc zero) = inBlock
 placeOf (suc (suc n)) = behindBlock
-
--- the place behind a line that stood at p
-abbrev pub placeBehind : Line → ℕ → ℕ
-placeBehind NoForm p = p
-placeBehind Row p = 0
-placeBehind Block p = 1
-placeBehind (Instruction n) p = 1
-placeBehind (Last n) p = 2
-
--- ---- a line's fault, 0 for none
--- 2 out of order, 3 where no place is left
-abbrev pub faultOf : Bool → Bool → ℕ
-faultOf in-order full = cond in-order (cond full 3 0) 2
-
--- the fault of a line that stands at p, with what is in use before it
-abbrev pub lineFault : Line → ℕ → Used → ℕ
-lineFault NoForm p u = 1
-lineFault Row p u = faultOf (eqb p 0) (leb 512 (u .rows))
-lineFault Block p u = faultOf (not (eqb p 1)) (leb 64 (u .blocks))
-lineFault (Instruction n) p u = faultOf (eqb p 1) (leb 1024 (u .instrs))
-lineFault (Last n) p u = faultOf (eqb p 1) (leb 1024 (u .instrs))

@@ -14,7 +14,7 @@ use Rattle.syntax.specs.Partial.{bind, when}
 use Rattle.syntax.specs.Syntax.{Kind, rowU, rowC, Operand, Entry, row}
 use Rattle.text.specs.Grammar.{Form, _>>=_, end, each, rest, rowNumber, index, amount, register, letters, known, operand, Named, forms}
 use Rattle.tables.specs.Tables.{rowFrom, knownOf}
-use Rattle.fields.specs.Names.{formAt}
+use Rattle.names.specs.Names.{formAt}
 use Rattle.decode_line.specs.Fields.{plainField, readSlot, readSlots, atMost, keptAs, partNumber}
 use Rattle.decode_line.specs.Forms.{formTable, formCell, kindsOf, fewest, instrWith, entryWith}
 

@@ -21,8 +21,8 @@ use Rattle.lines.specs.Parts.{firstPart}
 use Rattle.numbers.specs.Numbers.{numberOf}
 use Rattle.numbers.specs.declared.Number.{Number}
 use Rattle.numbers.specs.declared.Number.the-variants.{Value, Bad}
-use Rattle.fields.specs.Answers.{countOf, kindCode, codesOf}
-use Rattle.fields.specs.Names.{formAt}
+use Rattle.names.specs.Letters.{countOf, kindCode, codesOf}
+use Rattle.names.specs.Names.{formAt}
 use Rattle.decode_line.specs.Fields.{fieldsFrom, readSlot, readSlots, atMost, partNumber}
 use Rattle.decode_line.specs.Forms.{formTable, formCell, kindsOf, fewest, entryWith}
 use Rattle.decode_line.specs.Answers.{slotOf, slotsOf, PartsRead, SameOperands, OperandsRead, noEntry, saidBy, PlainIs, RowIs, FormIs}

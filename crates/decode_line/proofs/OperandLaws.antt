@@ -18,8 +18,8 @@ use Rattle.text.specs.Grammar.{each, rowNumber, carrier, orLiteral, carried, fr
 use Rattle.tables.specs.Tables.{cell, span, baseOf, operandOf, OperandTable, operandAt, operandsAt}
 use Rattle.tables.proofs.Spans.{same-less, same-at, same-sets, span-same, span-sets, sets-at, operands-snoc}
 use Rattle.lines.specs.Parts.{firstPart}
-use Rattle.fields.specs.Answers.{answerOf, argsOf, OperandIs}
-use Rattle.fields.specs.declared.OperandRead.{OperandRead}
+use Rattle.plain_operands.specs.Answers.{answerOf, argsOf, OperandIs}
+use Rattle.plain_operands.specs.declared.OperandRead.{OperandRead}
 use Rattle.decode_line.specs.Fields.{fieldsFrom, atMost}
 use Rattle.decode_line.specs.Answers.{SameOperands, operandTable, withOperand, OperandRoom, OperandsRead}
 use Rattle.decode_line.specs.declared.Count.{Count}

@@ -21,8 +21,8 @@ use Rattle.numbers.specs.declared.Scan.{Scan}
 use Rattle.numbers.specs.declared.Number.the-variants.{Value, Bad}
 use Rattle.numbers.proofs.Laws.{number-bounds}
 use Rattle.numbers.proofs.Scans.{scan-some}
-use Rattle.fields.specs.Answers.{OperandIs}
-use Rattle.fields.specs.declared.OperandRead.{OperandRead}
+use Rattle.plain_operands.specs.Answers.{OperandIs}
+use Rattle.plain_operands.specs.declared.OperandRead.{OperandRead}
 use Rattle.decode_line.specs.Fields.{fieldsFrom, plainField, mostOf, readSlot, keptAs, partNumber}
 use Rattle.decode_line.specs.Answers.{noSlot, SlotIs, AtEnd, noEntry}
 use Rattle.decode_line.specs.declared.Slot.{Slot}

@@ -11,8 +11,8 @@ use Rattle.syntax.specs.Syntax.{Operand, Entry}
 use Rattle.text.specs.Grammar.{forms, operand}
 use Rattle.tables.specs.Tables.{span, OperandTable, operandsAt}
 use Rattle.lines.specs.Parts.{lineIn, StopAt}
-use Rattle.fields.specs.Names.{formAt}
-use Rattle.fields.specs.declared.OperandRead.{OperandRead}
+use Rattle.names.specs.Names.{formAt}
+use Rattle.plain_operands.specs.declared.OperandRead.{OperandRead}
 use Rattle.decode_line.specs.Fields.{fieldsFrom, readSlot, readSlots, atMost, partNumber}
 use Rattle.decode_line.specs.Forms.{formCell, fewest, entryWith}
 use Rattle.decode_line.specs.declared.Slot.{Slot}

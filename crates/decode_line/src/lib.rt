@@ -11,9 +11,9 @@ ghost use Rattle.numbers.specs.Numbers.{ScanIs};
 ghost use Rattle.decode_line.specs.Fields.{fieldsFrom, plainField, mostOf, partNumber};
 ghost use Rattle.decode_line.specs.Forms.{formOf, fewest};
 ghost use Rattle.decode_line.specs.Answers.{noSlot, SlotIs, SlotsAre, PartsRead, withOperand, operandTable, OperandRoom, OperandsRead, AtEnd, noEntry, PlainIs, RowIs, FormIs};
-use fields::OperandRead;
 use numbers::Number;
 use numbers::Scan;
+use plain_operands::OperandRead;
 
 // By the form's place: the kinds of its plain fields, 1 register, 2 row, 3 index, 4 amount, 0 for none, the first the lowest of four octal
 // digits; above them how many operands follow: none, one, or up to 16.
@@ -441,7 +441,7 @@ fn read_code(rest: &[u8], at: usize, parts: &mut [u16], p: usize) -> Said
     if n.count < 8 {
         return no_entry();
     }
-    let Number::Value(q) = fields::letters(&rest[b..e], parts, p + 9) else {
+    let Number::Value(q) = names::letters(&rest[b..e], parts, p + 9) else {
         return no_entry();
     };
     parts[p + 8] = q as u16;

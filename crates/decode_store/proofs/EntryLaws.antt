@@ -16,8 +16,8 @@ use Rattle.text.specs.Grammar.{Named, forms, entryOf}
 use Rattle.text.specs.PassOne.{isLast}
 use Rattle.tables.specs.Tables.{OperandTable, operandsAt, instrFrom}
 use Rattle.lines.specs.Parts.{firstPart}
-use Rattle.fields.specs.Names.{nameCode, formAt}
-use Rattle.fields.proofs.Names.{entry-by-code}
+use Rattle.names.specs.Names.{nameCode, formAt}
+use Rattle.names.proofs.Names.{entry-by-code}
 use Rattle.decode_line.specs.Fields.{fieldsFrom}
 use Rattle.decode_line.specs.Forms.{formTable, formCell, fewest, instrWith}
 use Rattle.decode_line.proofs.Walk.{fields-next}

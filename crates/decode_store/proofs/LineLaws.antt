@@ -17,7 +17,7 @@ use Rattle.text.specs.Bytes.{fieldsOf}
 use Rattle.text.specs.Grammar.{forms, entryOf}
 use Rattle.tables.specs.Tables.{cell, rowFrom, rowAt, OperandTable, operandsAt, instrAt}
 use Rattle.tables.proofs.Spans.{same-less, same-at, same-sets, sets-at}
-use Rattle.fields.specs.Names.{formAt}
+use Rattle.names.specs.Names.{formAt}
 use Rattle.decode_line.specs.Forms.{formCell, fewest, instrWith, entryWith}
 use Rattle.decode_line.specs.Answers.{SameOperands, operandTable, FormIs}
 use Rattle.decode_line.specs.declared.Said.{Said}

@@ -138,7 +138,7 @@ pub fn read_line(
     ensures { λ r. ⌜ LineIs (lineIn (now (text .entry))) u (store (now (rows .entry)) (now (parts .entry)) (now (operands .entry)) (now (numbers .entry)) (now (args .entry)) (now (instrs .entry)) (now (blocks .entry))) (store (now (rows .exit)) (now (parts .exit)) (now (operands .exit)) (now (numbers .exit)) (now (args .exit)) (now (instrs .exit)) (now (blocks .exit))) (r .line) × LineEnds (now (text .entry)) r ⌝ }
 {
     let f = lines::field_end(text, 0);
-    let code = fields::name_code(&text[0..f]);
+    let code = names::name_code(&text[0..f]);
     if 34 <= code {
         return no_line();
     }

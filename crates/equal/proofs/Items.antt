@@ -1,13 +1,13 @@
 -- Laws of the rows that the two sides lead to, and of the room for what is pending.
-use mathlib.Core.Path.{_≡_, refl, ap, sym, _∙_}
+use mathlib.Core.Path.{_≡_, refl}
 use mathlib.Core.List.{List}
 use Prim.Native.Nat.{ℕ, zero, suc, _+_, _-_, _<_, _≤_}
 use native.Mathlib.Omega.{arith}
 use native.Mathlib.Nat.{not-suc-le-zero}
-use lib.ListN.{length, getD}
+use lib.ListN.{getD}
 use Rattle.tables.specs.Tables.{RowTable}
 use Rattle.pending.specs.Pending.{room, Givens}
-use Rattle.equal.specs.Fit.{Tabled, Spare}
+use Rattle.equal.specs.Bounds.{Tabled, Spare}
 
 pub room-of : (j m : ℕ) → j < m → room m ≡ 514
 room-of j zero h = absurd (not-suc-le-zero h)

@@ -3,5 +3,3 @@ pub mod Items
 pub mod Values
 pub mod Stacks
 pub mod Plain
-pub mod Itself
-pub mod Fill

@@ -1,14 +1,14 @@
 -- Laws of rows compared with no arguments and no lift.
 use mathlib.Core.Path.{_≡_, refl, ap, ap₂, sym, _∙_}
-use mathlib.Core.Bool.{Bool, true, false, _&&_, cond}
-use mathlib.Core.List.{List, [], _∷_}
-use Prim.Native.Nat.{ℕ, zero, suc, _+_, _-_, _<_, _≤_}
+use mathlib.Core.Bool.{Bool, true, false, cond}
+use mathlib.Core.List.{List, []}
+use Prim.Native.Nat.{ℕ, suc, _+_, _-_, _≤_}
 use native.Mathlib.Omega.{arith}
-use lib.Dec.{eqb, ltb}
-use lib.ListN.{length, getD}
-use borrow.Author.Tests.{ltb-true, ltb-false}
+use lib.Dec.{ltb}
+use lib.ListN.{length}
+use borrow.Author.Tests.{ltb-false}
 use Rattle.syntax.specs.Syntax.{Kind, value, stack}
-use Rattle.types.specs.Types.{Ty, int, junk, var, tuple, pointer, code, nil, push, svar, gap, join, items, variable, Act, walk, Arg}
+use Rattle.types.specs.Types.{Ty, int, junk, var, tuple, pointer, code, nil, push, svar, gap, join, variable, Act, walk}
 use Rattle.types.specs.Equal.{same}
 use Rattle.types.specs.Rows.{typeAt, typesOf}
 use Rattle.tables.specs.Tables.{RowTable, rowsIn}
@@ -16,7 +16,8 @@ use Rattle.rows.specs.Read.{lower, meanV, meanS, mean, placed, acting, valueUnd
 use Rattle.rows.proofs.Laws.{acting-is, lower-low}
 use Rattle.rows.proofs.Bridge.{type-at}
 use Rattle.pending.proofs.Meets.{and-true, no-args, meets-none}
-use Rattle.equal.specs.Fit.{Tabled, Spare, fitValues, sameStacks}
+use Rattle.equal.specs.Bounds.{Tabled, Spare}
+use Rattle.stack_pairs.specs.Fit.{fitValues, sameStacks}
 
 -- ---- a walk that puts each variable for itself
 walk-id : (f : Act) → ((d : ℕ) (κ : Kind) (k : ℕ) → f d κ k ≡ variable κ k) → (d : ℕ) {κ : Kind} (t : Ty κ) → walk f d t ≡ t

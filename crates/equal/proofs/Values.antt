@@ -1,16 +1,16 @@
 -- Laws of the comparison of value rows, of parts and of code rows.
 use mathlib.Core.Path.{_≡_, refl, ap, ap₂, sym, _∙_, subst}
 use mathlib.Core.Bool.{Bool, true, false, _&&_, not, cond}
-use mathlib.Core.List.{List, [], _∷_, map}
-use Prim.Native.Nat.{ℕ, zero, suc, _+_, _-_, _*_, _<_, _≤_}
+use mathlib.Core.List.{List, []}
+use Prim.Native.Nat.{ℕ, zero, suc, _+_, _-_, _<_, _≤_}
 use native.Mathlib.Omega.{arith}
 use native.Mathlib.Nat.{not-suc-le-zero}
 use native.Mathlib.Numerals.{add-one}
 use lib.Dec.{eqb}
 use lib.ListN.{length, getD, length-map}
 use borrow.Author.Tests.{eqb-true, eqb-false}
-use Rattle.syntax.specs.Syntax.{Kind, value, stack}
-use Rattle.types.specs.Types.{Ty, int, junk, var, tuple, pointer, code, nil, push, svar, gap, join, items, Act, walk, raise, Arg, arg, ofKind, fitsKind, meets}
+use Rattle.syntax.specs.Syntax.{value, stack}
+use Rattle.types.specs.Types.{Ty, var, tuple, code, items, Act, walk, raise, Arg, ofKind, fitsKind, meets}
 use Rattle.types.specs.Equal.{same, sameLetters}
 use Rattle.types.proofs.Equal.{same-refl}
 use Rattle.tables.specs.Tables.{RowTable, span, letterOf, lettersAt}
@@ -18,15 +18,16 @@ use Rattle.rows.specs.declared.Val.{Val}
 use Rattle.rows.specs.declared.Val.the-variants.{Int, Junk, ValVar, ValFill, Tuple, Pointer, Code}
 use Rattle.rows.specs.declared.Slot.{Slot}
 use Rattle.rows.specs.declared.Slot.the-variants.{Gap, Known}
-use Rattle.rows.specs.Read.{valueAt, isStackAt, slotAt, onSlot, partsOf, meanV, meanS, mean, valueTo, acting, valueUnder, stackUnder, partsUnder, codeOf, codeUnder, argsOf, placeV, OkV, OkSlot}
+use Rattle.rows.specs.Read.{valueAt, isStackAt, slotAt, onSlot, partsOf, meanV, meanS, valueTo, acting, valueUnder, stackUnder, partsUnder, codeOf, codeUnder, argsOf, placeV, OkV, OkSlot}
 use Rattle.rows.proofs.Laws.{noArg, typeV, value-read}
-use Rattle.equal.specs.declared.Pair.{Pair}
-use Rattle.equal.specs.declared.Pair.the-variants.{Same, Differ, Filled, Tuples, Pointers, Codes}
-use Rattle.equal.specs.declared.Heads.{Heads}
-use Rattle.equal.specs.declared.Heads.the-variants.{Apart, Both}
-use Rattle.equal.specs.Pairs.{pairOf, slotsOf, lettersFrom}
-use Rattle.equal.specs.Fit.{AtSame, fitValues, fitCodes, fitParts, sameStacks, big}
-use Rattle.pending.proofs.Meets.{and-false, and-true, and-swap, raised, no-args, meets-none, meetsV, value-meets, arg-type, fits-value}
+use Rattle.value_pairs.specs.declared.Pair.{Pair}
+use Rattle.value_pairs.specs.declared.Pair.the-variants.{Same, Differ, Filled, Tuples, Pointers, Codes}
+use Rattle.value_pairs.specs.declared.Heads.{Heads}
+use Rattle.value_pairs.specs.declared.Heads.the-variants.{Apart, Both}
+use Rattle.value_pairs.specs.Pairs.{pairOf, slotsOf, lettersFrom}
+use Rattle.stack_pairs.specs.Fit.{AtSame, fitValues, fitCodes, fitParts, sameStacks}
+use Rattle.equal.specs.Bounds.{big}
+use Rattle.pending.proofs.Meets.{and-false, and-swap, raised, no-args, meets-none, meetsV, value-meets, arg-type, fits-value}
 use Rattle.equal.proofs.Laws.{same-items}
 
 pub big-of : (j m : ℕ) → j < m → big m ≡ 68719476736

@@ -1,5 +1,3 @@
-pub mod Names
 pub mod Stores
-pub mod CodeRows
 pub mod Operands
-pub mod PlacedLaws
+pub mod Placed

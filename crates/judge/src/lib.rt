@@ -84,7 +84,7 @@ fn operand_form(
     ensures { λ out. ⌜ ((P : Program) → Holds (tab (now (rows .entry)) (now (parts .entry))) n (now (blocks .entry)) nb P → Answered (judge P (map letterOf (span (now (parts .entry)) l q)) (contextOf (typesIn (now (rows .entry)) (now (parts .entry)) n) (now (regs .entry)) (now (sp .entry)) m) (instrAt (now (instrs .entry)) (operandTable (now (operands .entry)) (now (numbers .entry)) (now (args .entry))) j)) (out .fault) (contextOf (typesIn (now (rows .entry)) (now (parts .entry)) n) (now (regs .exit)) (now (sp .entry)) m) (out .item)) ⌝ }
 {
     if has_target(k) {
-        return judge_forms::jump_form(
+        return operand_forms::jump_form(
             rows,
             parts,
             n,
@@ -106,7 +106,7 @@ fn operand_form(
             k,
         );
     }
-    let f = judge_forms::value_form(
+    let f = operand_forms::value_form(
         rows,
         parts,
         n,
@@ -152,7 +152,7 @@ fn plain_form(
     ensures { λ out. ⌜ ((P : Program) (ω : OperandTable) → P .types ≡ typesOf (rowsIn (tab (now (rows .entry)) (now (parts .entry))) n) → Answered (judge P (map letterOf (span (now (parts .entry)) l q)) (contextOf (typesIn (now (rows .entry)) (now (parts .entry)) n) (now (regs .entry)) (now (sp .entry)) m) (instrAt (now (instrs .entry)) ω j)) (out .fault) (contextOf (typesIn (now (rows .entry)) (now (parts .entry)) n) (now (regs .exit)) (now (sp .exit)) (out .depth)) (out .item)) × (out .depth ≤ 64) ⌝ }
 {
     if k < 13 {
-        let f = judge_forms::heap_form(rows, parts, n, uses, tops, instrs, j, q, l, regs, k);
+        let f = plain_forms::heap_form(rows, parts, n, uses, tops, instrs, j, q, l, regs, k);
         return Judgement {
             fault: f,
             item: 100,
@@ -160,7 +160,7 @@ fn plain_form(
         };
     }
     if k < 17 {
-        let w = judge_forms::sp_form(rows, parts, n, uses, tops, instrs, j, q, l, regs, sp, m, k);
+        let w = plain_forms::sp_form(rows, parts, n, uses, tops, instrs, j, q, l, regs, sp, m, k);
         return Judgement {
             fault: w.fault,
             item: 100,
@@ -168,7 +168,7 @@ fn plain_form(
         };
     }
     if k < 21 {
-        let f = judge_forms::item_form(
+        let f = plain_forms::item_form(
             rows,
             parts,
             n,
@@ -190,7 +190,7 @@ fn plain_form(
             depth: m,
         };
     }
-    let f = judge_forms::heap_form(rows, parts, n, uses, tops, instrs, j, q, l, regs, k);
+    let f = plain_forms::heap_form(rows, parts, n, uses, tops, instrs, j, q, l, regs, k);
     Judgement {
         fault: f,
         item: 100,
@@ -222,7 +222,7 @@ pub fn judge(
     requires { ⌜ Ready (now rows) (now parts) n × Scoped (tab (now rows) (now parts)) n (now uses) (now tops) × ((r : ℕ) → r < n → SmallRow (rowAt (tab (now rows) (now parts)) r)) × ((x : ℕ) → x ≤ n → items (meanS (tab (now rows) (now parts)) x) ≤ 4096) × SmallInstr (instrAt (now instrs) (operandTable (now operands) (now numbers) (now args)) j) × (8 ≤ length (now regs)) × (64 ≤ length (now sp)) × (4096 ≤ length (now work)) × (m ≤ 64) ⌝ }
     ensures { λ out. ⌜ ((P : Program) → Holds (tab (now (rows .entry)) (now (parts .entry))) n (now (blocks .entry)) nb P → Answered (judge P (map letterOf (span (now (parts .entry)) l q)) (contextOf (typesIn (now (rows .entry)) (now (parts .entry)) n) (now (regs .entry)) (now (sp .entry)) m) (instrAt (now (instrs .entry)) (operandTable (now (operands .entry)) (now (numbers .entry)) (now (args .entry))) j)) (out .fault) (contextOf (typesIn (now (rows .entry)) (now (parts .entry)) n) (now (regs .exit)) (now (sp .exit)) (out .depth)) (out .item)) × (out .depth ≤ 64) ⌝ }
 {
-    let k = judge_forms::entry(instrs, j, 0);
+    let k = instr_codes::entry(instrs, j, 0);
     if has_operands(k) {
         let w = operand_form(
             rows,

@@ -25,7 +25,7 @@ use Rattle.context.specs.Told.{toldOf, answer}
 use Rattle.typing.specs.Typing.{typesIn, Ready}
 use Rattle.typing.proofs.Judging.{told-when, told-next, stops, aop-stops, aop-goes, malloc-stops, malloc-differs, malloc-goes}
 use Rattle.judge_heap.specs.Forms.{held}
-use Rattle.operands.specs.Operands.{Makes}
+use Rattle.plain_components.specs.Makes.{Makes}
 use Rattle.types.proofs.Equal.{same-refl}
 
 -- ---- the integer type

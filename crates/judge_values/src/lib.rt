@@ -148,7 +148,7 @@ fn make_listed(
     ensures { λ out. ⌜ InFile (now (rows .entry)) (now (parts .entry)) n (now (blocks .entry)) nb (map letterOf (span (now (parts .entry)) l q)) (now (regs .entry)) (now (regs .exit)) out (malloc d t (operandsAt (operandTable (now (operands .entry)) (now (numbers .entry)) (now (args .entry))) v c)) ⌝ }
 {
     let mut found = [0u16; 16];
-    let g = operands::operand_list(
+    let g = components::operand_list(
         rows,
         parts,
         n,
@@ -172,7 +172,7 @@ fn make_listed(
         return f;
     }
     let r = typing::given_row(n, t);
-    if operands::same_tuple(rows, parts, n, r, &found, c) {
+    if components::same_tuple(rows, parts, n, r, &found, c) {
         return judge_heap::set_register(regs, d, r);
     }
     10
@@ -203,7 +203,19 @@ pub fn make_tuple(
     ensures { λ out. ⌜ InFile (now (rows .entry)) (now (parts .entry)) n (now (blocks .entry)) nb (map letterOf (span (now (parts .entry)) l q)) (now (regs .entry)) (now (regs .exit)) out (malloc d t (operandsAt (operandTable (now (operands .entry)) (now (numbers .entry)) (now (args .entry))) v c)) ⌝ }
 {
     let r = typing::given_row(n, t);
-    if !operands::plain_tuple(rows, parts, n, blocks, nb, operands, numbers, v, c, regs, r) {
+    if !plain_components::plain_tuple(
+        rows,
+        parts,
+        n,
+        blocks,
+        nb,
+        operands,
+        numbers,
+        v,
+        c,
+        regs,
+        r,
+    ) {
         return make_listed(
             rows,
             parts,

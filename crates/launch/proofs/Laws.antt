@@ -1,31 +1,20 @@
--- A run's end as an outcome, and the ways through a start and a continuation.
-use Prim.Native.Nat.{ℕ, zero, suc, _≤_, _<_}
+-- The ways through a start and a continuation.
+use Prim.Native.Nat.{ℕ, _≤_}
 use native.Mathlib.Omega.{arith}
-use mathlib.Core.Path.{_≡_, refl, ap, sym, subst, _∙_}
+use mathlib.Core.Path.{_≡_, refl, ap, sym, _∙_}
 use mathlib.Core.Bool.{Bool, true, false, not, _&&_, cond}
 use mathlib.Core.Option.{Option, none, some}
-use mathlib.Core.List.{List, [], _∷_}
+use mathlib.Core.List.{List, []}
 use lib.Dec.{eqb}
 use lib.ListN.{length, take}
 use lib.Seq.{length-take-le}
-use borrow.Author.Tests.{eqb-true, eq-eqb}
-use Rattle.syntax.specs.Partial.{bind, when}
-use Rattle.syntax.specs.Syntax.{Instr}
-use Rattle.tables.specs.Tables.{OperandTable, instrAt, instrsFrom}
+use Rattle.syntax.specs.Partial.{when}
 use Rattle.tables.proofs.Steps.{length-instrs}
 use Rattle.valid.specs.Program.{Program}
-use Rattle.exec.specs.Machine.{State, Bodies, flat, Word, at}
-use Rattle.exec.specs.Run.{stopped, Answer, haltedAfter, pausedAfter, answerOf, Outcome, outcome, refuse, run, budget, bodies, wanted, initial, longEnough, goodForm, startOn, continueUnless}
-use Rattle.memory.specs.declared.Word.{Word as Pair}
-use Rattle.memory.specs.Lent.{wordIs, lent}
-use Rattle.machine.specs.declared.Place.{Place}
-use Rattle.machine.specs.declared.Stop.{Stop as Reason}
-use Rattle.machine.specs.declared.Stop.the-variants.{Halted}
-use Rattle.machine.specs.Step.{Tables, stateOf, stopIs}
+use Rattle.exec.specs.Machine.{State, Bodies, flat}
+use Rattle.exec.specs.Run.{Outcome, outcome, refuse, run, budget, bodies, wanted, initial, longEnough, goodForm, startOn, continueUnless}
+use Rattle.machine.specs.Step.{Tables}
 use Rattle.machine.specs.Represents.{Represents}
-use Rattle.runner.specs.declared.Outcome.{Outcome as End}
-use Rattle.runner.specs.declared.Outcome.the-variants.{Paused, Ended}
-use Rattle.runner.specs.Runs.{ranIs}
 use Rattle.samples.specs.Counted.{exactly}
 
 -- ---- tests
@@ -36,32 +25,6 @@ not-yes false e = refl
 pub not-no : (b : Bool) → not b ≡ false → b ≡ true
 not-no true e = refl
 not-no false e = sym e
-
--- ---- a run's end
-pub at-halt : {s : Reason} {p : Pair} {w : Word} (n : ℕ) → s ≡ Halted → wordIs p ≡ w → haltedAfter n (p .kind) (p .number) ≡ answerOf (stopped (stopIs s)) n w
-unfolding answerOf
-at-halt {w = w} n e h = ap (λ (x : Word). haltedAfter n (x .kind) (x .number)) h ∙ ap (λ (x : Reason). answerOf (stopped (stopIs x)) n w) (sym e)
-
-pub at-stop : {s : Reason} (r : Reason) {a : Answer} (w : Word) (n : ℕ) → s ≡ r → a ≡ answerOf (stopped (stopIs r)) n w → a ≡ answerOf (stopped (stopIs s)) n w
-at-stop r w n e h = h ∙ ap (λ (x : Reason). answerOf (stopped (stopIs x)) n w) (sym e)
-
-module _ (rk rn sk sn hk hn : List ℕ) where
-  pub at-pause : {ran : End} {n : ℕ} {p : Place} → ran ≡ Paused n p → _≡_ {A = Outcome} (record { answer = pausedAfter n; state = stateOf rk rn sk sn hk hn p }) (outcome (ranIs ran rk rn sk sn hk hn))
-  unfolding outcome answerOf
-  at-pause e = ap (λ (x : End). outcome (ranIs x rk rn sk sn hk hn)) (sym e)
-
-  pub at-end : {ran : End} {s : Reason} {n : ℕ} {p : Place} {a : Answer} → ran ≡ Ended s n p → a ≡ answerOf (stopped (stopIs s)) n (at (lent rk rn) 0) → _≡_ {A = Outcome} (record { answer = a; state = stateOf rk rn sk sn hk hn p }) (outcome (ranIs ran rk rn sk sn hk hn))
-  unfolding outcome
-  at-end {p = p} e h = ap (λ (x : Answer). record { answer = x; state = stateOf rk rn sk sn hk hn p }) h ∙ ap (λ (x : End). outcome (ranIs x rk rn sk sn hk hn)) (sym e)
-
--- ---- the budget
-pub under-cap : (m : ℕ) → m ≤ 1000000 → m ≡ budget m
-unfolding budget
-under-cap m h = omega arith
-
-pub over-cap : (m : ℕ) → 1000000 < m → 1000000 ≡ budget m
-unfolding budget
-over-cap m h = omega arith
 
 -- ---- samples
 -- as many entries as are taken
@@ -123,7 +86,7 @@ module _ (want : ℕ) (o : Option (List ℕ)) (xs : List ℕ) (b : Bool) (e : wh
         ∙ sym (on-samples ∙ ap (λ (x : Bool). cond x (outcome (run (bodies P) (budget m) (initial l σ))) (refuse σ 16 0)) (sym et ∙ not-no t ht))
 
 -- ---- continuing
-flat-length : (T : Tables) (args : List ℕ) (P : Bodies) → Represents T args P → length (flat P) ≡ T .count
+pub flat-length : (T : Tables) (args : List ℕ) (P : Bodies) → Represents T args P → length (flat P) ≡ T .count
 flat-length T args P rep = ap length (rep .instructions) ∙ length-instrs (T .instrs) (record { operands = T .operands; numbers = T .bases; args = args }) 0 (T .count)
 
 module _ (T : Tables) (args : List ℕ) (P : Program) (rep : Represents T args (bodies P)) (m : ℕ) (σ : State) (t : Bool) (et : (Q : Bodies) → length (flat Q) ≡ T .count → t ≡ longEnough σ && goodForm Q σ) where

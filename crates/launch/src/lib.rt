@@ -1,7 +1,8 @@
 // Runs of a program that stands in the tables: `start_ready` reads the samples and starts, `resume_ready` looks at the lent state and
 // goes on. Promised: the answer and the whole lent state, as `startOn` and `continueUnless` of crate exec have them, for each program
-// that the tables represent. A refusal changes nothing of the state that is lent. Asked: tables that fit the machine, and `plan`, which
-// is to hold the machine's own rows, long enough for one more than there are instructions.
+// that the tables represent. A refusal changes nothing of the state that is lent. Asked: tables that fit the machine, of a text that
+// nothing bars from starting (`Unbarred`), and `plan`, which is to hold the machine's own rows, long enough for one more than there are
+// instructions.
 // rk and rn are the registers' kinds and numbers, sk and sn the stack's, hk and hn the heap's.
 ghost use mathlib.Core.Path.{_≡_};
 ghost use mathlib.Core.List.{List};
@@ -10,78 +11,18 @@ ghost use Prim.Native.Nat.{ℕ, _+_, _*_, _≤_};
 ghost use lib.ListN.{length};
 ghost use Rattle.text.specs.Samples.{samplesOf};
 ghost use Rattle.valid.specs.Program.{Program};
-ghost use Rattle.exec.specs.Machine.{Bodies, at};
-ghost use Rattle.exec.specs.Run.{stopped, answerOf, outcome, run, budget, bodies, wanted, startOn, continueUnless};
-ghost use Rattle.memory.specs.Lent.{lent};
-ghost use Rattle.machine.specs.Step.{tables, stateOf, stopIs};
+ghost use Rattle.exec.specs.Machine.{Bodies};
+ghost use Rattle.exec.specs.Run.{outcome, run, budget, bodies, wanted, startOn, continueUnless};
+ghost use Rattle.machine.specs.Step.{tables, stateOf};
 ghost use Rattle.machine.specs.Represents.{Represents, Fit};
-ghost use Rattle.runner.specs.Runs.{ranIs};
-ghost use Rattle.launch.specs.Answers.{answerIs, outcomeIs, refusedAt};
+ghost use Rattle.runner.specs.Runs.{Safe};
+ghost use Rattle.outcome.specs.Answers.{outcomeIs};
+ghost use Rattle.launch.specs.Startable.{Unbarred};
 use machine::Place;
-use machine::Stop;
-
-// A refusal with its number and line; or how a run stopped, with the steps made, a halt with r1's kind and number too.
-pub enum Answer {
-    Refused(usize, usize),
-    Halted(usize, u8, u32),
-    Paused(usize),
-    StackFull(usize),
-    HeapFull(usize),
-    Stuck(usize),
-}
-
-// An answer, and how much of the lent state is in use then.
-pub struct Outcome {
-    pub answer: Answer,
-    pub place: Place,
-}
-
-// A refusal: the place is kept.
-pub fn refuse(number: usize, line: usize, kept: Place) -> Outcome
-    ensures { λ r. ⌜ r ≡ refusedAt number line kept ⌝ }
-{
-    Outcome {
-        answer: Answer::Refused(number, line),
-        place: kept,
-    }
-}
-
-fn answer_at(s: Stop, steps: usize, rk: &[u8], rn: &[u32]) -> Answer
-    ensures { λ r. ⌜ answerIs r ≡ answerOf (stopped (stopIs s)) steps (at (lent (now (rk .entry)) (now (rn .entry))) 0) ⌝ }
-{
-    match s {
-        Stop::Halted => {
-            let w = memory::at(rk, rn, 0);
-            Answer::Halted(steps, w.kind, w.number)
-        }
-        Stop::StackFull => Answer::StackFull(steps),
-        Stop::HeapFull => Answer::HeapFull(steps),
-        Stop::Stuck => Answer::Stuck(steps),
-    }
-}
-
-// A run's end as an outcome.
-fn finish(ran: runner::Outcome, rk: &[u8], rn: &[u32]) -> Outcome
-    ensures { λ r. ⌜ ((sk sn hk hn : List ℕ) → outcomeIs r (now (rk .entry)) (now (rn .entry)) sk sn hk hn ≡ outcome (ranIs ran (now (rk .entry)) (now (rn .entry)) sk sn hk hn)) ⌝ }
-{
-    match ran {
-        runner::Outcome::Paused(n, p) => Outcome {
-            answer: Answer::Paused(n),
-            place: p,
-        },
-        runner::Outcome::Ended(s, n, p) => Outcome {
-            answer: answer_at(s, n, rk, rn),
-            place: p,
-        },
-    }
-}
-
-// "A budget above 1,000,000 is taken as 1,000,000"
-fn capped(m: usize) -> usize
-    ensures { λ r. ⌜ r ≡ budget m ⌝ }
-{
-    if m <= 1000000 { m } else { 1000000 }
-}
+use outcome::Outcome;
+use outcome::capped;
+use outcome::finish;
+use outcome::refuse;
 
 // Run from the place p.
 fn run_from(
@@ -101,7 +42,7 @@ fn run_from(
     p: Place,
     m: usize,
 ) -> Outcome
-    requires { ⌜ Fit (tables (now instrs) (now operands) (now bases) (now blocks) count labels) × (8 * count + 8 ≤ length (now plan)) × (8 ≤ length (now rk)) × (8 ≤ length (now rn)) × (256 ≤ length (now sk)) × (256 ≤ length (now sn)) × (2048 ≤ length (now hk)) × (2048 ≤ length (now hn)) × (p .depth ≤ 256) × (p .used ≤ 2048) × (p .position ≤ count) ⌝ }
+    requires { ⌜ Fit (tables (now instrs) (now operands) (now bases) (now blocks) count labels) × (8 * count + 8 ≤ length (now plan)) × (8 ≤ length (now rk)) × (8 ≤ length (now rn)) × (256 ≤ length (now sk)) × (256 ≤ length (now sn)) × (2048 ≤ length (now hk)) × (2048 ≤ length (now hn)) × (p .depth ≤ 256) × (p .used ≤ 2048) × (p .position ≤ count) × Safe (tables (now instrs) (now operands) (now bases) (now blocks) count labels) (stateOf (now rk) (now rn) (now sk) (now sn) (now hk) (now hn) p) ⌝ }
     ensures { λ r. ⌜ ((args : List ℕ) (P : Bodies) → Represents (tables (now (instrs .entry)) (now (operands .entry)) (now (bases .entry)) (now (blocks .entry)) count labels) args P → outcomeIs r (now (rk .exit)) (now (rn .exit)) (now (sk .exit)) (now (sn .exit)) (now (hk .exit)) (now (hn .exit)) ≡ outcome (run P (budget m) (stateOf (now (rk .entry)) (now (rn .entry)) (now (sk .entry)) (now (sn .entry)) (now (hk .entry)) (now (hn .entry)) p))) ⌝ }
 {
     let ran = runner::run(
@@ -144,7 +85,7 @@ pub fn start_ready(
     place: Place,
     m: usize,
 ) -> Outcome
-    requires { ⌜ (want ≤ 16) × Fit (tables (now instrs) (now operands) (now bases) (now blocks) count labels) × (8 * count + 8 ≤ length (now plan)) ⌝ }
+    requires { ⌜ (want ≤ 16) × Fit (tables (now instrs) (now operands) (now bases) (now blocks) count labels) × (8 * count + 8 ≤ length (now plan)) × Unbarred (tables (now instrs) (now operands) (now bases) (now blocks) count labels) ⌝ }
     ensures { λ r. ⌜ ((args : List ℕ) (P : Program) → Represents (tables (now (instrs .entry)) (now (operands .entry)) (now (bases .entry)) (now (blocks .entry)) count labels) args (bodies P) → want ≡ wanted (P .blocks) → outcomeIs r (now (rk .exit)) (now (rn .exit)) (now (sk .exit)) (now (sn .exit)) (now (hk .exit)) (now (hn .exit)) ≡ startOn P (samplesOf (now (samples .entry))) m (stateOf (now (rk .entry)) (now (rn .entry)) (now (sk .entry)) (now (sn .entry)) (now (hk .entry)) (now (hn .entry)) place)) ⌝ }
 {
     let mut xs = [0u32; 16];
@@ -192,7 +133,7 @@ pub fn resume_ready(
     place: Place,
     m: usize,
 ) -> Outcome
-    requires { ⌜ Fit (tables (now instrs) (now operands) (now bases) (now blocks) count labels) × (8 * count + 8 ≤ length (now plan)) ⌝ }
+    requires { ⌜ Fit (tables (now instrs) (now operands) (now bases) (now blocks) count labels) × (8 * count + 8 ≤ length (now plan)) × Unbarred (tables (now instrs) (now operands) (now bases) (now blocks) count labels) ⌝ }
     ensures { λ r. ⌜ ((args : List ℕ) (P : Program) → Represents (tables (now (instrs .entry)) (now (operands .entry)) (now (bases .entry)) (now (blocks .entry)) count labels) args (bodies P) → outcomeIs r (now (rk .exit)) (now (rn .exit)) (now (sk .exit)) (now (sn .exit)) (now (hk .exit)) (now (hn .exit)) ≡ continueUnless none P m (stateOf (now (rk .entry)) (now (rn .entry)) (now (sk .entry)) (now (sn .entry)) (now (hk .entry)) (now (hn .entry)) place)) ⌝ }
 {
     if !good_form::good_form(count, rk, rn, sk, sn, hk, hn, place) {

@@ -23,7 +23,7 @@ use Rattle.refs.specs.declared.Found.{Found}
 use Rattle.refs.specs.Refs.{Rising, refusalOf as foundRefusal}
 use Rattle.refs.proofs.Lines.{entries-rows}
 use Rattle.decode_store.specs.Store.{Store, store, rowTable, operandsOf, Room}
-use Rattle.decode.specs.declared.Read.{Read}
+use Rattle.decode_state.specs.declared.Read.{Read}
 use Rattle.decode.specs.Decoded as decode
 use Rattle.premises.specs.Bounds.{SmallRow, SmallInstr}
 use Rattle.premises.specs.Answers.{Holds}

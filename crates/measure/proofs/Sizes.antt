@@ -1,23 +1,23 @@
 -- The size of a row by its form is the size that crate types gives it.
 use mathlib.Core.Path.{_≡_, refl, ap, ap₂, sym, _∙_}
 use mathlib.Core.Bool.{Bool, true, false, cond}
-use mathlib.Core.List.{List, [], _∷_, _++_, map, reverse}
+use mathlib.Core.List.{List, [], _∷_, _++_, map}
 use Prim.Native.Nat.{ℕ, zero, suc, _+_, _-_, _<_, _≤_}
 use native.Mathlib.Omega.{arith}
-use native.Mathlib.Nat.{not-suc-le-zero, add-zero, zero-add}
+use native.Mathlib.Nat.{not-suc-le-zero, zero-add}
 use lib.Dec.{eqb, leb, ltb}
 use lib.ListN.{length, length-append, getD, set, List·getD-eq-default, List·getD-append}
 use lib.Seq.{getD-at, getD-set-same, getD-set-other, set-out}
-use borrow.Author.Tests.{eqb-true, eqb-false, eq-eqb, ne-eqb, leb-true, leb-false, ltb-true, ltb-false, le-leb, lt-ltb, le-ltb}
+use borrow.Author.Tests.{eqb-true, eqb-false, eq-eqb, ne-eqb, leb-true, leb-false, ltb-true, ltb-false, le-leb}
 use Rattle.syntax.specs.Syntax.{Row}
-use Rattle.types.specs.Rows.{Sort, valueRow, knownRefs, rowRefs, total, sizeOf, sizesFrom, sizesOf}
+use Rattle.types.specs.Rows.{valueRow, knownRefs, rowRefs, total, sizeOf, sizesFrom, sizesOf}
 use Rattle.tables.specs.Tables.{RowTable, cell, span, knownOf, codeRowAt, rowFrom, rowAt, rowsFrom, rowsIn}
 use Rattle.rows.specs.declared.Val.the-variants.{ValVar}
 use Rattle.rows.specs.declared.Stk.the-variants.{StkVar}
-use Rattle.rows.specs.Read.{lower, valueWith, stackWith, isStackAt, slotAt}
+use Rattle.rows.specs.Read.{lower, valueWith, stackWith, slotAt}
 use Rattle.rows.proofs.Bridge.{row-nine, stack-nine, rows-snoc}
-use Rattle.measure.specs.Size.{slotSize, partsSize, underV, underS, sizeAt, Measured}
-use Rattle.measure.proofs.Laws.{size-none, size-is}
+use Rattle.row_size.specs.Size.{slotSize, partsSize, underV, underS, sizeAt, Measured}
+use Rattle.row_size.proofs.Laws.{size-none, size-is}
 
 sizes-append : (S : List ℕ) (xs ys : List Row) → sizesFrom S (xs ++ ys) ≡ sizesFrom (sizesFrom S xs) ys
 unfolding sizesFrom

@@ -1,10 +1,10 @@
--- What an answer of the code says of a step, and what a row must say for it to be made.
+-- What an answer of the code says of a step, and what a row and the handles in registers must say for it to be made.
 use Prim.Native.Nat.{ℕ, _+_, _*_, _<_, _≤_}
 use mathlib.Core.Path.{_≡_}
 use mathlib.Core.Bool.{Bool, true, false, cond}
 use mathlib.Core.List.{List}
 use lib.ListN.{getD}
-use Rattle.exec.specs.Machine.{Memory, State, Result, go, stop}
+use Rattle.exec.specs.Machine.{Memory, State, Result, tupleKind, heapLimit, at, componentAt, go, stop}
 use Rattle.tables.specs.Tables.{cell, OperandTable}
 use Rattle.machine.specs.Step.{Tables, stopIs, resultOf, stepAt, Next}
 use Rattle.moved.specs.declared.Moved.{Moved}
@@ -75,3 +75,9 @@ pub record Leads (φ : List ℕ) (at m : ℕ) (g : ℕ → ℕ) : Type 0 where
 pub record Low (φ : List ℕ) (at : ℕ) : Type 0 where
   pub first : getD φ (at + 1) 0 < 8
   pub second : getD φ (at + 2) 0 < 8
+
+-- ---- what is asked of handles
+-- each handle in a register is at a tuple's start: its length word and its components stand within the heap's limit
+pub record Inside (R H : Memory) : Type 0 where
+  pub start : (r : ℕ) → r < 8 → at R r .kind ≡ tupleKind → at R r .number < heapLimit
+  pub component : (r i : ℕ) → r < 8 → at R r .kind ≡ tupleKind → i < at H (at R r .number) .number → componentAt (at R r .number) i < heapLimit

@@ -101,23 +101,3 @@ pub fn write(
     set(kinds, numbers, i, w);
     Moved::To(to, h, u)
 }
-
-// The word w to the heap, wherever i is.
-pub fn put_heap(
-    hk: &mut [u8],
-    hn: &mut [u32],
-    i: usize,
-    w: Word,
-    to: usize,
-    h: u32,
-    u: usize,
-    more: bool,
-) -> Moved
-    ensures { λ r. ⌜ (r ≡ toward more to h u) × ((lent (now (hk .exit)) (now (hn .exit))) ≡ cond more (put (lent (now (hk .entry)) (now (hn .entry))) i (wordIs w)) (lent (now (hk .entry)) (now (hn .entry)))) ⌝ }
-{
-    if !more {
-        return Moved::Paused;
-    }
-    memory::put(hk, hn, i, w);
-    Moved::To(to, h, u)
-}

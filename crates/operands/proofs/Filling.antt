@@ -4,7 +4,7 @@ use native.Mathlib.Omega.{arith}
 use mathlib.Core.Path.{_≡_, refl, ap, sym, subst, _∙_}
 use mathlib.Core.Bool.{Bool, true, false, _&&_, not, cond}
 use mathlib.Core.Option.{Option, none, some}
-use mathlib.Core.List.{List, [], _∷_, map, reverse}
+use mathlib.Core.List.{List, [], map, reverse}
 use lib.Dec.{leb}
 use lib.ListN.{length, getD, take, drop}
 use Rattle.syntax.specs.Partial.{when}
@@ -13,7 +13,7 @@ use Rattle.syntax.specs.Fault.{Fault, numberOf}
 use Rattle.syntax.proofs.Least.{least}
 use Rattle.types.specs.Types.{Ty, int, junk, var, tuple, pointer, code, Arg, arg, kindOf, ofKind, filled, aStack, Wf}
 use Rattle.types.specs.Rows.{typeAt, typesOf}
-use Rattle.types.specs.Equal.{same, sameLetters}
+use Rattle.types.specs.Equal.{sameLetters}
 use Rattle.types.proofs.Equal.{and-inv}
 use Rattle.tables.specs.Tables.{OperandTable, cell, span, letterOf, baseOf, operandOf, operandAt, rowsIn}
 use Rattle.valid.specs.Program.{Program, typeOf, argsOf}
@@ -23,10 +23,22 @@ use Rattle.rows.specs.Read.{tab, argOf}
 use Rattle.rows.proofs.Bridge.{arg-is, arg-at, type-in}
 use Rattle.context.specs.Told.{toldOf, answer}
 use Rattle.premises.specs.Bounds.{Short}
-use Rattle.equal.specs.Fit.{isFull, fillsTo}
+use Rattle.filling.specs.Filling.{isFull, fillsTo}
 use Rattle.typing.specs.Typing.{typesIn, Ready, givenRow, argsIn}
 use Rattle.typing.proofs.Operands.{applied-told, operand-told}
 use Rattle.typing.proofs.Args.{given-is, given-typed, args-are, back-args}
+use mathlib.Core.Path.{_≡_, refl, ap, sym, _∙_}
+use mathlib.Core.Bool.{Bool, true, false, _&&_, cond}
+use mathlib.Core.List.{List, []}
+use lib.ListN.{length, getD}
+use Rattle.syntax.specs.Syntax.{Kind, value, stack, Operand}
+use Rattle.syntax.specs.Fault.{fault, numberOf}
+use Rattle.types.specs.Types.{Ty, int, junk, var, tuple, pointer, code, Arg}
+use Rattle.types.specs.Rows.{typeAt}
+use Rattle.tables.specs.Tables.{OperandTable, operandAt}
+use Rattle.valid.specs.Program.{Program}
+use Rattle.valid.specs.PassThree.{operand}
+use Rattle.premises.specs.Bounds.{Short}
 
 not-not : (b : Bool) → not (not b) ≡ b
 not-not true = refl
@@ -157,3 +169,7 @@ unfolding span
 closed-row rows parts n t h e f =
     subst (λ (z : Ty value). Wf [] aStack z) (arg-is (tab rows parts) value t ∙ sym (type-in (tab rows parts) value (n + 2) t (omega arith)))
     (of-formed (argOf (tab rows parts) t) (ap (formedArg []) (sym (arg-at (tab rows parts) n t h)) ∙ sym e ∙ f))
+
+pub ten : numberOf (fault 10) ≡ 10
+unfolding numberOf
+ten = refl

@@ -1,4 +1,1 @@
-pub mod Bases
 pub mod Filling
-pub mod Lists
-pub mod Plain

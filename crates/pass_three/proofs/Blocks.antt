@@ -4,36 +4,35 @@ use native.Mathlib.Omega.{arith}
 use mathlib.Core.Path.{_≡_, refl, ap, ap₂, sym, subst, _∙_}
 use mathlib.Core.Bool.{Bool, true, false, not, _&&_, cond}
 use mathlib.Core.Option.{Option, none, some}
-use mathlib.Core.List.{List, [], _∷_, _++_, map, append-nil, append-eq-nil-iff}
+use mathlib.Core.List.{List, [], _∷_, _++_, append-nil, append-eq-nil-iff}
 use lib.Dec.{eqb, ltb}
 use lib.ListN.{length, getD, replicate, length-replicate}
 use borrow.Author.Tests.{ne-eqb, lt-ltb, ltb-false}
-use Rattle.syntax.specs.Syntax.{Kind, value, stack, Instr}
+use Rattle.syntax.specs.Syntax.{value, Instr}
 use Rattle.syntax.specs.Fault.{Fault, given, numberOf, lowest, Pass, Refusal, itemsOf, refuse, lowestLine, orElse}
 use Rattle.syntax.proofs.Least.{leastOf, given-none, Numbered, numbered-given, numbered-append, items-given, items-append, line-next, line-here, line-append, line-after}
 use Rattle.text.specs.PassOne.{Listing}
-use Rattle.types.specs.Types.{Ty, code, items, Arg, aStack}
+use Rattle.types.specs.Types.{code, items, Arg, aStack}
 use Rattle.types.specs.Rows.{typeAt, typesOf}
-use Rattle.tables.specs.Tables.{RowTable, cell, span, letterOf, lettersAt, rowsIn, OperandTable, instrsFrom, blocksFrom}
-use Rattle.tables.proofs.Steps.{length-rows, length-instrs, endOf, listingAt, blocks-step}
+use Rattle.tables.specs.Tables.{RowTable, cell, lettersAt, rowsIn, OperandTable, instrsFrom, blocksFrom}
+use Rattle.tables.proofs.Steps.{length-rows, length-instrs, endOf, blocks-step}
 use Rattle.types.proofs.Meaning.{length-types}
 use Rattle.valid.specs.Program.{Block, Program, blockOf, blocksOf}
-use Rattle.valid.specs.Rules.{Context, atStart}
+use Rattle.valid.specs.Rules.{atStart}
 use Rattle.valid.specs.PassThree.{holds, isFormed, isEntry, bodyFaults, blockFaults, blocksFaults, hasNone, passThree}
 use Rattle.valid.proofs.Clear.{clear-replicate}
 use Rattle.valid.proofs.Order.{body-of}
-use Rattle.rows.specs.Read.{tab, lower, valueAt, placeV, meanV, meanS, partsOf}
+use Rattle.rows.specs.Read.{tab, lower, valueAt, placeV, meanS}
 use Rattle.rows.specs.declared.Val.{Val}
 use Rattle.rows.specs.declared.Val.the-variants.{Code}
-use Rattle.context.specs.Context.{regsOf, spOf, contextOf}
-use Rattle.typing.specs.Typing.{typesIn}
 use Rattle.entry.specs.Entry.{blockAt}
 use Rattle.entry.proofs.Laws.{block-is}
 use Rattle.premises.specs.Answers.{In, ItemIs}
-use Rattle.pass_three.specs.declared.Finding.{Finding}
-use Rattle.pass_three.specs.Found.{Refuses, blockPass, theBlock}
-use Rattle.pass_three.proofs.Items.{in-some}
-use Rattle.pass_three.proofs.Lines.{length-body, refuses-as, refuses-none}
+use Rattle.finding.specs.declared.Finding.{Finding}
+use Rattle.finding.specs.Found.{Refuses}
+use Rattle.pass_three.specs.Blocks.{blockPass, theBlock}
+use Rattle.finding.proofs.Laws.{refuses-as, refuses-none, in-some}
+use Rattle.block_body.proofs.Lines.{length-body}
 
 -- ---- one block
 numbered-block : (first : Bool) (B : Block) → Numbered (blockFaults first B)
@@ -192,14 +191,6 @@ module _ (rows parts : List ℕ) (n c h : ℕ) {v : Val} {x p : ℕ} (e : h ≡ 
 
   pub few-items : (first : Bool) (k : ℕ) (xs : List Instr) → k ≡ leastOf (blockFaults first (blockOf (typeAt value (typesOf (rowsIn (tab rows parts) n)) c) xs)) → k ≡ 0 → items (meanS (tab rows parts) x) ≤ 64
   few-items first k xs w z = short-sp first xs (ap (blockFaults first) (sym (block-is rows parts n c h e f {x = x} {p = p} xs q)) ∙ numbered-block first (blockOf (typeAt value (typesOf (rowsIn (tab rows parts) n)) c) xs) (sym w ∙ z))
-
--- ---- the types at its start
-pub entered : (P : Program) (rows parts regs sp : List ℕ) (n h x p d k m : ℕ) (xs : List Instr) (f : Finding) → Refuses f (lowestLine m (bodyFaults P (map letterOf (span parts (p + 9) k)) (holds (contextOf (typesIn rows parts n) regs sp d)) xs)) → k ≡ getD parts (p + 8) 0 → regsOf (typesIn rows parts n) regs ≡ partsOf (meanV (tab rows parts)) parts true h p 8 → spOf (typesIn rows parts n) sp (items (meanS (tab rows parts) x)) ≡ meanS (tab rows parts) x → d ≡ items (meanS (tab rows parts) x) → Refuses f (lowestLine m (bodyFaults P (lettersAt parts p) (holds (atStart (blockAt (tab rows parts) h x p xs))) xs))
-unfolding lettersAt
-entered P rows parts regs sp n h x p d k m xs f r e g s w =
-    refuses-as f
-    (ap₂ (λ (j : ℕ) (Γ : Context). lowestLine m (bodyFaults P (map letterOf (span parts (p + 9) j)) (holds Γ) xs)) e (ap₂ (λ (a b : Ty stack). record { sp = a; regs = b }) (ap (spOf (typesIn rows parts n) sp) w ∙ s) g))
-    r
 
 -- ---- block b, as the code finds it
 module _ (P : Program) (rows parts β ι : List ℕ) (ω : OperandTable) (ni n nb b c s line : ℕ) (cs : c ≡ getD β (2 * b) 0) (ss : s ≡ cell 2 β b 1) (ls : line ≡ n + b + s + 1) where

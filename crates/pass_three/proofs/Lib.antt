@@ -1,5 +1,1 @@
-pub mod Items
-pub mod Lines
-pub mod Registers
-pub mod Flat
 pub mod Blocks

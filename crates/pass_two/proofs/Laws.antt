@@ -17,10 +17,11 @@ use Rattle.text.proofs.Entries.{entriesIn}
 use Rattle.types.specs.Rows.{Ref, rowRefs, allBelow, allOfSort, sizeOf, sizesFrom, sizesOf, rowFaults, rowsFaults, refsFaults, passTwo, entriesFaults}
 use Rattle.tables.specs.Tables.{RowTable, rowAt, rowsFrom, rowsIn}
 use Rattle.rows.proofs.Bridge.{rows-snoc}
-use Rattle.measure.specs.Size.{Measured}
+use Rattle.row_size.specs.Size.{Measured}
 use Rattle.refs.specs.declared.Found.{Found}
-use Rattle.refs.specs.Refs.{rowRefsFaults, foundOf, refusalOf}
-use Rattle.refs.proofs.References.{row-least, numbered-row, items-row}
+use Rattle.row_refs.specs.Rows.{rowRefsFaults}
+use Rattle.refs.specs.Refs.{foundOf, refusalOf}
+use Rattle.row_refs.proofs.References.{row-least, numbered-row, items-row}
 use Rattle.refs.proofs.Lines.{pass-two, whole-refusal}
 use Rattle.pass_two.specs.PassTwo.{faultsAt}
 

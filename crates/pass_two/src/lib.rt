@@ -11,8 +11,9 @@ ghost use Rattle.text.proofs.Entries.{entriesIn};
 ghost use Rattle.types.specs.Rows.{rowsFaults, passTwo};
 ghost use Rattle.tables.specs.Tables.{rowsIn, blocksFrom};
 ghost use Rattle.rows.specs.Read.{tab};
-ghost use Rattle.measure.specs.Size.{Measured};
-ghost use Rattle.refs.specs.Refs.{operandTable, refusalOf, Rising};
+ghost use Rattle.row_size.specs.Size.{Measured};
+ghost use Rattle.instr_refs.specs.Instrs.{operandTable};
+ghost use Rattle.refs.specs.Refs.{refusalOf, Rising};
 ghost use Rattle.pass_two.specs.PassTwo.{faultsAt};
 
 // The least fault of row r, 0 for none.
@@ -20,7 +21,7 @@ fn row_fault(rows: &[u16], parts: &[u16], sizes: &mut [u16], r: usize) -> usize
     requires { ⌜ (r ≤ 65535) × Measured (tab (now rows) (now parts)) (now sizes) ⌝ }
     ensures { λ out. ⌜ (out ≡ leastOf (faultsAt (tab (now (rows .entry)) (now (parts .entry))) r)) × Measured (tab (now (rows .entry)) (now (parts .entry))) (now (sizes .exit)) ⌝ }
 {
-    let f = refs::row_fault(rows, parts, r);
+    let f = row_refs::row_fault(rows, parts, r);
     if f != 0 {
         return f;
     }

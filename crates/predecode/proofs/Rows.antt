@@ -270,7 +270,7 @@ module _ (T : Tables) (σ : State) (h : σ .position < T .count) {f x y z n p : 
       (λ q. as-form 1 (form-is 0 1 e q refl refl refl) (arith-operand 0 hc e refl (plain (lit n)) (word 0 1 e q refl)))
       (λ q. as-form 24 (form-is 0 2 e q refl refl refl) (arith-none 0 hc e refl q))
   arith-rows (suc zero) hc e = by-kind
-      (λ q. as-form 2 (form-is 1 0 e q refl refl refl) (arith-operand 1 hc e refl (plain (reg n)) (word 1 0 e q refl)))
+      (λ q. as-form 20 (form-is 1 0 e q refl refl refl) (arith-operand 1 hc e refl (plain (reg n)) (word 1 0 e q refl)))
       (λ q. as-form 1 (form-is 1 1 e q refl refl refl) (sub-added (last-is 1 1 e q refl) ∙ arith-operand 1 hc e refl (plain (lit number)) (word-at 1 q)))
       (λ q. as-form 24 (form-is 1 2 e q refl refl refl) (arith-none 1 hc e refl q))
   arith-rows (suc (suc zero)) hc e = by-kind
@@ -420,7 +420,7 @@ module _ (T : Tables) (σ : State) (h : σ .position < T .count) {f x y z n p : 
 
   malloc-row : code ≡ 12 → Same
   unfolding planned chosen lastOf
-  malloc-row e = as-form 20 (plain-form 12 20 e refl refl refl) (here ι os bs β (T .count) l σ (nextTuple (σ .used) p x z n) h
+  malloc-row e = as-form 2 (plain-form 12 2 e refl refl refl) (here ι os bs β (T .count) l σ (nextTuple (σ .used) p x z n) h
       (malloc-is ι os bs β (T .count) l σ ep (column-is 12 e 0 ex refl) (nextTuple (σ .used) p x z n) e (column-is 12 e 2 ez refl) (last-is 12 kind e refl refl) refl))
 
   halt-form : 22 ≤ code → f ≡ 23
@@ -526,7 +526,7 @@ module _ (T : Tables) (σ : State) (h : σ .position < T .count) {f x y z n p : 
     unfolding chosen readsOperand
     malloc-low e =
         let m = names _ (is-malloc ι (operandsOf T) j e) in
-        (low x (cell 8 ι j 1) (column-is 12 e 0 ex refl) (m .0), zero-low y (column-is 12 e 1 ey refl), none-read 20 (plain-form 12 20 e refl refl refl) refl)
+        (low x (cell 8 ι j 1) (column-is 12 e 0 ex refl) (m .0), zero-low y (column-is 12 e 1 ey refl), none-read 2 (plain-form 12 2 e refl refl refl) refl)
 
     getsp-low : code ≡ 13 → Low
     unfolding chosen readsOperand
@@ -668,11 +668,11 @@ module _ (T : Tables) (σ : State) (h : σ .position < T .count) {f x y z n p : 
       either (eqb i 0) _ _ (T .count) (g 2147483648) (either (eqb i 1) _ _ (T .count) (g 0) (g 1))
 
   -- ---- the operands of a row of `malloc`
-  malloc-code : f ≡ 20 → code ≡ 12
+  malloc-code : f ≡ 2 → code ≡ 12
   unfolding formAt formFor alone
-  malloc-code e = code-of 20 12 tt (omega arith) code kind kind-low (was-same there (eqb (formFor T j) 4) (eqb (formFor T j) 7) (formFor T j) 20 (omega arith) (sym ef ∙ e))
+  malloc-code e = code-of 2 12 tt (omega arith) code kind kind-low (was-same there (eqb (formFor T j) 4) (eqb (formFor T j) 7) (formFor T j) 2 (omega arith) (sym ef ∙ e))
 
-  pub malloc-operands : Fit T → f ≡ 20 → (z + n ≤ length bs) × (4 * (z + n) ≤ length os) × ((k : ℕ) → k < n → getD os (4 * (z + k)) 0 ≡ 0 → getD bs (z + k) 0 < 8)
+  pub malloc-operands : Fit T → f ≡ 2 → (z + n ≤ length bs) × (4 * (z + n) ≤ length os) × ((k : ℕ) → k < n → getD os (4 * (z + k)) 0 ≡ 0 → getD bs (z + k) 0 < 8)
   unfolding chosen lastOf
   malloc-operands fit e = (omega (arith, first-is, count-is, fit .room j h .0), omega (arith, first-is, count-is, fit .room j h .1), registers)
     where
@@ -811,7 +811,7 @@ module _ (T : Tables) (φ : List ℕ) (pl : Plan T φ) (σ : State) (h : σ .pos
         (λ m. row-low T σ m (form-cell m) (cell-1 m) (cell-2 m) (cell-3 m) (cell-4 m) refl fit .2 r)
         (λ e. let w : cell 8 φ i 4 ≡ 0 = behind e 4 (omega arith) in omega arith)
 
-    pub tuple-operands : formIn (cell 8 φ (σ .position) 0) (cell 8 φ (σ .position) 5) ≡ 20 → (cell 8 φ (σ .position) 3 + cell 8 φ (σ .position) 4 ≤ length (T .bases)) × (4 * (cell 8 φ (σ .position) 3 + cell 8 φ (σ .position) 4) ≤ length (T .operands)) × ((k : ℕ) → k < cell 8 φ (σ .position) 4 → getD (T .operands) (4 * (cell 8 φ (σ .position) 3 + k)) 0 ≡ 0 → getD (T .bases) (cell 8 φ (σ .position) 3 + k) 0 < 8)
+    pub tuple-operands : formIn (cell 8 φ (σ .position) 0) (cell 8 φ (σ .position) 5) ≡ 2 → (cell 8 φ (σ .position) 3 + cell 8 φ (σ .position) 4 ≤ length (T .bases)) × (4 * (cell 8 φ (σ .position) 3 + cell 8 φ (σ .position) 4) ≤ length (T .operands)) × ((k : ℕ) → k < cell 8 φ (σ .position) 4 → getD (T .operands) (4 * (cell 8 φ (σ .position) 3 + k)) 0 ≡ 0 → getD (T .bases) (cell 8 φ (σ .position) 3 + k) 0 < 8)
     tuple-operands e =
         let m : i < T .count = before-last (omega (arith, e)) in
         malloc-operands T σ m (form-cell m) (cell-1 m) (cell-2 m) (cell-3 m) (cell-4 m) refl fit e

@@ -16,9 +16,9 @@ use Rattle.machine.specs.Step.{Tables, pair, given, nextArith, nextJump, nextLo
 -- a row's form, by code, in the order of the forms, and by the operand's kind: register, integer, label
 abbrev pub forms : List (List ℕ)
 forms =
-    (0 ∷ 1 ∷ 24 ∷ []) ∷ (2 ∷ 1 ∷ 24 ∷ []) ∷ (3 ∷ 15 ∷ 24 ∷ [])
+    (0 ∷ 1 ∷ 24 ∷ []) ∷ (20 ∷ 1 ∷ 24 ∷ []) ∷ (3 ∷ 15 ∷ 24 ∷ [])
     ∷ (21 ∷ 22 ∷ 4 ∷ []) ∷ (21 ∷ 22 ∷ 4 ∷ []) ∷ (21 ∷ 22 ∷ 4 ∷ []) ∷ (21 ∷ 22 ∷ 4 ∷ []) ∷ (21 ∷ 22 ∷ 4 ∷ []) ∷ (21 ∷ 22 ∷ 4 ∷ [])
-    ∷ (5 ∷ 6 ∷ 6 ∷ []) ∷ (9 ∷ 9 ∷ 9 ∷ []) ∷ (10 ∷ 10 ∷ 10 ∷ []) ∷ (20 ∷ 20 ∷ 20 ∷ [])
+    ∷ (5 ∷ 6 ∷ 6 ∷ []) ∷ (9 ∷ 9 ∷ 9 ∷ []) ∷ (10 ∷ 10 ∷ 10 ∷ []) ∷ (2 ∷ 2 ∷ 2 ∷ [])
     ∷ (16 ∷ 16 ∷ 16 ∷ []) ∷ (17 ∷ 17 ∷ 17 ∷ []) ∷ (18 ∷ 18 ∷ 18 ∷ []) ∷ (19 ∷ 19 ∷ 19 ∷ [])
     ∷ (11 ∷ 11 ∷ 11 ∷ []) ∷ (12 ∷ 12 ∷ 12 ∷ []) ∷ (13 ∷ 13 ∷ 13 ∷ []) ∷ (14 ∷ 14 ∷ 14 ∷ [])
     ∷ (8 ∷ 24 ∷ 7 ∷ []) ∷ (23 ∷ 23 ∷ 23 ∷ []) ∷ []
@@ -40,7 +40,7 @@ columns =
 
 -- forms whose operand is a register
 unfoldable pub readsOperand : ℕ → Bool
-readsOperand f = eqb f 0 || eqb f 2 || eqb f 3 || eqb f 5 || eqb f 8 || eqb f 21
+readsOperand f = eqb f 0 || eqb f 3 || eqb f 5 || eqb f 8 || eqb f 20 || eqb f 21
 
 -- the number of that choice; where a label leads is kept eight times, as the place of its row in the table
 unfoldable pub chosen : ℕ → ℕ → ℕ → ℕ → ℕ → ℕ → ℕ → ℕ → ℕ
@@ -140,7 +140,7 @@ unfoldable pub planned : List ℕ → ℕ → ℕ → (ℕ → ℕ) → ℕ → 
 planned β l s g f x y z n p R S H h u =
     cond (eqb f 0) (nextArith R p add x y (plain (reg n)))
     (cond (eqb f 1) (nextArith R p add x y (plain (lit n)))
-    (cond (eqb f 2) (nextArith R p sub x y (plain (reg n)))
+    (cond (eqb f 2) (nextTuple u p x z n)
     (cond (eqb f 3) (nextArith R p mul x y (plain (reg n)))
     (cond (eqb f 4) (given intKind (at R x) (λ v. Go (g (column (signOf v)))))
     (cond (eqb f 5) (Register x (pair (wordOf R (plain (reg n)))) p)
@@ -158,7 +158,7 @@ planned β l s g f x y z n p R S H h u =
     (cond (eqb f 17) (nextCut R h p x)
     (cond (eqb f 18) (nextPush h p z)
     (cond (eqb f 19) (nextPop h p z)
-    (cond (eqb f 20) (nextTuple u p x z n)
+    (cond (eqb f 20) (nextArith R p sub x y (plain (reg n)))
     (cond (eqb f 21) (given intKind (at R x) (λ v. cond (taken (branchOf y) (signOf v)) (nextJump β l (wordOf R (plain (reg n)))) (Go p)))
     (cond (eqb f 22) (given intKind (at R x) (λ v. cond (taken (branchOf y) (signOf v)) (End Stuck) (Go p)))
     (cond (eqb f 23) (End Halted) (End Stuck))))))))))))))))))))))))

@@ -13,12 +13,12 @@ ghost use Rattle.machine.specs.Step.{tables};
 ghost use Rattle.predecode.specs.Plan.{forms, halts, columns, chosen, classOf, fifthOf, addedOf, lastOf, putRow, rowOf, Plan};
 
 // The form of an instruction, by its code and the kind of its operand: register, integer, label. Forms below 15 are classes of their
-// own: 0 add register, 1 add integer, 2 sub register, 3 mul register, 4 branch to a label, 5 mov register, 6 mov of a constant,
+// own: 0 add register, 1 add integer, 2 malloc, 3 mul register, 4 branch to a label, 5 mov register, 6 mov of a constant,
 // 7 jmp to a label, 8 jmp register, 9 ld, 10 st, 11 sld, 12 sst, 13 slp, 14 ssp. The others are of class 15: 15 mul integer,
-// 16 getsp, 17 setsp, 18 salloc, 19 sfree, 20 malloc, 21 branch through a register, 22 branch that goes nowhere, 23 halt, 24 stuck.
+// 16 getsp, 17 setsp, 18 salloc, 19 sfree, 20 sub register, 21 branch through a register, 22 branch that goes nowhere, 23 halt, 24 stuck.
 const FORMS: [[u8; 3]; 23] = [
     [0, 1, 24],
-    [2, 1, 24],
+    [20, 1, 24],
     [3, 15, 24],
     [21, 22, 4],
     [21, 22, 4],
@@ -29,7 +29,7 @@ const FORMS: [[u8; 3]; 23] = [
     [5, 6, 6],
     [9, 9, 9],
     [10, 10, 10],
-    [20, 20, 20],
+    [2, 2, 2],
     [16, 16, 16],
     [17, 17, 17],
     [18, 18, 18],

@@ -14,7 +14,7 @@ use Rattle.syntax.specs.Fault.{Clear}
 use Rattle.types.specs.Rows.{rowRefs, total, sizeOf, sizesOf, rowsFaults}
 use Rattle.tables.specs.Tables.{RowTable, cell, rowFrom, rowAt, rowsFrom, rowsIn}
 use Rattle.rows.specs.Read.{tab, Counted}
-use Rattle.measure.specs.Size.{CountsFilled}
+use Rattle.item_counts.specs.Counts.{CountsFilled}
 use Rattle.scope.specs.Scoped.{SmallVariable, Scoped, Checked}
 use Rattle.scope.proofs.Callers.{checked}
 use Rattle.pass_two.proofs.Laws.{size-clear}

@@ -30,6 +30,6 @@ pub fn prepare(rows: &mut [u16], parts: &[u16], n: usize, uses: &mut [u8], tops:
     ensures { λ _. ⌜ Prepared (now (rows .entry)) (now (rows .exit)) (now (parts .entry)) n (now (uses .exit)) (now (tops .exit)) ⌝ }
 {
     put_two(rows, n);
-    measure::count_items(rows, parts, n + 2);
+    item_counts::count_items(rows, parts, n + 2);
     scope::find_all(rows, parts, uses, tops, n);
 }

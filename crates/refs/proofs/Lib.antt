@@ -1,3 +1,1 @@
-pub mod References
-pub mod Operands
 pub mod Lines

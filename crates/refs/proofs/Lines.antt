@@ -18,7 +18,7 @@ use Rattle.tables.proofs.Steps.{length-instrs, length-rows, instrs-step, endOf,
 use Rattle.types.specs.Rows.{Ref, ref, valueRow, operandsRefs, labels, names, allBelow, refsFaults, sizeOf, rowsFaults, entryFaults, entriesFaults, passTwo}
 use Rattle.refs.specs.Refs.{foundOf, refusalOf, Rising}
 use Rattle.refs.specs.declared.Found.{Found}
-use Rattle.refs.proofs.References.{numbered-refs, items-refs}
+use Rattle.row_refs.proofs.References.{numbered-refs, items-refs}
 
 -- ---- faults
 -- a line's faults are numbered, and name no items

@@ -1,2 +1,1 @@
 pub mod Refs
-pub mod Least

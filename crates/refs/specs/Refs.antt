@@ -1,26 +1,17 @@
--- What the public functions promise is said with these: the tables, the faults that stand on lines, the answer, where blocks start.
+-- What the public functions promise is said with these: the faults that stand on lines, the answer, where blocks start.
 use Prim.Native.Nat.{ℕ, suc, _≤_, _<_}
 use mathlib.Core.Path.{_≡_}
 use mathlib.Core.Bool.{cond}
 use mathlib.Core.Option.{Option, none, some}
 use mathlib.Core.List.{List, []}
 use lib.Dec.{eqb}
-use Rattle.syntax.specs.Fault.{Fault, Pass, Refusal}
+use Rattle.syntax.specs.Fault.{Pass, Refusal}
 use Rattle.text.proofs.Entries.{entriesIn}
-use Rattle.tables.specs.Tables.{cell, RowTable, rowAt, rowsIn, OperandTable, blocksFrom}
-use Rattle.types.specs.Rows.{rowRefs, refsFaults, entriesFaults}
+use Rattle.tables.specs.Tables.{cell, RowTable, rowsIn, OperandTable, blocksFrom}
+use Rattle.types.specs.Rows.{entriesFaults}
 use Rattle.refs.specs.declared.Found.{Found}
 
--- ---- tables
--- the operands, as the functions are lent them
-abbrev pub operandTable : List ℕ → List ℕ → List ℕ → OperandTable
-operandTable operands numbers args = record { operands = operands; numbers = numbers; args = args }
-
 -- ---- faults
--- the faults 4 and 5 of row r, by the rows before it
-abbrev pub rowRefsFaults : RowTable → ℕ → List Fault
-rowRefsFaults τ r = refsFaults (rowsIn τ r) (rowRefs (rowAt τ r))
-
 -- the faults of all lines behind n type lines: nb blocks and ni instructions
 abbrev pub codeFaults : RowTable → ℕ → List ℕ → ℕ → List ℕ → ℕ → OperandTable → Pass
 codeFaults τ n β nb ι ni ω = entriesFaults (rowsIn τ n) nb (entriesIn [] (blocksFrom β ι ω ni 0 nb))

@@ -21,11 +21,11 @@ use Rattle.predecode.specs.Plan.{readsOperand, formIn, Plan}
 use Rattle.predecode.proofs.Rows.{class-low, other-low, low-first, low-second, low-operand, tuple-operands}
 use Rattle.moved.specs.declared.Moved.{Moved}
 use Rattle.moved.specs.declared.Moved.the-variants as moved
-use Rattle.moved.specs.Stepped.{held, Still, Stepped}
+use Rattle.moved.specs.Stepped.{held, Still, Stepped, Inside}
 use Rattle.step.specs.Rows.{formOf, FitRow}
 use Rattle.runner.specs.declared.Outcome.{Outcome}
 use Rattle.runner.specs.declared.Outcome.the-variants.{Paused, Ended}
-use Rattle.runner.specs.Runs.{ranIs, later}
+use Rattle.runner.specs.Runs.{ranIs, later, Safe}
 
 -- ---- runs
 none-before : (r : Ran) → later 0 r ≡ r
@@ -44,6 +44,29 @@ at-stop : (P : Bodies) (σ : State) (s : Stop) (n : ℕ) → step P σ ≡ stop 
 unfolding run after
 at-stop P σ s zero e = ap (λ (r : Result State). after σ r (λ σ′. ended paused σ)) e
 at-stop P σ s (suc n) e = ap (λ (r : Result State). after σ r (λ σ′. oneMore (run P n σ′))) e
+
+-- no step made
+first-state : (P : Bodies) (σ : State) → run P 0 σ .state ≡ σ
+unfolding run after
+first-state P σ = by (step P σ)
+  where
+    by : (r : Result State) → after σ r (λ σ′. ended paused σ) .state ≡ σ
+    by (go τ) = refl
+    by (stop s) = refl
+
+-- ---- handles at tuples' starts
+abbrev InsideAt : State → Type 0
+InsideAt σ = Inside (σ .registers) (σ .heap)
+
+module _ (T : Tables) (σ : State) (safe : Safe T σ) where
+  safe-now : InsideAt σ
+  safe-now = subst InsideAt (first-state (safe .program) σ) (safe .inside 0)
+
+  safe-next : (τ : State) → stepAt T σ ≡ go τ → Safe T τ
+  safe-next τ e =
+      let P = safe .program in
+      let q : step P σ ≡ go τ = sym (step-is T (safe .args) P (safe .represents) σ) ∙ e in
+      record { args = safe .args; program = P; represents = safe .represents; inside = λ n. subst InsideAt (ap (λ (r : Ran). r .state) (one-step P σ τ n q)) (safe .inside (suc n)) }
 
 -- ---- one turn: n steps of b are left
 module _ (T : Tables) (args : List ℕ) (P : Bodies) (rep : Represents T args P) (σ : State) (b n : ℕ) where
@@ -74,6 +97,7 @@ pub record Running (T : Tables) (b : ℕ) (σ₀ : State) (R S H : Memory) (n at
   pub depth : h ≤ 256
   pub used : u ≤ 2048
   pub left : n ≤ b
+  pub safe : Safe T (held R S H h u position)
   pub ran : (args : List ℕ) (P : Bodies) → Represents T args P → later (b - n) (run P n (held R S H h u position)) ≡ run P b σ₀
 
 module _ (T : Tables) (b : ℕ) where
@@ -81,13 +105,13 @@ module _ (T : Tables) (b : ℕ) where
   abbrev pub start : List ℕ → List ℕ → List ℕ → List ℕ → List ℕ → List ℕ → ℕ → ℕ → ℕ → State
   start rk rn sk sn hk hn at h u = held (lent rk rn) (lent sk sn) (lent hk hn) h u (at / 8)
 
-  pub at-first : (rk rn sk sn hk hn : List ℕ) (j h u : ℕ) → h ≤ 256 → u ≤ 2048 → j ≤ T .count → Running T b (start rk rn sk sn hk hn (8 * j) h u) (lent rk rn) (lent sk sn) (lent hk hn) b (8 * j) h u
-  at-first rk rn sk sn hk hn j h u hd hu hp =
+  pub at-first : (rk rn sk sn hk hn : List ℕ) (j h u : ℕ) → h ≤ 256 → u ≤ 2048 → j ≤ T .count → Safe T (held (lent rk rn) (lent sk sn) (lent hk hn) h u j) → Running T b (start rk rn sk sn hk hn (8 * j) h u) (lent rk rn) (lent sk sn) (lent hk hn) b (8 * j) h u
+  at-first rk rn sk sn hk hn j h u hd hu hp safe =
       let z : b - b ≡ 0 = omega arith in
       let q : j ≡ 8 * j / 8 = omega arith in
       let e : (args : List ℕ) (P : Bodies) → Represents T args P → later (b - b) (run P b (held (lent rk rn) (lent sk sn) (lent hk hn) h u j)) ≡ run P b (start rk rn sk sn hk hn (8 * j) h u) =
       λ args P rep. ap (λ (k : ℕ). later k (run P b (held (lent rk rn) (lent sk sn) (lent hk hn) h u j))) z ∙ none-before (run P b (held (lent rk rn) (lent sk sn) (lent hk hn) h u j)) ∙ ap (λ (k : ℕ). run P b (held (lent rk rn) (lent sk sn) (lent hk hn) h u k)) q in
-      record { position = j; place = refl; within = hp; depth = hd; used = hu; left = omega arith; ran = e }
+      record { position = j; place = refl; within = hp; depth = hd; used = hu; left = omega arith; safe = safe; ran = e }
 
   pub from-start : (P : Bodies) (rk rn sk sn hk hn : List ℕ) (p : Place) → run P b (start rk rn sk sn hk hn (8 * p .position) (p .depth) (p .used)) ≡ run P b (stateOf rk rn sk sn hk hn p)
   from-start P rk rn sk sn hk hn p =
@@ -119,6 +143,7 @@ module _ (T : Tables) (b : ℕ) where
             depth = m .depth;
             used = m .used;
             left = v;
+            safe = safe-next T σ (g .safe) (held R′ S′ H′ d w (m .position)) (m .result);
             ran = λ args P rep. turn-to T args P rep σ b n (held R′ S′ H′ d w (m .position)) q l (m .result) ∙ g .ran args P rep;
           }
 
@@ -154,7 +179,7 @@ module _ (T : Tables) (φ : List ℕ) (pl : Plan T φ) (fit : Fit T) (j at : ℕ
   form : formIn (cell 8 φ (σ .position) 0) (cell 8 φ (σ .position) 5) ≡ formOf φ at
   form = ap₂ formIn head (entry 5)
 
-  sourced : formOf φ at ≡ 20 → Sourced (T .operands) (T .bases) (getD φ (at + 3) 0) (getD φ (at + 4) 0)
+  sourced : formOf φ at ≡ 2 → Sourced (T .operands) (T .bases) (getD φ (at + 3) 0) (getD φ (at + 4) 0)
   sourced q =
       let t = tuple-operands T φ pl σ within fit (form ∙ q) in
       let s : Sourced (T .operands) (T .bases) (cell 8 φ (σ .position) 3) (cell 8 φ (σ .position) 4) = record { bases = t .0; operands = t .1; low = t .2 } in
@@ -174,6 +199,9 @@ module _ (T : Tables) (φ : List ℕ) (pl : Plan T φ) (fit : Fit T) (j at : ℕ
 
 pub row-fit : (T : Tables) (φ : List ℕ) → Plan T φ → Fit T → (b : ℕ) (σ₀ : State) (R S H : Memory) (n at h u : ℕ) → Running T b σ₀ R S H n at h u → FitRow φ (T .operands) (T .bases) at
 row-fit T φ pl fit b σ₀ R S H n at h u g = fit-row T φ pl fit (g .position) at (g .place) (g .within) (held R S H h u (g .position)) refl
+
+pub row-inside : (T : Tables) (b : ℕ) (σ₀ : State) (R S H : Memory) (n at h u : ℕ) → Running T b σ₀ R S H n at h u → Inside R H
+row-inside T b σ₀ R S H n at h u g = safe-now T (held R S H h u (g .position)) (g .safe)
 
 pub row-in : (T : Tables) (m b : ℕ) (σ₀ : State) (R S H : Memory) (n at h u : ℕ) → 8 * T .count + 8 ≤ m → Running T b σ₀ R S H n at h u → at + 8 ≤ m
 row-in T m b σ₀ R S H n at h u l g = omega (arith, g .place, g .within)

@@ -1,9 +1,11 @@
--- What the code answers for a run, as a run of crate exec.
+-- What the code answers for a run, as a run of crate exec, and what is asked of the run.
 use Prim.Native.Nat.{ℕ, _+_}
 use mathlib.Core.List.{List}
-use Rattle.exec.specs.Machine.{State}
-use Rattle.exec.specs.Run.{Ran, paused, stopped}
-use Rattle.machine.specs.Step.{stopIs, stateOf}
+use Rattle.exec.specs.Machine.{State, Bodies}
+use Rattle.exec.specs.Run.{Ran, paused, stopped, run}
+use Rattle.machine.specs.Step.{Tables, stopIs, stateOf}
+use Rattle.machine.specs.Represents.{Represents}
+use Rattle.moved.specs.Stepped.{Inside}
 use Rattle.runner.specs.declared.Outcome.{Outcome}
 use Rattle.runner.specs.declared.Outcome.the-variants.{Paused, Ended}
 
@@ -15,3 +17,10 @@ ranIs (Ended s n p) rk rn sk sn hk hn = record { end = stopped (stopIs s); steps
 -- k steps were made before
 abbrev pub later : ℕ → Ran → Ran
 later k r = record { end = r .end; steps = k + r .steps; state = r .state }
+
+-- the tables are those of a program whose run from σ only comes to states with each handle in a register at a tuple's start
+pub record Safe (T : Tables) (σ : State) : Type 0 where
+  pub args : List ℕ
+  pub program : Bodies
+  pub represents : Represents T args program
+  pub inside : (n : ℕ) → Inside (run program n σ .state .registers) (run program n σ .state .heap)

@@ -1,6 +1,7 @@
 // Runs with a budget: `run` makes the machine's own table of the program once (crate predecode), then one step after another by its
 // rows (crate step). Promised: the run of crate exec, its end, its steps and every lent word, for each program that the tables
-// represent. Asked: registers, stack and heap as long as the limits, and tables that decoding has seen to (`Fit`).
+// represent. Asked: registers, stack and heap as long as the limits, tables that decoding has seen to (`Fit`), and a run that only comes
+// to states with each handle in a register at a tuple's start (`Safe`).
 // rk and rn are the registers' kinds and numbers, sk and sn the stack's, hk and hn the heap's.
 ghost use mathlib.Core.Path.{_≡_};
 ghost use mathlib.Core.List.{List};
@@ -12,7 +13,7 @@ ghost use Rattle.exec.specs.Run.{run};
 ghost use Rattle.machine.specs.Step.{tables, stateOf};
 ghost use Rattle.machine.specs.Represents.{Represents, Fit};
 ghost use Rattle.predecode.specs.Plan.{Plan};
-ghost use Rattle.runner.specs.Runs.{ranIs};
+ghost use Rattle.runner.specs.Runs.{ranIs, Safe};
 use machine::Place;
 use machine::Stop;
 use moved::Moved;
@@ -67,7 +68,7 @@ fn run_rows(
     p: Place,
     budget: usize,
 ) -> Outcome
-    requires { ⌜ Plan (tables (now instrs) (now operands) (now bases) (now blocks) count labels) (now plan) × Fit (tables (now instrs) (now operands) (now bases) (now blocks) count labels) × (8 * count + 8 ≤ length (now plan)) × (8 ≤ length (now rk)) × (8 ≤ length (now rn)) × (256 ≤ length (now sk)) × (256 ≤ length (now sn)) × (2048 ≤ length (now hk)) × (2048 ≤ length (now hn)) × (p .depth ≤ 256) × (p .used ≤ 2048) × (p .position ≤ count) ⌝ }
+    requires { ⌜ Plan (tables (now instrs) (now operands) (now bases) (now blocks) count labels) (now plan) × Fit (tables (now instrs) (now operands) (now bases) (now blocks) count labels) × (8 * count + 8 ≤ length (now plan)) × (8 ≤ length (now rk)) × (8 ≤ length (now rn)) × (256 ≤ length (now sk)) × (256 ≤ length (now sn)) × (2048 ≤ length (now hk)) × (2048 ≤ length (now hn)) × (p .depth ≤ 256) × (p .used ≤ 2048) × (p .position ≤ count) × Safe (tables (now instrs) (now operands) (now bases) (now blocks) count labels) (stateOf (now rk) (now rn) (now sk) (now sn) (now hk) (now hn) p) ⌝ }
     ensures { λ r. ⌜ ((args : List ℕ) (P : Bodies) → Represents (tables (now (instrs .entry)) (now (operands .entry)) (now (bases .entry)) (now (blocks .entry)) count labels) args P → ranIs r (now (rk .exit)) (now (rn .exit)) (now (sk .exit)) (now (sn .exit)) (now (hk .exit)) (now (hn .exit)) ≡ run P budget (stateOf (now (rk .entry)) (now (rn .entry)) (now (sk .entry)) (now (sn .entry)) (now (hk .entry)) (now (hn .entry)) p)) ⌝ }
 {
     let mut left = budget;
@@ -128,7 +129,7 @@ pub fn run(
     p: Place,
     budget: usize,
 ) -> Outcome
-    requires { ⌜ Fit (tables (now instrs) (now operands) (now bases) (now blocks) count labels) × (8 * count + 8 ≤ length (now plan)) × (8 ≤ length (now rk)) × (8 ≤ length (now rn)) × (256 ≤ length (now sk)) × (256 ≤ length (now sn)) × (2048 ≤ length (now hk)) × (2048 ≤ length (now hn)) × (p .depth ≤ 256) × (p .used ≤ 2048) × (p .position ≤ count) ⌝ }
+    requires { ⌜ Fit (tables (now instrs) (now operands) (now bases) (now blocks) count labels) × (8 * count + 8 ≤ length (now plan)) × (8 ≤ length (now rk)) × (8 ≤ length (now rn)) × (256 ≤ length (now sk)) × (256 ≤ length (now sn)) × (2048 ≤ length (now hk)) × (2048 ≤ length (now hn)) × (p .depth ≤ 256) × (p .used ≤ 2048) × (p .position ≤ count) × Safe (tables (now instrs) (now operands) (now bases) (now blocks) count labels) (stateOf (now rk) (now rn) (now sk) (now sn) (now hk) (now hn) p) ⌝ }
     ensures { λ r. ⌜ ((args : List ℕ) (P : Bodies) → Represents (tables (now (instrs .entry)) (now (operands .entry)) (now (bases .entry)) (now (blocks .entry)) count labels) args P → ranIs r (now (rk .exit)) (now (rn .exit)) (now (sk .exit)) (now (sn .exit)) (now (hk .exit)) (now (hn .exit)) ≡ run P budget (stateOf (now (rk .entry)) (now (rn .entry)) (now (sk .entry)) (now (sn .entry)) (now (hk .entry)) (now (hn .entry)) p)) ⌝ }
 {
     predecode::predecode(instrs, operands, bases, blocks, count, labels, plan);

@@ -5,16 +5,16 @@ use native.Mathlib.Omega.{arith}
 use mathlib.Core.Path.{_≡_, refl, ap, sym, _∙_}
 use mathlib.Core.Bool.{Bool, true, false, cond}
 use mathlib.Core.List.{List}
-use lib.Dec.{eqb, leb, ltb}
+use lib.Dec.{eqb, ltb}
 use lib.ListN.{length, getD, set}
 use lib.Seq.{getD-set-same, getD-set-other}
-use borrow.Author.Tests.{eq-eqb, ne-eqb, eqb-true, eqb-false, leb-true, leb-false, ltb-true, ltb-false, lt-ltb, le-ltb}
+use borrow.Author.Tests.{eq-eqb, ne-eqb, eqb-true, eqb-false, ltb-true, ltb-false, lt-ltb, le-ltb}
 use Rattle.types.specs.Rows.{rowRefs}
-use Rattle.tables.specs.Tables.{RowTable, cell, rowFrom, rowAt}
-use Rattle.rows.specs.Read.{tab}
-use Rattle.scope.specs.Free.{topOf, freeIn}
-use Rattle.scope.specs.Scoped.{useAt, rowUse, rowType, Free, Within, Cleared, Checked}
-use Rattle.scope.proofs.WellFormed.{below-suc}
+use Rattle.tables.specs.Tables.{RowTable, rowFrom, rowAt}
+use Rattle.variables.specs.Free.{topOf, freeIn}
+use Rattle.variables.specs.Uses.{useAt}
+use Rattle.scope.specs.Scoped.{rowType, Free, Within, Cleared, Checked}
+use Rattle.variables.proofs.WellFormed.{below-suc}
 use Rattle.scope.proofs.Rows.{low, row-high, row-past, no-variable, top-le}
 use Rattle.scope.proofs.Laws.{type-use, top-past, Filled, free-more}
 

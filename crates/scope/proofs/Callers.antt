@@ -1,19 +1,14 @@
 -- A law for callers: where the premises of `find_all` come from.
-use Prim.Native.Nat.{ℕ, zero, suc, _+_, _<_}
+use Prim.Native.Nat.{ℕ, _<_}
 use native.Mathlib.Omega.{arith}
-use mathlib.Core.Path.{_≡_, refl, ap, ap₂, _∙_}
-use mathlib.Core.Bool.{true}
-use mathlib.Core.List.{List, [], _∷_}
-use Rattle.syntax.specs.Syntax.{Kind, value, rowI}
+use mathlib.Core.List.{[]}
+use Rattle.syntax.specs.Syntax.{rowI}
 use Rattle.syntax.specs.Fault.{Clear}
-use Rattle.types.specs.Types.{aStack}
-use Rattle.types.specs.Rows.{typeAt, meaning, typesOf, isValue, rowsFaults}
-use Rattle.types.proofs.Meaning.{typeIn, type-at, rows-clear}
-use Rattle.valid.specs.PassThree.{isFormed, formedArg}
-use Rattle.tables.specs.Tables.{RowTable, rowAt, rowsFrom, rowsIn}
+use Rattle.types.specs.Rows.{rowsFaults}
+use Rattle.types.proofs.Meaning.{rows-clear}
+use Rattle.tables.specs.Tables.{RowTable, rowAt, rowsIn}
 use Rattle.tables.proofs.Steps.{length-rows}
-use Rattle.scope.specs.Free.{freeIn}
-use Rattle.scope.specs.Scoped.{rowType, topIn, SmallVariable, Scoped, Checked}
+use Rattle.scope.specs.Scoped.{SmallVariable, Checked}
 use Rattle.scope.proofs.Rows.{row-getD, rows-take}
 
 -- what pass one (variables at most 63) and pass two (no fault) have seen

@@ -1,4 +1,3 @@
-pub mod WellFormed
 pub mod Rows
 pub mod Laws
 pub mod Callers

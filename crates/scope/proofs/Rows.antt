@@ -19,8 +19,9 @@ use Rattle.valid.specs.PassThree.{isStack, isFile}
 use Rattle.tables.specs.Tables.{RowTable, cell, span, codeRowAt, rowFrom, rowAt, rowsFrom, rowsIn}
 use Rattle.tables.proofs.Steps.{length-rows, row-in}
 use Rattle.rows.proofs.Bridge.{rows-snoc}
-use Rattle.scope.specs.Free.{both, fitTo, topOf, freeAs, respected, proper, freeIn, respectedIn, properIn}
-use Rattle.scope.specs.Scoped.{useAt, partUse, partsUse, codeUse, rowUse, respectedAt, partRespected, partsRespected, rowRespected, rowType, topIn, SmallVariable}
+use Rattle.variables.specs.Free.{both, fitTo, topOf, freeAs, respected, proper, freeIn, respectedIn, properIn}
+use Rattle.variables.specs.Uses.{useAt, partUse, partsUse, codeUse, rowUse, respectedAt, partRespected, partsRespected, rowRespected}
+use Rattle.scope.specs.Scoped.{rowType, topIn, SmallVariable}
 
 -- ---- uses
 unused-both : (w : ℕ) → both 0 w ≡ w

@@ -1,2 +1,1 @@
-pub mod Free
 pub mod Scoped

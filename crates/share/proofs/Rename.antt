@@ -1,19 +1,19 @@
 -- Rows with their references renamed by a map that keeps types have the same types. What follows for a shared table.
 use Prim.Native.Nat.{ℕ, zero, suc, _+_, _-_, _*_, _<_, _≤_}
-use native.Mathlib.Nat.{add-zero, zero-add, suc-add, add-suc, not-suc-le-zero}
+use native.Mathlib.Nat.{zero-add}
 use native.Mathlib.Omega.{arith}
 use mathlib.Core.Path.{_≡_, refl, ap, ap₂, sym, subst, _∙_}
 use mathlib.Core.Bool.{Bool, true, false, cond}
 use mathlib.Core.Logic.{inl, inr}
 use mathlib.Core.Option.{Option, none, some}
 use mathlib.Core.List.{List, [], _∷_, _++_, map, reverse}
-use lib.Dec.{eqb, leb, ltb}
+use lib.Dec.{leb}
 use lib.ListN.{length, getD, length-map, length-reverse}
 use borrow.Author.Tests.{ltb-true, leb-true, ne-eqb, lt-ltb, le-ltb}
 use Rattle.syntax.specs.Syntax.{Kind, value, stack, Row, rowI, rowN, rowE, rowV, rowX, rowP, rowU, rowK, rowA, rowC}
 use Rattle.syntax.specs.Fault.{Clear}
-use Rattle.types.specs.Types.{junk, tuple, pointer, code, push, gap, join, items, Arg, arg, ofKind}
-use Rattle.types.specs.Rows.{typeAt, components, registers, meaning, meanings, typesOf, isValue, isCode, Ref, knownRefs, rowRefs, allBelow, rowsFaults}
+use Rattle.types.specs.Types.{tuple, pointer, code, push, gap, join, items, Arg, arg, ofKind}
+use Rattle.types.specs.Rows.{typeAt, components, registers, meaning, typesOf, isValue, isCode, Ref, knownRefs, rowRefs, allBelow, rowsFaults}
 use Rattle.types.proofs.Equal.{and-inv}
 use Rattle.types.proofs.Meaning.{named, typeIn, types-snoc, type-is, rows-clear}
 use Rattle.tables.specs.Tables.{RowTable, cell, span, letterOf, knownOf, lettersAt, codeRowAt, rowFrom, rowAt, rowsFrom, rowsIn}
@@ -22,11 +22,12 @@ use Rattle.tables.proofs.Steps.{length-rows}
 use Rattle.rows.specs.Read.{tab, mean, Counted}
 use Rattle.rows.proofs.Laws.{value-is, stack-is}
 use Rattle.rows.proofs.Bridge.{rows-snoc, row-nine, type-in}
-use Rattle.scope.specs.Free.{freeIn}
+use Rattle.variables.specs.Free.{freeIn}
 use Rattle.scope.specs.Scoped.{rowType, topIn, Scoped}
 use Rattle.scope.proofs.Rows.{row-getD, row-type}
 use Rattle.premises.specs.Bounds.{SmallRow}
-use Rattle.share.specs.Shared.{firstOf, Firsts, renamedOption, renamed, Alike, Lower, newA, newB, newSlot, newPart, entryAt, partAt, FilledRows, FilledParts, HasParts, Shared}
+use Rattle.rename.specs.Renamed.{firstOf, newA, newB, newSlot, newPart, entryAt, partAt, FilledRows, FilledParts, HasParts}
+use Rattle.share.specs.Shared.{Firsts, renamedOption, renamed, Alike, Lower, Shared}
 
 -- ---- renaming
 module _ (f : ℕ → ℕ) where

@@ -4,14 +4,14 @@ use mathlib.Core.Path.{_≡_, refl, sym, ap, subst, _∙_}
 use mathlib.Core.List.{List, [], _∷_}
 use Rattle.valid.specs.Verdict.{check}
 use Rattle.premises.specs.Answers.{In}
-use Rattle.checker.specs.Answers.{Said, accept, refuse, saidOf, saidBy, itemsIn, Names, Answers}
-use Rattle.checker.specs.declared.Answer.{Answer}
-use Rattle.checker.specs.declared.Answer.the-variants.{Accepted, Refused, Unfit}
+use Rattle.verdict.specs.Answers.{Said, accept, refuse, saidOf, saidBy, itemsIn, Names, Answers}
+use Rattle.verdict.specs.declared.Answer.{Answer}
+use Rattle.verdict.specs.declared.Answer.the-variants.{Accepted, Refused, Unfit}
 use Rattle.exec.specs.Run as exec
 use Rattle.machine.specs.Step.{stateOf}
-use Rattle.launch.specs.declared.Answer as run
-use Rattle.launch.specs.declared.Outcome.{Outcome}
-use Rattle.launch.specs.Answers.{answerIs, outcomeIs}
+use Rattle.outcome.specs.declared.Answer as run
+use Rattle.outcome.specs.declared.Outcome.{Outcome}
+use Rattle.outcome.specs.Answers.{answerIs, outcomeIs}
 use Rattle.stal_numbers.specs.declared.Verdict.{Verdict}
 use Rattle.stal_numbers.specs.declared.Reply.{Reply}
 use Rattle.stal_numbers.specs.Numbers.{verdict, verdictBy, verdictOf, Last, Tells, replyOf, call, callOf}

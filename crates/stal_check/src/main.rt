@@ -1,8 +1,8 @@
 // The check program: reads a program's text from standard input and prints `accept,blocks,instructions` or `refuse,number,line`. What it
 // prints is the answer of `checker::check`.
-use checker::Answer;
 use libc::STDIN_FILENO;
 use libc::STDOUT_FILENO;
+use verdict::Answer;
 
 fn print(s: &[u8]) {
     io::write_all(STDOUT_FILENO, s);

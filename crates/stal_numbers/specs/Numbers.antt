@@ -4,13 +4,13 @@ use mathlib.Core.Path.{_≡_}
 use mathlib.Core.List.{List, [], _∷_}
 use Rattle.valid.specs.Verdict.{check}
 use Rattle.premises.specs.Answers.{In}
-use Rattle.checker.specs.Answers.{Said, accept, refuse, saidOf, itemsIn}
+use Rattle.verdict.specs.Answers.{Said, accept, refuse, saidOf, itemsIn}
 use Rattle.exec.specs.Machine.{State}
 use Rattle.exec.specs.Run as exec
 use Rattle.exec.specs.Run.{refused, haltedAfter, pausedAfter, stackFullAfter, heapFullAfter, stuckAfter}
 use Rattle.memory.specs.Lent.{lent}
-use Rattle.checker.specs.declared.Answer.{Answer}
-use Rattle.checker.specs.declared.Answer.the-variants.{Accepted, Refused, Unfit}
+use Rattle.verdict.specs.declared.Answer.{Answer}
+use Rattle.verdict.specs.declared.Answer.the-variants.{Accepted, Refused, Unfit}
 use Rattle.stal_numbers.specs.declared.Verdict.{Verdict}
 use Rattle.stal_numbers.specs.declared.Reply.{Reply}
 

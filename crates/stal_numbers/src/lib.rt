@@ -1,8 +1,8 @@
 // The answers of check, start and continue as numbers, for crate stal: a code, and the values that document 01 gives for it.
 // Promised: the numbers that specs/Numbers.antt has for each case. Nothing is asked.
-use launch::Answer;
+use outcome::Answer;
 ghost use mathlib.Core.Path.{_≡_};
-ghost use Rattle.launch.specs.Answers.{answerIs};
+ghost use Rattle.outcome.specs.Answers.{answerIs};
 ghost use Rattle.stal_numbers.specs.Numbers.{verdictBy, reply, replyOf};
 
 // Check's answer in numbers: 0, blocks and instructions, or a fault's number, its line and an item.
@@ -51,21 +51,21 @@ pub fn reply_of(a: Answer) -> Reply
 }
 
 // The numbers of an answer to check.
-pub fn verdict_of(a: checker::Answer) -> Verdict
+pub fn verdict_of(a: verdict::Answer) -> Verdict
     ensures { λ r. ⌜ r ≡ verdictBy a ⌝ }
 {
     match a {
-        checker::Answer::Accepted(blocks, instrs) => Verdict {
+        verdict::Answer::Accepted(blocks, instrs) => Verdict {
             code: 0,
             first: blocks,
             second: instrs,
         },
-        checker::Answer::Refused(number, line) => Verdict {
+        verdict::Answer::Refused(number, line) => Verdict {
             code: number,
             first: line,
             second: 100,
         },
-        checker::Answer::Unfit(line, item) => Verdict {
+        verdict::Answer::Unfit(line, item) => Verdict {
             code: 10,
             first: line,
             second: item,

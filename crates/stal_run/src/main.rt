@@ -1,8 +1,8 @@
 // The run program: reads program.txt and samples.txt from the current folder, starts with a budget of 1,000,000 and prints how the run
 // stopped, or the refusal. A file that cannot be opened counts as empty. What it prints is the answer of `execute::start`.
-use launch::Answer;
 use libc::STDOUT_FILENO;
 use machine::Place;
+use outcome::Answer;
 ghost use Rattle.io.specs.Counts.{Counts};
 
 // The bytes of the file at the start of buf, and how many there are: none where it cannot be opened.

@@ -28,7 +28,7 @@ pub record FitRow (φ os bs : List ℕ) (at : ℕ) : Type 0 where
   pub other : getD φ at 0 ≡ 15 → 15 ≤ getD φ (at + 5) 0
   pub columns : Low φ at
   pub operand : readsOperand (formOf φ at) ≡ true → getD φ (at + 4) 0 < 8
-  pub tuple : formOf φ at ≡ 20 → Sourced os bs (getD φ (at + 3) 0) (getD φ (at + 4) 0)
+  pub tuple : formOf φ at ≡ 2 → Sourced os bs (getD φ (at + 3) 0) (getD φ (at + 4) 0)
 
 -- the answer r and the words left are those of the row at `at`, which is `planned`
 abbrev pub Done : OperandTable → List ℕ → ℕ → List ℕ → ℕ → ℕ → ℕ → Bool → Memory → Memory → Memory → Moved → Memory → Memory → Memory → Type 0

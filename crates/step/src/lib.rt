@@ -1,7 +1,7 @@
 // One step by the machine's own table (crate predecode), made at once on the lent state: `step` reads the row at a place of the table
 // and does what it says, if the budget has a step left; a stop comes first, and then, as without budget, no word changes.
 // Promised: the step of the tables that the rows are made from, budget or none. Asked: registers, stack and heap as long as the limits,
-// and a row that names registers, and operands that stand in the tables.
+// a row that names registers, and operands that stand in the tables, and that a handle in a register is at a tuple's start.
 // rk and rn are the registers' kinds and numbers, sk and sn the stack's, hk and hn the heap's; h is the depth, u the words of the heap in use.
 ghost use mathlib.Core.Path.{_≡_};
 ghost use Prim.Native.Nat.{ℕ, _+_, _*_, _<_, _≤_};
@@ -11,7 +11,7 @@ ghost use Rattle.machine.specs.Step.{Tables};
 ghost use Rattle.machine.specs.Represents.{Fit};
 ghost use Rattle.predecode.specs.Plan.{Plan};
 ghost use Rattle.step.specs.Rows.{Done, FitRow};
-ghost use Rattle.moved.specs.Stepped.{held, Stepped};
+ghost use Rattle.moved.specs.Stepped.{held, Stepped, Inside};
 use machine::Stop;
 use moved::Moved;
 use moved::assign;
@@ -20,16 +20,9 @@ use moved::height;
 use moved::index;
 use moved::read;
 use moved::stuck;
-use step_memory::cut;
-use step_memory::load;
-use step_memory::peek;
-use step_memory::peek_through;
-use step_memory::poke;
-use step_memory::poke_through;
-use step_memory::pop;
-use step_memory::push;
-use step_memory::store;
-use step_memory::tuple;
+use step_heap::load;
+use step_heap::store;
+use step_heap::tuple;
 use step_registers::branch;
 use step_registers::branch_nowhere;
 use step_registers::branch_register;
@@ -38,6 +31,13 @@ use step_registers::jump;
 use step_registers::literal;
 use step_registers::reckon;
 use step_registers::register;
+use step_stack::cut;
+use step_stack::peek;
+use step_stack::peek_through;
+use step_stack::poke;
+use step_stack::poke_through;
+use step_stack::pop;
+use step_stack::push;
 
 // A row of class 15: column 5 has its form. Past the forms a row is stuck.
 fn other(
@@ -67,7 +67,7 @@ fn other(
         17 => cut(plan, rk, rn, at, h, u, more),
         18 => push(plan, sk, sn, at, h, u, more),
         19 => pop(plan, at, h, u, more),
-        20 => tuple(plan, operands, bases, rk, rn, hk, hn, at, h, u, more),
+        20 => reckon(plan, rk, rn, 1, register(plan, rk, rn, at), at, h, u, more),
         21 => branch_register(plan, blocks, labels, rk, rn, at, h, u, more),
         22 => branch_nowhere(plan, rk, rn, at, h, u, more),
         23 => Moved::Ended(Stop::Halted),
@@ -93,14 +93,14 @@ fn row(
     u: usize,
     more: bool,
 ) -> Moved
-    requires { ⌜ (at + 8 ≤ length (now plan)) × (8 ≤ length (now rk)) × (8 ≤ length (now rn)) × (256 ≤ length (now sk)) × (256 ≤ length (now sn)) × (2048 ≤ length (now hk)) × (2048 ≤ length (now hn)) × FitRow (now plan) (now operands) (now bases) at × (h ≤ 256) × (u ≤ 2048) ⌝ }
+    requires { ⌜ (at + 8 ≤ length (now plan)) × (8 ≤ length (now rk)) × (8 ≤ length (now rn)) × (256 ≤ length (now sk)) × (256 ≤ length (now sn)) × (2048 ≤ length (now hk)) × (2048 ≤ length (now hn)) × FitRow (now plan) (now operands) (now bases) at × (h ≤ 256) × (u ≤ 2048) × Inside (lent (now rk) (now rn)) (lent (now hk) (now hn)) ⌝ }
     ensures { λ r. ⌜ Done (operandTable (now (operands .entry)) (now (bases .entry))) (now (blocks .entry)) labels (now (plan .entry)) at h u more (lent (now (rk .entry)) (now (rn .entry))) (lent (now (sk .entry)) (now (sn .entry))) (lent (now (hk .entry)) (now (hn .entry))) r (lent (now (rk .exit)) (now (rn .exit))) (lent (now (sk .exit)) (now (sn .exit))) (lent (now (hk .exit)) (now (hn .exit))) ⌝ }
 {
     let class = read(plan, at, 0) % 16;
     match class {
         0 => reckon(plan, rk, rn, 0, register(plan, rk, rn, at), at, h, u, more),
         1 => reckon(plan, rk, rn, 0, literal(plan, at), at, h, u, more),
-        2 => reckon(plan, rk, rn, 1, register(plan, rk, rn, at), at, h, u, more),
+        2 => tuple(plan, operands, bases, rk, rn, hk, hn, at, h, u, more),
         3 => reckon(plan, rk, rn, 2, register(plan, rk, rn, at), at, h, u, more),
         4 => branch(plan, rk, rn, at, h, u, more),
         5 => assign(plan, rk, rn, register(plan, rk, rn, at), at, h, u, more),
@@ -151,7 +151,7 @@ pub fn step(
     used: usize,
     more: bool,
 ) -> Moved
-    requires { ⌜ (at + 8 ≤ length (now plan)) × (8 ≤ length (now rk)) × (8 ≤ length (now rn)) × (256 ≤ length (now sk)) × (256 ≤ length (now sn)) × (2048 ≤ length (now hk)) × (2048 ≤ length (now hn)) × FitRow (now plan) (now operands) (now bases) at × (depth ≤ 256) × (used ≤ 2048) ⌝ }
+    requires { ⌜ (at + 8 ≤ length (now plan)) × (8 ≤ length (now rk)) × (8 ≤ length (now rn)) × (256 ≤ length (now sk)) × (256 ≤ length (now sn)) × (2048 ≤ length (now hk)) × (2048 ≤ length (now hn)) × FitRow (now plan) (now operands) (now bases) at × (depth ≤ 256) × (used ≤ 2048) × Inside (lent (now rk) (now rn)) (lent (now hk) (now hn)) ⌝ }
     ensures { λ r. ⌜ ((T : Tables) (j : ℕ) → Plan T (now (plan .entry)) → Fit T → at ≡ 8 * j → j ≤ T .count → T .labels ≡ labels → T .blocks ≡ (now (blocks .entry)) → T .operands ≡ now (operands .entry) → T .bases ≡ now (bases .entry) → Stepped T more (held (lent (now (rk .entry)) (now (rn .entry))) (lent (now (sk .entry)) (now (sn .entry))) (lent (now (hk .entry)) (now (hn .entry))) depth used j) r (lent (now (rk .exit)) (now (rn .exit))) (lent (now (sk .exit)) (now (sn .exit))) (lent (now (hk .exit)) (now (hn .exit)))) ⌝ }
 {
     row(

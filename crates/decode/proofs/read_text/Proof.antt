@@ -5,7 +5,7 @@ use native.Mathlib.Omega.{arith}
 use lib.ListN.{length, drop}
 use Rattle.lines.specs.Parts.{firstPart}
 use Rattle.decode_store.specs.Store.{store}
-use Rattle.decode.specs.declared.Read.{Read}
+use Rattle.decode_state.specs.declared.Read.{Read}
 use borrow.Author.Tests.{not-false}
 use Rattle.decode.proofs.AnswerLaws.{fits, fits-not, last-fits}
 use Rattle.decode.proofs.LoopLaws.{AsLong, as-long, Going, started, read-long, at-end, at-unended, at-fault, turned, lineEnd, line-part, end-before, end-inside, line-as, ends-there, open-end, no-room}

@@ -10,7 +10,7 @@ use lib.Seq.{sets}
 use Prim.Native.Nat.{ℕ}
 use mathlib.Core.List.{List}
 use Rattle.text.specs.Grammar.{letters}
-use Rattle.fields.specs.Answers.{countOf, codesOf}
+use Rattle.names.specs.Letters.{countOf, codesOf}
 use Rattle.decode_line.proofs.LineLaws.{code-past, code-no-slot, code-no-regs, code-few-regs, code-no-letters, code-is, count-small}
 use Rattle.decode_line.proofs.StopLaws.{entry-end, same-field, line-over}
 use borrow.Author.Needs.{needs}
@@ -21,7 +21,7 @@ use Rattle.decode_line.proofs.read_code.Lts as lts
 use Rattle.decode_line.proofs.no_entry.Reads as no-entry-reads
 use Rattle.decode_line.proofs.read_parts.Reads as read-parts-reads
 use Rattle.decode_line.proofs.read_slot.Reads as read-slot-reads
-use Rattle.fields.proofs.letters.Reads as letters-reads
+use Rattle.names.proofs.letters.Reads as letters-reads
 use Rattle.lines.proofs.field_end.Reads as field-end-reads
 
 -- src/lib.rt:428:8

@@ -4,7 +4,7 @@ use native.Mathlib.Omega.{arith}
 use borrow.Author.Tests.{not-true, not-false}
 use Rattle.lines.specs.Parts.{lineIn}
 use Rattle.lines.proofs.InLine.{field-read, stop-behind}
-use Rattle.fields.specs.Names.{nameCode}
+use Rattle.names.specs.Names.{nameCode}
 use Rattle.decode_line.specs.Fields.{fieldsFrom}
 use Rattle.decode_line.proofs.StopLaws.{same-field}
 use Rattle.decode_store.specs.Store.{store}

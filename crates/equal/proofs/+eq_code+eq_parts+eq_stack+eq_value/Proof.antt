@@ -9,7 +9,7 @@ use borrow.Rule.Slice.PartMut.{putMid, same-len-mid}
 use Rattle.rows.specs.Read.{tab, argsOf}
 use Rattle.pending.specs.Pending.{mass, room}
 use Rattle.pending.proofs.Meets.{length-args}
-use Rattle.equal.specs.Fit.{big}
+use Rattle.equal.specs.Bounds.{big}
 use Rattle.equal.proofs.Items.{own-room, given-room, tabled-low, tabled-given, tabled-arg, few-left, few-right, few-arg, few-args, room-of, spare-low, spare-arg, spare-kept, spare-own, spare-given}
 use Rattle.equal.proofs.Values.{big-of, pair-ok, value-pair, filled-value, filled-not, place-value, both-same, one-differs, heads-low, PartsLeft, parts-first, parts-last, parts-apart, parts-differ, parts-next, codes-off, codes-on}
 use Rattle.equal.proofs.Stacks.{Matching, match-first, match-over, match-unlike, match-onward, match-own, match-given, own-not, given-not, own-low, given-low, agree-mid, length-part, pends-more, not-true, not-false, plain-args}
@@ -28,12 +28,12 @@ use Rattle.equal.proofs.+eq_code+eq_parts+eq_stack+eq_value.Lts-eq_stac
 use Rattle.equal.proofs.eq_value.Reads as eq-value
 use Rattle.equal.proofs.eq_value.Kinds as eq-value-kinds
 use Rattle.equal.proofs.+eq_code+eq_parts+eq_stack+eq_value.Lts-eq_value as eq-value-lts
-use Rattle.equal.proofs.next_pair.Reads as next-pair-reads
-use Rattle.equal.proofs.pair_up.Reads as pair-up-reads
-use Rattle.equal.proofs.same_letters.Reads as same-letters-reads
-use Rattle.equal.proofs.same_place.Reads as same-place-reads
-use Rattle.equal.proofs.same_stack.Reads as same-stack-reads
-use Rattle.equal.proofs.two_slots.Reads as two-slots-reads
+use Rattle.stack_pairs.proofs.next_pair.Reads as next-pair-reads
+use Rattle.value_pairs.proofs.pair_up.Reads as pair-up-reads
+use Rattle.value_pairs.proofs.same_letters.Reads as same-letters-reads
+use Rattle.stack_pairs.proofs.same_place.Reads as same-place-reads
+use Rattle.stack_pairs.proofs.same_stack.Reads as same-stack-reads
+use Rattle.value_pairs.proofs.two_slots.Reads as two-slots-reads
 use Rattle.rows.proofs.at.Reads as at-reads
 use Rattle.rows.proofs.is_stack.Reads as is-stack-reads
 use Rattle.rows.proofs.letter_count.Reads as letter-count-reads
@@ -81,7 +81,7 @@ abbrev eq-value-below : ℕ → In 5 eq-value-kinds.ps
 eq-value-below t =
     and 5 eq-value-kinds.ps (falls 5 eq-value-kinds.ps _<_ μ-eq-value t) eq-value.Pre
 
--- src/lib.rt:431:9
+-- src/lib.rt:116:9
 eq-code-letter-count-requires : (t : ℕ) → eq-code-lts.Need-letter-count-requires (
   letter-count-reads.Asked,
   letter-count-reads.Learnt,
@@ -94,7 +94,7 @@ eq-code-letter-count-requires : (t : ℕ) → eq-code-lts.Need-letter-count-requ
 ) (eq-code-at t) eq-code.Post
 eq-code-letter-count-requires t c κs = (c .before .before .before .before .before .pre) .1 .4
 
--- src/lib.rt:432:9
+-- src/lib.rt:117:9
 eq-code-letter-count-requires-2 : (t : ℕ) → eq-code-lts.Need-letter-count-requires-2 (
   letter-count-reads.Asked,
   letter-count-reads.Learnt,
@@ -107,7 +107,7 @@ eq-code-letter-count-requires-2 : (t : ℕ) → eq-code-lts.Need-letter-count-re
 ) (eq-code-at t) eq-code.Post
 eq-code-letter-count-requires-2 t c κs = (c .before .before .before .before .before .before .pre) .1 .6
 
--- src/lib.rt:433:28
+-- src/lib.rt:118:28
 eq-code-add-same-letters : (t : ℕ) → eq-code-lts.Need-add-same-letters (
   letter-count-reads.Asked,
   letter-count-reads.Learnt,
@@ -130,7 +130,7 @@ eq-code-add-same-letters t c =
     let lb = (c .letter-count2) .ensures .1 in
     omega arith
 
--- src/lib.rt:433:38
+-- src/lib.rt:118:38
 eq-code-add-same-letters-2 : (t : ℕ) → eq-code-lts.Need-add-same-letters-2 (
   letter-count-reads.Asked,
   letter-count-reads.Learnt,
@@ -153,7 +153,7 @@ eq-code-add-same-letters-2 t c =
     let lb = (c .letter-count2) .ensures .1 in
     omega arith
 
--- src/lib.rt:433:8
+-- src/lib.rt:118:8
 eq-code-same-letters-requires : (t : ℕ) → eq-code-lts.Need-same-letters-requires (
   letter-count-reads.Asked,
   letter-count-reads.Learnt,
@@ -176,7 +176,7 @@ eq-code-same-letters-requires t c κs =
     let lb = (c .letter-count2) .ensures .1 in
     (omega arith, omega arith)
 
--- src/lib.rt:440:13
+-- src/lib.rt:125:13
 eq-code-add-eq-stack : (t : ℕ) → eq-code-lts.Need-add-eq-stack (
   letter-count-reads.Asked,
   letter-count-reads.Learnt,
@@ -199,7 +199,7 @@ eq-code-add-eq-stack t c =
     let lb = (c .before .before .letter-count2) .ensures .1 in
     omega arith
 
--- src/lib.rt:443:13
+-- src/lib.rt:128:13
 eq-code-add-eq-stack-2 : (t : ℕ) → eq-code-lts.Need-add-eq-stack-2 (
   letter-count-reads.Asked,
   letter-count-reads.Learnt,
@@ -222,7 +222,7 @@ eq-code-add-eq-stack-2 t c =
     let lb = (c .before .before .letter-count2) .ensures .1 in
     omega arith
 
--- src/lib.rt:434:12
+-- src/lib.rt:119:12
 eq-code-eq-stack-requires : (t : ℕ) → eq-code-lts.Need-eq-stack-requires (
   letter-count-reads.Asked,
   letter-count-reads.Learnt,
@@ -245,7 +245,7 @@ eq-code-eq-stack-requires t c κs =
     let lb = (c .before .before .before .before .letter-count2) .ensures .1 in
     (omega arith, (tabled-low (tab ((c .before .before .before .before .before .before .before .before .before .before .before .args) .rows .now) ((c .before .before .before .before .before .before .before .before .before .before .before .args) .parts .now)) ((c .before .before .before .before .before .before .before .before .before .before .before .args) .args .now) ((c .before .before .before .before .before .before .before .before .before .before .before .args) .x) ((c .before .before .before .before .before .before .before .before .before .before .before .args) .y) ((c .before .before .before .before .before .before .before .before .before .before .before .pre) .1 .0) (omega arith) (omega arith), omega arith, omega arith, spare-low ((c .before .before .before .before .before .before .before .before .before .before .before .args) .m) ((c .before .before .before .before .before .before .before .before .before .before .before .args) .l) ((c .before .before .before .before .before .before .before .before .before .before .before .args) .r) (length ((c .before .before .before .before .before .before .before .before .before .before .before .args) .left .now)) (length ((c .before .before .before .before .before .before .before .before .before .before .before .args) .right .now)) ((c .before .before .before .before .before .before .before .before .before .before .before .args) .x) ((c .before .before .before .before .before .before .before .before .before .before .before .args) .y) ((c .before .before .before .before .before .before .before .before .before .before .before .pre) .1 .7) (omega arith) (omega arith)))
 
--- src/lib.rt:454:17
+-- src/lib.rt:139:17
 eq-code-add-eq-parts : (t : ℕ) → eq-code-lts.Need-add-eq-parts (
   letter-count-reads.Asked,
   letter-count-reads.Learnt,
@@ -268,7 +268,7 @@ eq-code-add-eq-parts t c =
     let lb = (c .before .before .before .before .before .before .before .before .before .before .letter-count2) .ensures .1 in
     omega arith
 
--- src/lib.rt:457:17
+-- src/lib.rt:142:17
 eq-code-add-eq-parts-2 : (t : ℕ) → eq-code-lts.Need-add-eq-parts-2 (
   letter-count-reads.Asked,
   letter-count-reads.Learnt,
@@ -291,7 +291,7 @@ eq-code-add-eq-parts-2 t c =
     let lb = (c .before .before .before .before .before .before .before .before .before .before .letter-count2) .ensures .1 in
     omega arith
 
--- src/lib.rt:448:13
+-- src/lib.rt:133:13
 eq-code-eq-parts-requires : (t : ℕ) → eq-code-lts.Need-eq-parts-requires (
   letter-count-reads.Asked,
   letter-count-reads.Learnt,
@@ -314,7 +314,7 @@ eq-code-eq-parts-requires t c κs =
     let lb = (c .before .before .before .before .before .before .before .before .before .before .before .before .letter-count2) .ensures .1 in
     (omega arith, (((c .before .before .before .before .before .before .before .before .before .before .before .before .before .before .before .before .before .before .before .pre) .1 .0), omega arith, omega arith, omega arith, omega arith, omega arith, omega arith, omega arith, spare-kept ((c .before .before .before .before .before .before .before .before .before .before .before .before .before .before .before .before .before .before .before .args) .m) ((c .before .before .before .before .before .before .before .before .before .before .before .before .before .before .before .before .before .before .before .args) .l) ((c .before .before .before .before .before .before .before .before .before .before .before .before .before .before .before .before .before .before .before .args) .r) (length ((c .before .before .before .before .before .before .before .before .before .before .before .before .before .before .before .before .before .before .before .args) .left .now)) (length ((c .before .before .before .before .before .before .before .before .before .before .before .before .before .before .before .before .before .before .before .args) .right .now)) (length ((c .before .before .before .before .before .before .before .eq-stack) .last .1 .1 .1 .1 .1 .1 .1 .1 .1 .1 .0)) (length ((c .before .before .before .before .before .before .before .eq-stack) .last .1 .1 .1 .1 .1 .1 .1 .1 .1 .1 .1 .0)) ((c .before .before .before .before .before .before .before .before .before .before .before .before .before .before .before .before .before .before .before .pre) .1 .7) ((c .before .before .before .before .before .before .before .eq-stack) .kept .1 .1 .1 .1 .1 .1 .1 .1 .1 .1 .0) ((c .before .before .before .before .before .before .before .eq-stack) .kept .1 .1 .1 .1 .1 .1 .1 .1 .1 .1 .1 .0)))
 
--- src/lib.rt:448:13
+-- src/lib.rt:133:13
 eq-code-same-length : (t : ℕ) → eq-code-lts.Need-same-length (
   letter-count-reads.Asked,
   letter-count-reads.Learnt,
@@ -327,7 +327,7 @@ eq-code-same-length : (t : ℕ) → eq-code-lts.Need-same-length (
 ) (eq-code-at t) eq-code.Post
 eq-code-same-length t c = ((c .before .before .before .before .eq-parts) .kept .1 .1 .1 .1 .1 .1 .1 .1 .1 .1 .1 .1 .1 .1 .0) ∙ ((c .before .before .before .before .before .before .before .before .before .before .before .before .eq-stack) .kept .1 .1 .1 .1 .1 .1 .1 .1 .1 .1 .0)
 
--- src/lib.rt:448:13
+-- src/lib.rt:133:13
 eq-code-same-length-2 : (t : ℕ) → eq-code-lts.Need-same-length-2 (
   letter-count-reads.Asked,
   letter-count-reads.Learnt,
@@ -340,7 +340,7 @@ eq-code-same-length-2 : (t : ℕ) → eq-code-lts.Need-same-length-2 (
 ) (eq-code-at t) eq-code.Post
 eq-code-same-length-2 t c = ((c .before .before .before .before .eq-parts) .kept .1 .1 .1 .1 .1 .1 .1 .1 .1 .1 .1 .1 .1 .1 .1 .0) ∙ ((c .before .before .before .before .before .before .before .before .before .before .before .before .eq-stack) .kept .1 .1 .1 .1 .1 .1 .1 .1 .1 .1 .1 .0)
 
--- src/lib.rt:448:13
+-- src/lib.rt:133:13
 eq-code-returns : (t : ℕ) → eq-code-lts.Need-returns (
   letter-count-reads.Asked,
   letter-count-reads.Learnt,
@@ -353,7 +353,7 @@ eq-code-returns : (t : ℕ) → eq-code-lts.Need-returns (
 ) (eq-code-at t) eq-code.Post
 eq-code-returns t c = both-same ((c .before .before .before .before .before .before .before .if2) .taken) ((c .before .before .before .before .before .before .before .before .before .before .before .before .eq-stack) .ensures) ((c .before .before .before .before .eq-parts) .ensures) ∙ codes-on (tab ((c .before .before .before .before .before .before .before .before .before .before .before .before .before .before .before .before .before .before .before .before .before .before .before .before .args) .rows .now) ((c .before .before .before .before .before .before .before .before .before .before .before .before .before .before .before .before .before .before .before .before .before .before .before .before .args) .parts .now)) (argsOf (tab ((c .before .before .before .before .before .before .before .before .before .before .before .before .before .before .before .before .before .before .before .before .before .before .before .before .args) .rows .now) ((c .before .before .before .before .before .before .before .before .before .before .before .before .before .before .before .before .before .before .before .before .before .before .before .before .args) .parts .now)) ((c .before .before .before .before .before .before .before .before .before .before .before .before .before .before .before .before .before .before .before .before .before .before .before .before .args) .args .now) ((c .before .before .before .before .before .before .before .before .before .before .before .before .before .before .before .before .before .before .before .before .before .before .before .before .args) .m)) ((c .before .before .before .before .before .before .before .before .before .before .before .before .before .before .before .before .before .before .before .before .before .before .before .before .args) .by) ((c .before .before .before .before .before .before .before .before .before .before .before .before .before .before .before .before .before .before .before .before .before .before .before .before .args) .d) ((c .before .before .before .before .before .before .before .before .before .before .before .before .before .before .before .before .before .before .before .before .before .before .before .before .args) .l) ((c .before .before .before .before .before .before .before .before .before .before .before .before .before .before .before .before .before .before .before .before .before .before .before .before .args) .by2) ((c .before .before .before .before .before .before .before .before .before .before .before .before .before .before .before .before .before .before .before .before .before .before .before .before .args) .d2) ((c .before .before .before .before .before .before .before .before .before .before .before .before .before .before .before .before .before .before .before .before .before .before .before .before .args) .r) ((c .before .before .before .before .before .before .before .before .before .before .before .before .before .before .before .before .before .before .before .before .before .before .before .before .args) .x) ((c .before .before .before .before .before .before .before .before .before .before .before .before .before .before .before .before .before .before .before .before .before .before .before .before .args) .p) ((c .before .before .before .before .before .before .before .before .before .before .before .before .before .before .before .before .before .before .before .before .before .before .before .before .args) .y) ((c .before .before .before .before .before .before .before .before .before .before .before .before .before .before .before .before .before .before .before .before .before .before .before .before .args) .q) ((c .before .before .before .before .before .before .before .before .before .before .before .before .before .before .before .before .before .before .letter-count) .result) ((c .before .before .before .before .before .before .before .before .before .before .before .before .before .before .before .before .before .letter-count2) .result) ((c .before .before .before .before .before .before .before .before .before .before .before .before .before .before .before .before .before .before .letter-count) .ensures .0) ((c .before .before .before .before .before .before .before .before .before .before .before .before .before .before .before .before .before .letter-count2) .ensures .0) ((c .before .before .before .before .before .before .before .before .before .before .before .before .before .before .before .before .same-letters) .ensures) ((c .before .before .before .before .before .before .before .before .before .before .before .before .before .before .before .if1) .taken)
 
--- src/lib.rt:467:9
+-- src/lib.rt:152:9
 eq-code-same-length-3 : (t : ℕ) → eq-code-lts.Need-same-length-3 (
   letter-count-reads.Asked,
   letter-count-reads.Learnt,
@@ -366,7 +366,7 @@ eq-code-same-length-3 : (t : ℕ) → eq-code-lts.Need-same-length-3 (
 ) (eq-code-at t) eq-code.Post
 eq-code-same-length-3 t c = ((c .before .before .before .before .before .eq-stack) .kept .1 .1 .1 .1 .1 .1 .1 .1 .1 .1 .0)
 
--- src/lib.rt:467:9
+-- src/lib.rt:152:9
 eq-code-same-length-4 : (t : ℕ) → eq-code-lts.Need-same-length-4 (
   letter-count-reads.Asked,
   letter-count-reads.Learnt,
@@ -379,7 +379,7 @@ eq-code-same-length-4 : (t : ℕ) → eq-code-lts.Need-same-length-4 (
 ) (eq-code-at t) eq-code.Post
 eq-code-same-length-4 t c = ((c .before .before .before .before .before .eq-stack) .kept .1 .1 .1 .1 .1 .1 .1 .1 .1 .1 .1 .0)
 
--- src/lib.rt:467:9
+-- src/lib.rt:152:9
 eq-code-returns-2 : (t : ℕ) → eq-code-lts.Need-returns-2 (
   letter-count-reads.Asked,
   letter-count-reads.Learnt,
@@ -411,7 +411,7 @@ eq-parts-Inv-loop rows parts args m by d l by2 d2 r file p q n left₀ right₀ 
 abbrev eq-parts-μ-loop : eq-parts-lts.MeasureT-loop
 eq-parts-μ-loop rows parts args m by d l by2 d2 r file p q n left₀ right₀ i₀ left right i = n - i
 
--- src/lib.rt:495:5
+-- src/lib.rt:180:5
 eq-parts-loop-holds : (t : ℕ) → eq-parts-lts.Need-loop-holds (
   part-reads.Asked,
   part-reads.Learnt,
@@ -422,7 +422,7 @@ eq-parts-loop-holds : (t : ℕ) → eq-parts-lts.Need-loop-holds (
 ) (eq-parts-at t) eq-parts.Post eq-parts-Inv-loop eq-parts-μ-loop
 eq-parts-loop-holds t c = (parts-first (tab ((c .before .before .before .before .before .args) .rows .now) ((c .before .before .before .before .before .args) .parts .now)) (argsOf (tab ((c .before .before .before .before .before .args) .rows .now) ((c .before .before .before .before .before .args) .parts .now)) ((c .before .before .before .before .before .args) .args .now) ((c .before .before .before .before .before .args) .m)) ((c .before .before .before .before .before .args) .by) ((c .before .before .before .before .before .args) .d) ((c .before .before .before .before .before .args) .file) ((c .before .before .before .before .before .args) .l) ((c .before .before .before .before .before .args) .by2) ((c .before .before .before .before .before .args) .d2) ((c .before .before .before .before .before .args) .r) ((c .before .before .before .before .before .args) .p) ((c .before .before .before .before .before .args) .q) ((c .before .before .before .before .before .args) .n), refl, refl)
 
--- src/lib.rt:497:40
+-- src/lib.rt:182:40
 eq-parts-add-part : (t : ℕ) → eq-parts-lts.Need-add-part (
   part-reads.Asked,
   part-reads.Learnt,
@@ -441,7 +441,7 @@ eq-parts-add-part t c =
     let k = (c .loop-test) .taken in
     omega arith
 
--- src/lib.rt:497:13
+-- src/lib.rt:182:13
 eq-parts-part-requires : (t : ℕ) → eq-parts-lts.Need-part-requires (
   part-reads.Asked,
   part-reads.Learnt,
@@ -452,7 +452,7 @@ eq-parts-part-requires : (t : ℕ) → eq-parts-lts.Need-part-requires (
 ) (eq-parts-at t) eq-parts.Post eq-parts-Inv-loop eq-parts-μ-loop
 eq-parts-part-requires t c κs = (c .before .before .before .before .before .before .before .pre) .1 .3
 
--- src/lib.rt:498:40
+-- src/lib.rt:183:40
 eq-parts-add-part-2 : (t : ℕ) → eq-parts-lts.Need-add-part-2 (
   part-reads.Asked,
   part-reads.Learnt,
@@ -471,7 +471,7 @@ eq-parts-add-part-2 t c =
     let k = (c .before .loop-test) .taken in
     omega arith
 
--- src/lib.rt:498:13
+-- src/lib.rt:183:13
 eq-parts-part-requires-2 : (t : ℕ) → eq-parts-lts.Need-part-requires-2 (
   part-reads.Asked,
   part-reads.Learnt,
@@ -482,7 +482,7 @@ eq-parts-part-requires-2 : (t : ℕ) → eq-parts-lts.Need-part-requires-2 (
 ) (eq-parts-at t) eq-parts.Post eq-parts-Inv-loop eq-parts-μ-loop
 eq-parts-part-requires-2 t c κs = (c .before .before .before .before .before .before .before .before .pre) .1 .4
 
--- src/lib.rt:496:13
+-- src/lib.rt:181:13
 eq-parts-two-slots-requires : (t : ℕ) → eq-parts-lts.Need-two-slots-requires (
   part-reads.Asked,
   part-reads.Learnt,
@@ -493,7 +493,7 @@ eq-parts-two-slots-requires : (t : ℕ) → eq-parts-lts.Need-two-slots-requires
 ) (eq-parts-at t) eq-parts.Post eq-parts-Inv-loop eq-parts-μ-loop
 eq-parts-two-slots-requires t c κs = search needs
 
--- src/lib.rt:502:17
+-- src/lib.rt:187:17
 eq-parts-enum-told : (t : ℕ) → eq-parts-lts.Need-enum-told (
   part-reads.Asked,
   part-reads.Learnt,
@@ -504,7 +504,7 @@ eq-parts-enum-told : (t : ℕ) → eq-parts-lts.Need-enum-told (
 ) (eq-parts-at t) eq-parts.Post eq-parts-Inv-loop eq-parts-μ-loop
 eq-parts-enum-told t c = search needs
 
--- src/lib.rt:502:17
+-- src/lib.rt:187:17
 eq-parts-same-length : (t : ℕ) → eq-parts-lts.Need-same-length (
   part-reads.Asked,
   part-reads.Learnt,
@@ -515,7 +515,7 @@ eq-parts-same-length : (t : ℕ) → eq-parts-lts.Need-same-length (
 ) (eq-parts-at t) eq-parts.Post eq-parts-Inv-loop eq-parts-μ-loop
 eq-parts-same-length t c = (c .before .before .before .before .before .before .loop) .inv .1
 
--- src/lib.rt:502:17
+-- src/lib.rt:187:17
 eq-parts-same-length-2 : (t : ℕ) → eq-parts-lts.Need-same-length-2 (
   part-reads.Asked,
   part-reads.Learnt,
@@ -526,7 +526,7 @@ eq-parts-same-length-2 : (t : ℕ) → eq-parts-lts.Need-same-length-2 (
 ) (eq-parts-at t) eq-parts.Post eq-parts-Inv-loop eq-parts-μ-loop
 eq-parts-same-length-2 t c = (c .before .before .before .before .before .before .loop) .inv .2
 
--- src/lib.rt:502:17
+-- src/lib.rt:187:17
 eq-parts-returns : (t : ℕ) → eq-parts-lts.Need-returns (
   part-reads.Asked,
   part-reads.Learnt,
@@ -537,7 +537,7 @@ eq-parts-returns : (t : ℕ) → eq-parts-lts.Need-returns (
 ) (eq-parts-at t) eq-parts.Post eq-parts-Inv-loop eq-parts-μ-loop
 eq-parts-returns t c = parts-apart (tab ((c .before .before .before .before .before .before .before .before .before .before .before .before .args) .rows .now) ((c .before .before .before .before .before .before .before .before .before .before .before .before .args) .parts .now)) (argsOf (tab ((c .before .before .before .before .before .before .before .before .before .before .before .before .args) .rows .now) ((c .before .before .before .before .before .before .before .before .before .before .before .before .args) .parts .now)) ((c .before .before .before .before .before .before .before .before .before .before .before .before .args) .args .now) ((c .before .before .before .before .before .before .before .before .before .before .before .before .args) .m)) ((c .before .before .before .before .before .before .before .before .before .before .before .before .args) .by) ((c .before .before .before .before .before .before .before .before .before .before .before .before .args) .d) ((c .before .before .before .before .before .before .before .before .before .before .before .before .args) .file) ((c .before .before .before .before .before .before .before .before .before .before .before .before .args) .l) ((c .before .before .before .before .before .before .before .before .before .before .before .before .args) .by2) ((c .before .before .before .before .before .before .before .before .before .before .before .before .args) .d2) ((c .before .before .before .before .before .before .before .before .before .before .before .before .args) .r) ((c .before .before .before .before .before .before .before .before .before .before .before .before .args) .p) ((c .before .before .before .before .before .before .before .before .before .before .before .before .args) .q) ((c .before .before .before .before .before .before .before .before .before .before .before .before .args) .n) ((c .before .before .before .before .before .before .loop) .i) ((c .before .before .before .before .before .before .loop) .inv .0) ((c .before .before .before .before .before .loop-test) .taken) ((c .before .before .before .before .part) .ensures .0) ((c .before .before .before .part2) .ensures .0) ((c .before .before .two-slots) .ensures) ((c .enum-told) .given .1)
 
--- src/lib.rt:504:25
+-- src/lib.rt:189:25
 eq-parts-enum-known-h : (t : ℕ) → eq-parts-lts.Need-enum-known-h (
   part-reads.Asked,
   part-reads.Learnt,
@@ -548,7 +548,7 @@ eq-parts-enum-known-h : (t : ℕ) → eq-parts-lts.Need-enum-known-h (
 ) (eq-parts-at t) eq-parts.Post eq-parts-Inv-loop eq-parts-μ-loop
 eq-parts-enum-known-h t c = search needs
 
--- src/lib.rt:505:21
+-- src/lib.rt:190:21
 eq-parts-eq-value-requires : (t : ℕ) → eq-parts-lts.Need-eq-value-requires (
   part-reads.Asked,
   part-reads.Learnt,
@@ -570,7 +570,7 @@ eq-parts-eq-value-requires t c κs =
     let k = (c .before .before .before .before .before .before .before .before .loop-test) .taken in
     (omega arith, (tabled-low (tab ((c .before .before .before .before .before .before .before .before .before .before .before .before .before .before .before .args) .rows .now) ((c .before .before .before .before .before .before .before .before .before .before .before .before .before .before .before .args) .parts .now)) ((c .before .before .before .before .before .before .before .before .before .before .before .before .before .before .before .args) .args .now) ((c .before .before .before .h) .given .0 .0) ((c .before .before .before .h) .given .0 .1 .0) ((c .before .before .before .before .before .before .before .before .before .before .before .before .before .before .before .pre) .1 .0) (omega arith) (omega arith), omega arith, omega arith, spare-kept ((c .before .before .before .before .before .before .before .before .before .before .before .before .before .before .before .args) .m) ((c .before .before .before .h) .given .0 .0) ((c .before .before .before .h) .given .0 .1 .0) (length ((c .before .before .before .before .before .before .before .before .before .before .before .before .before .before .before .args) .left .now)) (length ((c .before .before .before .before .before .before .before .before .before .before .before .before .before .before .before .args) .right .now)) (length ((c .before .before .before .before .before .before .before .before .before .loop) .left)) (length ((c .before .before .before .before .before .before .before .before .before .loop) .right)) (spare-low ((c .before .before .before .before .before .before .before .before .before .before .before .before .before .before .before .args) .m) ((c .before .before .before .before .before .before .before .before .before .before .before .before .before .before .before .args) .l) ((c .before .before .before .before .before .before .before .before .before .before .before .before .before .before .before .args) .r) (length ((c .before .before .before .before .before .before .before .before .before .before .before .before .before .before .before .args) .left .now)) (length ((c .before .before .before .before .before .before .before .before .before .before .before .before .before .before .before .args) .right .now)) ((c .before .before .before .h) .given .0 .0) ((c .before .before .before .h) .given .0 .1 .0) ((c .before .before .before .before .before .before .before .before .before .before .before .before .before .before .before .pre) .1 .8) (omega arith) (omega arith)) ((c .before .before .before .before .before .before .before .before .before .loop) .inv .1) ((c .before .before .before .before .before .before .before .before .before .loop) .inv .2)))
 
--- src/lib.rt:506:21
+-- src/lib.rt:191:21
 eq-parts-same-length-3 : (t : ℕ) → eq-parts-lts.Need-same-length-3 (
   part-reads.Asked,
   part-reads.Learnt,
@@ -581,7 +581,7 @@ eq-parts-same-length-3 : (t : ℕ) → eq-parts-lts.Need-same-length-3 (
 ) (eq-parts-at t) eq-parts.Post eq-parts-Inv-loop eq-parts-μ-loop
 eq-parts-same-length-3 t c = ((c .before .before .before .before .before .eq-value) .kept .1 .1 .1 .1 .1 .1 .1 .1 .1 .1 .0) ∙ (c .before .before .before .before .before .before .before .before .before .before .before .before .before .before .before .loop) .inv .1
 
--- src/lib.rt:506:21
+-- src/lib.rt:191:21
 eq-parts-same-length-4 : (t : ℕ) → eq-parts-lts.Need-same-length-4 (
   part-reads.Asked,
   part-reads.Learnt,
@@ -592,7 +592,7 @@ eq-parts-same-length-4 : (t : ℕ) → eq-parts-lts.Need-same-length-4 (
 ) (eq-parts-at t) eq-parts.Post eq-parts-Inv-loop eq-parts-μ-loop
 eq-parts-same-length-4 t c = ((c .before .before .before .before .before .eq-value) .kept .1 .1 .1 .1 .1 .1 .1 .1 .1 .1 .1 .0) ∙ (c .before .before .before .before .before .before .before .before .before .before .before .before .before .before .before .loop) .inv .2
 
--- src/lib.rt:506:21
+-- src/lib.rt:191:21
 eq-parts-returns-2 : (t : ℕ) → eq-parts-lts.Need-returns-2 (
   part-reads.Asked,
   part-reads.Learnt,
@@ -603,7 +603,7 @@ eq-parts-returns-2 : (t : ℕ) → eq-parts-lts.Need-returns-2 (
 ) (eq-parts-at t) eq-parts.Post eq-parts-Inv-loop eq-parts-μ-loop
 eq-parts-returns-2 t c = parts-differ (tab ((c .before .before .before .before .before .before .before .before .before .before .before .before .before .before .before .before .before .before .before .before .before .args) .rows .now) ((c .before .before .before .before .before .before .before .before .before .before .before .before .before .before .before .before .before .before .before .before .before .args) .parts .now)) (argsOf (tab ((c .before .before .before .before .before .before .before .before .before .before .before .before .before .before .before .before .before .before .before .before .before .args) .rows .now) ((c .before .before .before .before .before .before .before .before .before .before .before .before .before .before .before .before .before .before .before .before .before .args) .parts .now)) ((c .before .before .before .before .before .before .before .before .before .before .before .before .before .before .before .before .before .before .before .before .before .args) .args .now) ((c .before .before .before .before .before .before .before .before .before .before .before .before .before .before .before .before .before .before .before .before .before .args) .m)) ((c .before .before .before .before .before .before .before .before .before .before .before .before .before .before .before .before .before .before .before .before .before .args) .by) ((c .before .before .before .before .before .before .before .before .before .before .before .before .before .before .before .before .before .before .before .before .before .args) .d) ((c .before .before .before .before .before .before .before .before .before .before .before .before .before .before .before .before .before .before .before .before .before .args) .file) ((c .before .before .before .before .before .before .before .before .before .before .before .before .before .before .before .before .before .before .before .before .before .args) .l) ((c .before .before .before .before .before .before .before .before .before .before .before .before .before .before .before .before .before .before .before .before .before .args) .by2) ((c .before .before .before .before .before .before .before .before .before .before .before .before .before .before .before .before .before .before .before .before .before .args) .d2) ((c .before .before .before .before .before .before .before .before .before .before .before .before .before .before .before .before .before .before .before .before .before .args) .r) ((c .before .before .before .before .before .before .before .before .before .before .before .before .before .before .before .before .before .before .before .before .before .args) .p) ((c .before .before .before .before .before .before .before .before .before .before .before .before .before .before .before .before .before .before .before .before .before .args) .q) ((c .before .before .before .before .before .before .before .before .before .before .before .before .before .before .before .before .before .before .before .before .before .args) .n) ((c .before .before .before .before .before .before .before .before .before .before .before .before .before .before .before .loop) .i) ((c .before .before .before .before .before .before .before .before .before .before .before .before .before .before .before .loop) .inv .0) ((c .before .before .before .before .before .before .before .before .before .before .before .before .before .before .loop-test) .taken) ((c .before .before .before .before .before .before .before .before .before .before .before .before .before .part) .ensures .0) ((c .before .before .before .before .before .before .before .before .before .before .before .before .part2) .ensures .0) ((c .before .before .before .before .before .before .before .before .before .before .before .two-slots) .ensures) ((c .before .before .before .before .before .before .before .before .before .h) .given .0 .0) ((c .before .before .before .before .before .before .before .before .before .h) .given .0 .1 .0) ((c .before .before .before .before .before .before .before .before .before .h) .given .1) ((c .before .before .before .before .before .eq-value) .ensures) (not-false ((c .if1) .taken))
 
--- src/lib.rt:510:9
+-- src/lib.rt:195:9
 eq-parts-add-i : (t : ℕ) → eq-parts-lts.Need-add-i (
   part-reads.Asked,
   part-reads.Learnt,
@@ -622,7 +622,7 @@ eq-parts-add-i t c =
     let k = (c .before .before .before .before .before .before .before .before .before .before .before .before .before .before .loop-test) .taken in
     omega arith
 
--- src/lib.rt:495:5
+-- src/lib.rt:180:5
 eq-parts-loop-less : (t : ℕ) → eq-parts-lts.Need-loop-less (
   part-reads.Asked,
   part-reads.Learnt,
@@ -641,7 +641,7 @@ eq-parts-loop-less t c =
     let k = (c .before .before .before .before .before .before .before .before .before .before .before .before .before .before .loop-test) .taken in
     omega arith
 
--- src/lib.rt:495:5
+-- src/lib.rt:180:5
 eq-parts-loop-again : (t : ℕ) → eq-parts-lts.Need-loop-again (
   part-reads.Asked,
   part-reads.Learnt,
@@ -785,7 +785,7 @@ eq-stack-next-pair-requires t c κs =
     let t0 = (c .before .before .before .before .before .before .before .before .before .before .pre) .0 in
     ((omega arith, omega arith, few-args (tab ((c .before .before .before .before .before .before .before .before .before .before .args) .rows .now) ((c .before .before .before .before .before .before .before .before .before .before .args) .parts .now)) ((c .before .before .before .before .before .before .before .before .before .before .args) .args .now) ((c .before .before .before .before .before .before .before .before .before .before .pre) .1 .0)), ((omega arith, omega arith, pends-more ((c .before .before .before .before .before .before .before .before .before .before .args) .m) ((c .before .before .before .before .before .before .before .before .before .before .args) .l) (length ((c .before .before .loop) .left) - suc (room ((c .before .before .before .before .before .before .before .before .before .before .args) .m))) ((c .before .before .loop) .i) ((c .before .before .loop) .left) (omega arith) ((c .before .before .loop) .inv .0 .lefts)), (omega arith, omega arith, pends-more 0 ((c .before .before .before .before .before .before .before .before .before .before .args) .r) (length ((c .before .before .loop) .right) - 1) ((c .before .before .loop) .j) ((c .before .before .loop) .right) (omega arith) ((c .before .before .loop) .inv .0 .rights))))
 
--- src/lib.rt:544:17
+-- src/lib.rt:203:17
 eq-stack-enum-told : (t : ℕ) → eq-stack-lts.Need-enum-told (
   same-stack-reads.Asked,
   same-stack-reads.Learnt,
@@ -796,7 +796,7 @@ eq-stack-enum-told : (t : ℕ) → eq-stack-lts.Need-enum-told (
 ) (eq-stack-at t) eq-stack.Post eq-stack-Inv-loop eq-stack-μ-loop
 eq-stack-enum-told t c = search needs
 
--- src/lib.rt:544:17
+-- src/lib.rt:203:17
 eq-stack-same-length : (t : ℕ) → eq-stack-lts.Need-same-length (
   same-stack-reads.Asked,
   same-stack-reads.Learnt,
@@ -807,7 +807,7 @@ eq-stack-same-length : (t : ℕ) → eq-stack-lts.Need-same-length (
 ) (eq-stack-at t) eq-stack.Post eq-stack-Inv-loop eq-stack-μ-loop
 eq-stack-same-length t c = ((c .before .before .before .before .before .before .next-pair) .kept .1 .1 .1 .1 .1 .0) ∙ (c .before .before .before .before .before .before .before .before .before .loop) .inv .1 ∙ length-set ((c .before .before .before .before .before .before .before .before .before .before .before .before .before .before .before .before .before .args) .left .now) 0 ((c .before .before .before .before .before .before .before .before .before .before .before .before .before .before .before .before .before .args) .l)
 
--- src/lib.rt:544:17
+-- src/lib.rt:203:17
 eq-stack-same-length-2 : (t : ℕ) → eq-stack-lts.Need-same-length-2 (
   same-stack-reads.Asked,
   same-stack-reads.Learnt,
@@ -818,7 +818,7 @@ eq-stack-same-length-2 : (t : ℕ) → eq-stack-lts.Need-same-length-2 (
 ) (eq-stack-at t) eq-stack.Post eq-stack-Inv-loop eq-stack-μ-loop
 eq-stack-same-length-2 t c = ((c .before .before .before .before .before .before .next-pair) .kept .1 .1 .1 .1 .1 .1 .1 .1 .1 .0) ∙ (c .before .before .before .before .before .before .before .before .before .loop) .inv .2 ∙ length-set ((c .before .before .before .before .before .before .before .before .before .before .before .before .before .before .before .before .before .args) .right .now) 0 ((c .before .before .before .before .before .before .before .before .before .before .before .before .before .before .before .before .before .args) .r)
 
--- src/lib.rt:544:17
+-- src/lib.rt:203:17
 eq-stack-returns-2 : (t : ℕ) → eq-stack-lts.Need-returns-2 (
   same-stack-reads.Asked,
   same-stack-reads.Learnt,
@@ -829,7 +829,7 @@ eq-stack-returns-2 : (t : ℕ) → eq-stack-lts.Need-returns-2 (
 ) (eq-stack-at t) eq-stack.Post eq-stack-Inv-loop eq-stack-μ-loop
 eq-stack-returns-2 t c = match-over (tab ((c .before .before .before .before .before .before .before .before .before .before .before .before .before .before .before .before .before .args) .rows .now) ((c .before .before .before .before .before .before .before .before .before .before .before .before .before .before .before .before .before .args) .parts .now)) (argsOf (tab ((c .before .before .before .before .before .before .before .before .before .before .before .before .before .before .before .before .before .args) .rows .now) ((c .before .before .before .before .before .before .before .before .before .before .before .before .before .before .before .before .before .args) .parts .now)) ((c .before .before .before .before .before .before .before .before .before .before .before .before .before .before .before .before .before .args) .args .now) ((c .before .before .before .before .before .before .before .before .before .before .before .before .before .before .before .before .before .args) .m)) ((c .before .before .before .before .before .before .before .before .before .before .before .before .before .before .before .before .before .args) .m) ((c .before .before .before .before .before .before .before .before .before .before .before .before .before .before .before .before .before .args) .by) ((c .before .before .before .before .before .before .before .before .before .before .before .before .before .before .before .before .before .args) .d) ((c .before .before .before .before .before .before .before .before .before .before .before .before .before .before .before .before .before .args) .l) ((c .before .before .before .before .before .before .before .before .before .before .before .before .before .before .before .before .before .args) .by2) ((c .before .before .before .before .before .before .before .before .before .before .before .before .before .before .before .before .before .args) .d2) ((c .before .before .before .before .before .before .before .before .before .before .before .before .before .before .before .before .before .args) .r) ((c .before .before .before .before .before .before .before .before .before .loop) .left) ((c .before .before .before .before .before .before .before .before .before .loop) .i) ((c .before .before .before .before .before .before .before .before .before .loop) .right) ((c .before .before .before .before .before .before .before .before .before .loop) .j) ((c .before .before .before .before .before .before .before .before .before .loop) .inv .0) ((c .before .before .before .before .before .before .next-pair) .last .1 .1 .1 .1 .1 .0) ((c .before .before .before .before .before .before .next-pair) .last .1 .1 .1 .1 .1 .1 .1 .1 .1 .0) ((c .before .before .before .before .before .before .next-pair) .result) ((c .before .before .before .before .before .before .next-pair) .ensures ((c .before .before .before .before .before .before .before .before .before .before .before .before .before .before .before .before .before .args) .parts .now)) ((c .enum-told) .given .1)
 
--- src/lib.rt:547:17
+-- src/lib.rt:206:17
 eq-stack-enum-told-2 : (t : ℕ) → eq-stack-lts.Need-enum-told-2 (
   same-stack-reads.Asked,
   same-stack-reads.Learnt,
@@ -840,7 +840,7 @@ eq-stack-enum-told-2 : (t : ℕ) → eq-stack-lts.Need-enum-told-2 (
 ) (eq-stack-at t) eq-stack.Post eq-stack-Inv-loop eq-stack-μ-loop
 eq-stack-enum-told-2 t c = search needs
 
--- src/lib.rt:547:17
+-- src/lib.rt:206:17
 eq-stack-same-length-3 : (t : ℕ) → eq-stack-lts.Need-same-length-3 (
   same-stack-reads.Asked,
   same-stack-reads.Learnt,
@@ -851,7 +851,7 @@ eq-stack-same-length-3 : (t : ℕ) → eq-stack-lts.Need-same-length-3 (
 ) (eq-stack-at t) eq-stack.Post eq-stack-Inv-loop eq-stack-μ-loop
 eq-stack-same-length-3 t c = ((c .before .before .before .before .before .before .next-pair) .kept .1 .1 .1 .1 .1 .0) ∙ (c .before .before .before .before .before .before .before .before .before .loop) .inv .1 ∙ length-set ((c .before .before .before .before .before .before .before .before .before .before .before .before .before .before .before .before .before .args) .left .now) 0 ((c .before .before .before .before .before .before .before .before .before .before .before .before .before .before .before .before .before .args) .l)
 
--- src/lib.rt:547:17
+-- src/lib.rt:206:17
 eq-stack-same-length-4 : (t : ℕ) → eq-stack-lts.Need-same-length-4 (
   same-stack-reads.Asked,
   same-stack-reads.Learnt,
@@ -862,7 +862,7 @@ eq-stack-same-length-4 : (t : ℕ) → eq-stack-lts.Need-same-length-4 (
 ) (eq-stack-at t) eq-stack.Post eq-stack-Inv-loop eq-stack-μ-loop
 eq-stack-same-length-4 t c = ((c .before .before .before .before .before .before .next-pair) .kept .1 .1 .1 .1 .1 .1 .1 .1 .1 .0) ∙ (c .before .before .before .before .before .before .before .before .before .loop) .inv .2 ∙ length-set ((c .before .before .before .before .before .before .before .before .before .before .before .before .before .before .before .before .before .args) .right .now) 0 ((c .before .before .before .before .before .before .before .before .before .before .before .before .before .before .before .before .before .args) .r)
 
--- src/lib.rt:547:17
+-- src/lib.rt:206:17
 eq-stack-returns-3 : (t : ℕ) → eq-stack-lts.Need-returns-3 (
   same-stack-reads.Asked,
   same-stack-reads.Learnt,
@@ -873,7 +873,7 @@ eq-stack-returns-3 : (t : ℕ) → eq-stack-lts.Need-returns-3 (
 ) (eq-stack-at t) eq-stack.Post eq-stack-Inv-loop eq-stack-μ-loop
 eq-stack-returns-3 t c = match-unlike (tab ((c .before .before .before .before .before .before .before .before .before .before .before .before .before .before .before .before .before .args) .rows .now) ((c .before .before .before .before .before .before .before .before .before .before .before .before .before .before .before .before .before .args) .parts .now)) (argsOf (tab ((c .before .before .before .before .before .before .before .before .before .before .before .before .before .before .before .before .before .args) .rows .now) ((c .before .before .before .before .before .before .before .before .before .before .before .before .before .before .before .before .before .args) .parts .now)) ((c .before .before .before .before .before .before .before .before .before .before .before .before .before .before .before .before .before .args) .args .now) ((c .before .before .before .before .before .before .before .before .before .before .before .before .before .before .before .before .before .args) .m)) ((c .before .before .before .before .before .before .before .before .before .before .before .before .before .before .before .before .before .args) .m) ((c .before .before .before .before .before .before .before .before .before .before .before .before .before .before .before .before .before .args) .by) ((c .before .before .before .before .before .before .before .before .before .before .before .before .before .before .before .before .before .args) .d) ((c .before .before .before .before .before .before .before .before .before .before .before .before .before .before .before .before .before .args) .l) ((c .before .before .before .before .before .before .before .before .before .before .before .before .before .before .before .before .before .args) .by2) ((c .before .before .before .before .before .before .before .before .before .before .before .before .before .before .before .before .before .args) .d2) ((c .before .before .before .before .before .before .before .before .before .before .before .before .before .before .before .before .before .args) .r) ((c .before .before .before .before .before .before .before .before .before .loop) .left) ((c .before .before .before .before .before .before .before .before .before .loop) .i) ((c .before .before .before .before .before .before .before .before .before .loop) .right) ((c .before .before .before .before .before .before .before .before .before .loop) .j) ((c .before .before .before .before .before .before .before .before .before .loop) .inv .0) ((c .before .before .before .before .before .before .next-pair) .last .1 .1 .1 .1 .1 .0) ((c .before .before .before .before .before .before .next-pair) .last .1 .1 .1 .1 .1 .1 .1 .1 .1 .0) ((c .before .before .before .before .before .before .next-pair) .result) ((c .before .before .before .before .before .before .next-pair) .ensures ((c .before .before .before .before .before .before .before .before .before .before .before .before .before .before .before .before .before .args) .parts .now)) ((c .enum-told2) .given .1)
 
--- src/lib.rt:549:25
+-- src/lib.rt:208:25
 eq-stack-enum-known-s : (t : ℕ) → eq-stack-lts.Need-enum-known-s (
   same-stack-reads.Asked,
   same-stack-reads.Learnt,
@@ -906,7 +906,7 @@ eq-stack-loop-again : (t : ℕ) → eq-stack-lts.Need-loop-again (
 ) (eq-stack-at t) eq-stack.Post eq-stack-Inv-loop eq-stack-μ-loop
 eq-stack-loop-again t c = ((match-onward (tab ((c .before .before .before .before .before .before .before .before .before .before .before .before .before .before .before .before .before .before .args) .rows .now) ((c .before .before .before .before .before .before .before .before .before .before .before .before .before .before .before .before .before .before .args) .parts .now)) (argsOf (tab ((c .before .before .before .before .before .before .before .before .before .before .before .before .before .before .before .before .before .before .args) .rows .now) ((c .before .before .before .before .before .before .before .before .before .before .before .before .before .before .before .before .before .before .args) .parts .now)) ((c .before .before .before .before .before .before .before .before .before .before .before .before .before .before .before .before .before .before .args) .args .now) ((c .before .before .before .before .before .before .before .before .before .before .before .before .before .before .before .before .before .before .args) .m)) ((c .before .before .before .before .before .before .before .before .before .before .before .before .before .before .before .before .before .before .args) .m) ((c .before .before .before .before .before .before .before .before .before .before .before .before .before .before .before .before .before .before .args) .by) ((c .before .before .before .before .before .before .before .before .before .before .before .before .before .before .before .before .before .before .args) .d) ((c .before .before .before .before .before .before .before .before .before .before .before .before .before .before .before .before .before .before .args) .l) ((c .before .before .before .before .before .before .before .before .before .before .before .before .before .before .before .before .before .before .args) .by2) ((c .before .before .before .before .before .before .before .before .before .before .before .before .before .before .before .before .before .before .args) .d2) ((c .before .before .before .before .before .before .before .before .before .before .before .before .before .before .before .before .before .before .args) .r) ((c .before .before .before .before .before .before .before .before .before .before .loop) .left) ((c .before .before .before .before .before .before .before .before .before .before .loop) .i) ((c .before .before .before .before .before .before .before .before .before .before .loop) .right) ((c .before .before .before .before .before .before .before .before .before .before .loop) .j) ((c .before .before .before .before .before .before .before .before .before .before .loop) .inv .0) ((c .before .before .before .before .before .before .before .next-pair) .last .1 .1 .1 .1 .1 .0) ((c .before .before .before .before .before .before .before .next-pair) .last .1 .1 .1 .1 .1 .1 .1 .1 .1 .0) ((c .before .before .before .before .before .before .before .next-pair) .result) ((c .before .s) .given .0 .0) ((c .before .s) .given .0 .1 .0) ((c .before .before .before .before .before .before .before .next-pair) .ensures ((c .before .before .before .before .before .before .before .before .before .before .before .before .before .before .before .before .before .before .args) .parts .now)) ((c .before .s) .given .1)) .0, ((c .before .before .before .before .before .before .before .next-pair) .kept .1 .1 .1 .1 .1 .0) ∙ (c .before .before .before .before .before .before .before .before .before .before .loop) .inv .1, ((c .before .before .before .before .before .before .before .next-pair) .kept .1 .1 .1 .1 .1 .1 .1 .1 .1 .0) ∙ (c .before .before .before .before .before .before .before .before .before .before .loop) .inv .2)
 
--- src/lib.rt:554:25
+-- src/lib.rt:213:25
 eq-stack-enum-known-s-2 : (t : ℕ) → eq-stack-lts.Need-enum-known-s-2 (
   same-stack-reads.Asked,
   same-stack-reads.Learnt,
@@ -917,7 +917,7 @@ eq-stack-enum-known-s-2 : (t : ℕ) → eq-stack-lts.Need-enum-known-s-2 (
 ) (eq-stack-at t) eq-stack.Post eq-stack-Inv-loop eq-stack-μ-loop
 eq-stack-enum-known-s-2 t c = search needs
 
--- src/lib.rt:566:21
+-- src/lib.rt:225:21
 eq-stack-mul-eq-value : (t : ℕ) → eq-stack-lts.Need-mul-eq-value (
   same-stack-reads.Asked,
   same-stack-reads.Learnt,
@@ -934,7 +934,7 @@ eq-stack-mul-eq-value t c =
     let w3 = w .3 in
     record { fits = omega arith }
 
--- src/lib.rt:566:21
+-- src/lib.rt:225:21
 eq-stack-sub-eq-value : (t : ℕ) → eq-stack-lts.Need-sub-eq-value (
   same-stack-reads.Asked,
   same-stack-reads.Learnt,
@@ -951,7 +951,7 @@ eq-stack-sub-eq-value t c =
     let w3 = w .3 in
     omega arith
 
--- src/lib.rt:566:21
+-- src/lib.rt:225:21
 eq-stack-part-eq-value-start : (t : ℕ) → eq-stack-lts.Need-part-eq-value-start (
   same-stack-reads.Asked,
   same-stack-reads.Learnt,
@@ -968,7 +968,7 @@ eq-stack-part-eq-value-start t c =
     let w3 = w .3 in
     omega arith
 
--- src/lib.rt:566:21
+-- src/lib.rt:225:21
 eq-stack-part-eq-value-end : (t : ℕ) → eq-stack-lts.Need-part-eq-value-end (
   same-stack-reads.Asked,
   same-stack-reads.Learnt,
@@ -985,7 +985,7 @@ eq-stack-part-eq-value-end t c =
     let w3 = w .3 in
     omega arith
 
--- src/lib.rt:567:21
+-- src/lib.rt:226:21
 eq-stack-mul-eq-value-2 : (t : ℕ) → eq-stack-lts.Need-mul-eq-value-2 (
   same-stack-reads.Asked,
   same-stack-reads.Learnt,
@@ -1002,7 +1002,7 @@ eq-stack-mul-eq-value-2 t c =
     let w3 = w .3 in
     record { fits = omega arith }
 
--- src/lib.rt:567:21
+-- src/lib.rt:226:21
 eq-stack-sub-eq-value-2 : (t : ℕ) → eq-stack-lts.Need-sub-eq-value-2 (
   same-stack-reads.Asked,
   same-stack-reads.Learnt,
@@ -1019,7 +1019,7 @@ eq-stack-sub-eq-value-2 t c =
     let w3 = w .3 in
     omega arith
 
--- src/lib.rt:567:21
+-- src/lib.rt:226:21
 eq-stack-part-eq-value-start-2 : (t : ℕ) → eq-stack-lts.Need-part-eq-value-start-2 (
   same-stack-reads.Asked,
   same-stack-reads.Learnt,
@@ -1036,7 +1036,7 @@ eq-stack-part-eq-value-start-2 t c =
     let w3 = w .3 in
     omega arith
 
--- src/lib.rt:567:21
+-- src/lib.rt:226:21
 eq-stack-part-eq-value-end-2 : (t : ℕ) → eq-stack-lts.Need-part-eq-value-end-2 (
   same-stack-reads.Asked,
   same-stack-reads.Learnt,
@@ -1053,7 +1053,7 @@ eq-stack-part-eq-value-end-2 t c =
     let w3 = w .3 in
     omega arith
 
--- src/lib.rt:555:21
+-- src/lib.rt:214:21
 eq-stack-eq-value-requires : (t : ℕ) → eq-stack-lts.Need-eq-value-requires (
   same-stack-reads.Asked,
   same-stack-reads.Learnt,
@@ -1071,7 +1071,7 @@ eq-stack-eq-value-requires t c κs =
     let t0 = (c .before .before .before .before .before .before .before .before .before .before .before .before .before .before .before .before .before .before .before .before .pre) .0 in
     (omega arith, (tabled-low (tab ((c .before .before .before .before .before .before .before .before .before .before .before .before .before .before .before .before .before .before .before .before .args) .rows .now) ((c .before .before .before .before .before .before .before .before .before .before .before .before .before .before .before .before .before .before .before .before .args) .parts .now)) ((c .before .before .before .before .before .before .before .before .before .before .before .before .before .before .before .before .before .before .before .before .args) .args .now) ((c .before .before .before .s2) .given .0 .0) ((c .before .before .before .s2) .given .0 .1 .1 .0) ((c .before .before .before .before .before .before .before .before .before .before .before .before .before .before .before .before .before .before .before .before .pre) .1 .0) (omega arith) (omega arith), omega arith, omega arith, spare-own ((c .before .before .before .before .before .before .before .before .before .before .before .before .before .before .before .before .before .before .before .before .args) .m) ((c .before .before .before .before .before .before .before .before .before .before .before .before .before .before .before .before .before .before .before .before .args) .l) ((c .before .before .before .before .before .before .before .before .before .before .before .before .before .before .before .before .before .before .before .before .args) .r) (length ((c .before .before .before .before .before .before .before .before .before .next-pair) .last .1 .1 .1 .1 .1 .0)) (length ((c .before .before .before .before .before .before .before .before .before .next-pair) .last .1 .1 .1 .1 .1 .1 .1 .1 .1 .0)) ((c .before .before .before .s2) .given .0 .1 .0) ((c .before .before .before .s2) .given .0 .0) ((c .before .before .before .s2) .given .0 .1 .1 .1 .0) ((c .before .before .before .s2) .given .0 .1 .1 .0) (length (take (length ((c .before .before .before .before .before .before .before .before .before .next-pair) .last .1 .1 .1 .1 .1 .0) - ((c .before .before .before .s2) .given .0 .1 .0)) (drop ((c .before .before .before .s2) .given .0 .1 .0) ((c .before .before .before .before .before .before .before .before .before .next-pair) .last .1 .1 .1 .1 .1 .0)))) (length (take (length ((c .before .before .before .before .before .before .before .before .before .next-pair) .last .1 .1 .1 .1 .1 .1 .1 .1 .1 .0) - ((c .before .before .before .s2) .given .0 .1 .1 .1 .0)) (drop ((c .before .before .before .s2) .given .0 .1 .1 .1 .0) ((c .before .before .before .before .before .before .before .before .before .next-pair) .last .1 .1 .1 .1 .1 .1 .1 .1 .1 .0)))) (spare-kept ((c .before .before .before .before .before .before .before .before .before .before .before .before .before .before .before .before .before .before .before .before .args) .m) ((c .before .before .before .before .before .before .before .before .before .before .before .before .before .before .before .before .before .before .before .before .args) .l) ((c .before .before .before .before .before .before .before .before .before .before .before .before .before .before .before .before .before .before .before .before .args) .r) (length ((c .before .before .before .before .before .before .before .before .before .before .before .before .before .before .before .before .before .before .before .before .args) .left .now)) (length ((c .before .before .before .before .before .before .before .before .before .before .before .before .before .before .before .before .before .before .before .before .args) .right .now)) (length ((c .before .before .before .before .before .before .before .before .before .next-pair) .last .1 .1 .1 .1 .1 .0)) (length ((c .before .before .before .before .before .before .before .before .before .next-pair) .last .1 .1 .1 .1 .1 .1 .1 .1 .1 .0)) ((c .before .before .before .before .before .before .before .before .before .before .before .before .before .before .before .before .before .before .before .before .pre) .1 .3) (((c .before .before .before .before .before .before .before .before .before .next-pair) .kept .1 .1 .1 .1 .1 .0) ∙ (c .before .before .before .before .before .before .before .before .before .before .before .before .loop) .inv .1 ∙ length-set ((c .before .before .before .before .before .before .before .before .before .before .before .before .before .before .before .before .before .before .before .before .args) .left .now) 0 ((c .before .before .before .before .before .before .before .before .before .before .before .before .before .before .before .before .before .before .before .before .args) .l)) (((c .before .before .before .before .before .before .before .before .before .next-pair) .kept .1 .1 .1 .1 .1 .1 .1 .1 .1 .0) ∙ (c .before .before .before .before .before .before .before .before .before .before .before .before .loop) .inv .2 ∙ length-set ((c .before .before .before .before .before .before .before .before .before .before .before .before .before .before .before .before .before .before .before .before .args) .right .now) 0 ((c .before .before .before .before .before .before .before .before .before .before .before .before .before .before .before .before .before .before .before .before .args) .r))) w0 w1 (length-part ((c .before .before .before .s2) .given .0 .1 .0) ((c .before .before .before .before .before .before .before .before .before .next-pair) .last .1 .1 .1 .1 .1 .0)) (length-part ((c .before .before .before .s2) .given .0 .1 .1 .1 .0) ((c .before .before .before .before .before .before .before .before .before .next-pair) .last .1 .1 .1 .1 .1 .1 .1 .1 .1 .0))))
 
--- src/lib.rt:569:21
+-- src/lib.rt:228:21
 eq-stack-same-length-5 : (t : ℕ) → eq-stack-lts.Need-same-length-5 (
   same-stack-reads.Asked,
   same-stack-reads.Learnt,
@@ -1082,7 +1082,7 @@ eq-stack-same-length-5 : (t : ℕ) → eq-stack-lts.Need-same-length-5 (
 ) (eq-stack-at t) eq-stack.Post eq-stack-Inv-loop eq-stack-μ-loop
 eq-stack-same-length-5 t c = same-len-mid ((c .before .before .before .before .before .before .before .before .before .s2) .given .0 .1 .0) (length ((c .before .before .before .before .before .before .before .before .before .before .before .before .before .before .before .next-pair) .last .1 .1 .1 .1 .1 .0) - ((c .before .before .before .before .before .before .before .before .before .s2) .given .0 .1 .0)) ((c .before .before .before .before .before .before .before .before .before .before .before .before .before .before .before .next-pair) .last .1 .1 .1 .1 .1 .0) ((c .before .before .before .before .before .eq-value) .last .1 .1 .1 .1 .1 .1 .1 .1 .1 .1 .0) ((c .before .before .before .before .before .eq-value) .kept .1 .1 .1 .1 .1 .1 .1 .1 .1 .1 .0) ∙ ((c .before .before .before .before .before .before .before .before .before .before .before .before .before .before .before .next-pair) .kept .1 .1 .1 .1 .1 .0) ∙ (c .before .before .before .before .before .before .before .before .before .before .before .before .before .before .before .before .before .before .loop) .inv .1 ∙ length-set ((c .before .before .before .before .before .before .before .before .before .before .before .before .before .before .before .before .before .before .before .before .before .before .before .before .before .before .args) .left .now) 0 ((c .before .before .before .before .before .before .before .before .before .before .before .before .before .before .before .before .before .before .before .before .before .before .before .before .before .before .args) .l)
 
--- src/lib.rt:569:21
+-- src/lib.rt:228:21
 eq-stack-same-length-6 : (t : ℕ) → eq-stack-lts.Need-same-length-6 (
   same-stack-reads.Asked,
   same-stack-reads.Learnt,
@@ -1093,7 +1093,7 @@ eq-stack-same-length-6 : (t : ℕ) → eq-stack-lts.Need-same-length-6 (
 ) (eq-stack-at t) eq-stack.Post eq-stack-Inv-loop eq-stack-μ-loop
 eq-stack-same-length-6 t c = same-len-mid ((c .before .before .before .before .before .before .before .before .before .s2) .given .0 .1 .1 .1 .0) (length ((c .before .before .before .before .before .before .before .before .before .before .before .before .before .before .before .next-pair) .last .1 .1 .1 .1 .1 .1 .1 .1 .1 .0) - ((c .before .before .before .before .before .before .before .before .before .s2) .given .0 .1 .1 .1 .0)) ((c .before .before .before .before .before .before .before .before .before .before .before .before .before .before .before .next-pair) .last .1 .1 .1 .1 .1 .1 .1 .1 .1 .0) ((c .before .before .before .before .before .eq-value) .last .1 .1 .1 .1 .1 .1 .1 .1 .1 .1 .1 .0) ((c .before .before .before .before .before .eq-value) .kept .1 .1 .1 .1 .1 .1 .1 .1 .1 .1 .1 .0) ∙ ((c .before .before .before .before .before .before .before .before .before .before .before .before .before .before .before .next-pair) .kept .1 .1 .1 .1 .1 .1 .1 .1 .1 .0) ∙ (c .before .before .before .before .before .before .before .before .before .before .before .before .before .before .before .before .before .before .loop) .inv .2 ∙ length-set ((c .before .before .before .before .before .before .before .before .before .before .before .before .before .before .before .before .before .before .before .before .before .before .before .before .before .before .args) .right .now) 0 ((c .before .before .before .before .before .before .before .before .before .before .before .before .before .before .before .before .before .before .before .before .before .before .before .before .before .before .args) .r)
 
--- src/lib.rt:569:21
+-- src/lib.rt:228:21
 eq-stack-returns-4 : (t : ℕ) → eq-stack-lts.Need-returns-4 (
   same-stack-reads.Asked,
   same-stack-reads.Learnt,
@@ -1138,7 +1138,7 @@ eq-stack-loop-again-2 t c =
     let w3 = w .3 in
     ((match-own (tab ((c .before .before .before .before .before .before .before .before .before .before .before .before .before .before .before .before .before .before .before .before .before .before .before .before .before .before .args) .rows .now) ((c .before .before .before .before .before .before .before .before .before .before .before .before .before .before .before .before .before .before .before .before .before .before .before .before .before .before .args) .parts .now)) (argsOf (tab ((c .before .before .before .before .before .before .before .before .before .before .before .before .before .before .before .before .before .before .before .before .before .before .before .before .before .before .args) .rows .now) ((c .before .before .before .before .before .before .before .before .before .before .before .before .before .before .before .before .before .before .before .before .before .before .before .before .before .before .args) .parts .now)) ((c .before .before .before .before .before .before .before .before .before .before .before .before .before .before .before .before .before .before .before .before .before .before .before .before .before .before .args) .args .now) ((c .before .before .before .before .before .before .before .before .before .before .before .before .before .before .before .before .before .before .before .before .before .before .before .before .before .before .args) .m)) ((c .before .before .before .before .before .before .before .before .before .before .before .before .before .before .before .before .before .before .before .before .before .before .before .before .before .before .args) .m) ((c .before .before .before .before .before .before .before .before .before .before .before .before .before .before .before .before .before .before .before .before .before .before .before .before .before .before .args) .by) ((c .before .before .before .before .before .before .before .before .before .before .before .before .before .before .before .before .before .before .before .before .before .before .before .before .before .before .args) .d) ((c .before .before .before .before .before .before .before .before .before .before .before .before .before .before .before .before .before .before .before .before .before .before .before .before .before .before .args) .l) ((c .before .before .before .before .before .before .before .before .before .before .before .before .before .before .before .before .before .before .before .before .before .before .before .before .before .before .args) .by2) ((c .before .before .before .before .before .before .before .before .before .before .before .before .before .before .before .before .before .before .before .before .before .before .before .before .before .before .args) .d2) ((c .before .before .before .before .before .before .before .before .before .before .before .before .before .before .before .before .before .before .before .before .before .before .before .before .before .before .args) .r) ((c .before .before .before .before .before .before .before .before .before .before .before .before .before .before .before .before .before .before .loop) .left) ((c .before .before .before .before .before .before .before .before .before .before .before .before .before .before .before .before .before .before .loop) .i) ((c .before .before .before .before .before .before .before .before .before .before .before .before .before .before .before .before .before .before .loop) .right) ((c .before .before .before .before .before .before .before .before .before .before .before .before .before .before .before .before .before .before .loop) .j) ((c .before .before .before .before .before .before .before .before .before .before .before .before .before .before .before .before .before .before .loop) .inv .0) ((c .before .before .before .before .before .before .before .before .before .before .before .before .before .before .before .next-pair) .last .1 .1 .1 .1 .1 .0) ((c .before .before .before .before .before .before .before .before .before .before .before .before .before .before .before .next-pair) .last .1 .1 .1 .1 .1 .1 .1 .1 .1 .0) (putMid ((c .before .before .before .before .before .before .before .before .before .s2) .given .0 .1 .0) (length ((c .before .before .before .before .before .before .before .before .before .before .before .before .before .before .before .next-pair) .last .1 .1 .1 .1 .1 .0) - ((c .before .before .before .before .before .before .before .before .before .s2) .given .0 .1 .0)) ((c .before .before .before .before .before .before .before .before .before .before .before .before .before .before .before .next-pair) .last .1 .1 .1 .1 .1 .0) ((c .before .before .before .before .before .eq-value) .last .1 .1 .1 .1 .1 .1 .1 .1 .1 .1 .0)) (putMid ((c .before .before .before .before .before .before .before .before .before .s2) .given .0 .1 .1 .1 .0) (length ((c .before .before .before .before .before .before .before .before .before .before .before .before .before .before .before .next-pair) .last .1 .1 .1 .1 .1 .1 .1 .1 .1 .0) - ((c .before .before .before .before .before .before .before .before .before .s2) .given .0 .1 .1 .1 .0)) ((c .before .before .before .before .before .before .before .before .before .before .before .before .before .before .before .next-pair) .last .1 .1 .1 .1 .1 .1 .1 .1 .1 .0) ((c .before .before .before .before .before .eq-value) .last .1 .1 .1 .1 .1 .1 .1 .1 .1 .1 .1 .0)) ((c .before .before .before .before .before .before .before .before .before .before .before .before .before .before .before .next-pair) .result) ((c .before .before .before .before .before .before .before .before .before .s2) .given .0 .0) ((c .before .before .before .before .before .before .before .before .before .s2) .given .0 .1 .0) ((c .before .before .before .before .before .before .before .before .before .s2) .given .0 .1 .1 .0) ((c .before .before .before .before .before .before .before .before .before .s2) .given .0 .1 .1 .1 .0) (agree-mid ((c .before .before .before .before .before .before .before .before .before .s2) .given .0 .1 .0) (length ((c .before .before .before .before .before .before .before .before .before .before .before .before .before .before .before .next-pair) .last .1 .1 .1 .1 .1 .0) - ((c .before .before .before .before .before .before .before .before .before .s2) .given .0 .1 .0)) ((c .before .before .before .before .before .before .before .before .before .before .before .before .before .before .before .next-pair) .last .1 .1 .1 .1 .1 .0) ((c .before .before .before .before .before .eq-value) .last .1 .1 .1 .1 .1 .1 .1 .1 .1 .1 .0) (omega arith)) (agree-mid ((c .before .before .before .before .before .before .before .before .before .s2) .given .0 .1 .1 .1 .0) (length ((c .before .before .before .before .before .before .before .before .before .before .before .before .before .before .before .next-pair) .last .1 .1 .1 .1 .1 .1 .1 .1 .1 .0) - ((c .before .before .before .before .before .before .before .before .before .s2) .given .0 .1 .1 .1 .0)) ((c .before .before .before .before .before .before .before .before .before .before .before .before .before .before .before .next-pair) .last .1 .1 .1 .1 .1 .1 .1 .1 .1 .0) ((c .before .before .before .before .before .eq-value) .last .1 .1 .1 .1 .1 .1 .1 .1 .1 .1 .1 .0) (omega arith)) ((c .before .before .before .before .before .before .before .before .before .before .before .before .before .before .before .next-pair) .ensures ((c .before .before .before .before .before .before .before .before .before .before .before .before .before .before .before .before .before .before .before .before .before .before .before .before .before .before .args) .parts .now)) ((c .before .before .before .before .before .before .before .before .before .s2) .given .1) ((c .before .before .before .before .before .eq-value) .ensures) (not-true ((c .if2) .left))) .0, same-len-mid ((c .before .before .before .before .before .before .before .before .before .s2) .given .0 .1 .0) (length ((c .before .before .before .before .before .before .before .before .before .before .before .before .before .before .before .next-pair) .last .1 .1 .1 .1 .1 .0) - ((c .before .before .before .before .before .before .before .before .before .s2) .given .0 .1 .0)) ((c .before .before .before .before .before .before .before .before .before .before .before .before .before .before .before .next-pair) .last .1 .1 .1 .1 .1 .0) ((c .before .before .before .before .before .eq-value) .last .1 .1 .1 .1 .1 .1 .1 .1 .1 .1 .0) ((c .before .before .before .before .before .eq-value) .kept .1 .1 .1 .1 .1 .1 .1 .1 .1 .1 .0) ∙ ((c .before .before .before .before .before .before .before .before .before .before .before .before .before .before .before .next-pair) .kept .1 .1 .1 .1 .1 .0) ∙ (c .before .before .before .before .before .before .before .before .before .before .before .before .before .before .before .before .before .before .loop) .inv .1, same-len-mid ((c .before .before .before .before .before .before .before .before .before .s2) .given .0 .1 .1 .1 .0) (length ((c .before .before .before .before .before .before .before .before .before .before .before .before .before .before .before .next-pair) .last .1 .1 .1 .1 .1 .1 .1 .1 .1 .0) - ((c .before .before .before .before .before .before .before .before .before .s2) .given .0 .1 .1 .1 .0)) ((c .before .before .before .before .before .before .before .before .before .before .before .before .before .before .before .next-pair) .last .1 .1 .1 .1 .1 .1 .1 .1 .1 .0) ((c .before .before .before .before .before .eq-value) .last .1 .1 .1 .1 .1 .1 .1 .1 .1 .1 .1 .0) ((c .before .before .before .before .before .eq-value) .kept .1 .1 .1 .1 .1 .1 .1 .1 .1 .1 .1 .0) ∙ ((c .before .before .before .before .before .before .before .before .before .before .before .before .before .before .before .next-pair) .kept .1 .1 .1 .1 .1 .1 .1 .1 .1 .0) ∙ (c .before .before .before .before .before .before .before .before .before .before .before .before .before .before .before .before .before .before .loop) .inv .2)
 
--- src/lib.rt:575:27
+-- src/lib.rt:234:27
 eq-stack-enum-known-s-3 : (t : ℕ) → eq-stack-lts.Need-enum-known-s-3 (
   same-stack-reads.Asked,
   same-stack-reads.Learnt,
@@ -1149,7 +1149,7 @@ eq-stack-enum-known-s-3 : (t : ℕ) → eq-stack-lts.Need-enum-known-s-3 (
 ) (eq-stack-at t) eq-stack.Post eq-stack-Inv-loop eq-stack-μ-loop
 eq-stack-enum-known-s-3 t c = search needs
 
--- src/lib.rt:587:21
+-- src/lib.rt:246:21
 eq-stack-mul-eq-value-3 : (t : ℕ) → eq-stack-lts.Need-mul-eq-value-3 (
   same-stack-reads.Asked,
   same-stack-reads.Learnt,
@@ -1166,7 +1166,7 @@ eq-stack-mul-eq-value-3 t c =
     let w3 = w .3 in
     record { fits = omega arith }
 
--- src/lib.rt:587:21
+-- src/lib.rt:246:21
 eq-stack-sub-eq-value-3 : (t : ℕ) → eq-stack-lts.Need-sub-eq-value-3 (
   same-stack-reads.Asked,
   same-stack-reads.Learnt,
@@ -1183,7 +1183,7 @@ eq-stack-sub-eq-value-3 t c =
     let w3 = w .3 in
     omega arith
 
--- src/lib.rt:587:21
+-- src/lib.rt:246:21
 eq-stack-part-eq-value-start-3 : (t : ℕ) → eq-stack-lts.Need-part-eq-value-start-3 (
   same-stack-reads.Asked,
   same-stack-reads.Learnt,
@@ -1200,7 +1200,7 @@ eq-stack-part-eq-value-start-3 t c =
     let w3 = w .3 in
     omega arith
 
--- src/lib.rt:587:21
+-- src/lib.rt:246:21
 eq-stack-part-eq-value-end-3 : (t : ℕ) → eq-stack-lts.Need-part-eq-value-end-3 (
   same-stack-reads.Asked,
   same-stack-reads.Learnt,
@@ -1217,7 +1217,7 @@ eq-stack-part-eq-value-end-3 t c =
     let w3 = w .3 in
     omega arith
 
--- src/lib.rt:588:21
+-- src/lib.rt:247:21
 eq-stack-mul-eq-value-4 : (t : ℕ) → eq-stack-lts.Need-mul-eq-value-4 (
   same-stack-reads.Asked,
   same-stack-reads.Learnt,
@@ -1234,7 +1234,7 @@ eq-stack-mul-eq-value-4 t c =
     let w3 = w .3 in
     record { fits = omega arith }
 
--- src/lib.rt:588:21
+-- src/lib.rt:247:21
 eq-stack-sub-eq-value-4 : (t : ℕ) → eq-stack-lts.Need-sub-eq-value-4 (
   same-stack-reads.Asked,
   same-stack-reads.Learnt,
@@ -1251,7 +1251,7 @@ eq-stack-sub-eq-value-4 t c =
     let w3 = w .3 in
     omega arith
 
--- src/lib.rt:588:21
+-- src/lib.rt:247:21
 eq-stack-part-eq-value-start-4 : (t : ℕ) → eq-stack-lts.Need-part-eq-value-start-4 (
   same-stack-reads.Asked,
   same-stack-reads.Learnt,
@@ -1268,7 +1268,7 @@ eq-stack-part-eq-value-start-4 t c =
     let w3 = w .3 in
     omega arith
 
--- src/lib.rt:588:21
+-- src/lib.rt:247:21
 eq-stack-part-eq-value-end-4 : (t : ℕ) → eq-stack-lts.Need-part-eq-value-end-4 (
   same-stack-reads.Asked,
   same-stack-reads.Learnt,
@@ -1285,7 +1285,7 @@ eq-stack-part-eq-value-end-4 t c =
     let w3 = w .3 in
     omega arith
 
--- src/lib.rt:576:21
+-- src/lib.rt:235:21
 eq-stack-eq-value-requires-2 : (t : ℕ) → eq-stack-lts.Need-eq-value-requires-2 (
   same-stack-reads.Asked,
   same-stack-reads.Learnt,
@@ -1307,7 +1307,7 @@ eq-stack-eq-value-requires-2 t c κs =
     let b = big-of 0 ((c .before .before .before .before .before .before .before .before .before .before .before .before .before .before .before .before .before .before .before .before .args) .m) w0 in
     (omega arith, (tabled-given (tab ((c .before .before .before .before .before .before .before .before .before .before .before .before .before .before .before .before .before .before .before .before .args) .rows .now) ((c .before .before .before .before .before .before .before .before .before .before .before .before .before .before .before .before .before .before .before .before .args) .parts .now)) ((c .before .before .before .before .before .before .before .before .before .before .before .before .before .before .before .before .before .before .before .before .args) .args .now) ((c .before .before .before .s3) .given .0 .0) ((c .before .before .before .s3) .given .0 .1 .1 .0) ((c .before .before .before .before .before .before .before .before .before .before .before .before .before .before .before .before .before .before .before .before .pre) .1 .0) (omega arith) (omega arith), omega arith, omega arith, spare-given ((c .before .before .before .before .before .before .before .before .before .before .before .before .before .before .before .before .before .before .before .before .args) .m) ((c .before .before .before .before .before .before .before .before .before .before .before .before .before .before .before .before .before .before .before .before .args) .l) ((c .before .before .before .before .before .before .before .before .before .before .before .before .before .before .before .before .before .before .before .before .args) .r) (length ((c .before .before .before .before .before .before .before .before .before .next-pair) .last .1 .1 .1 .1 .1 .0)) (length ((c .before .before .before .before .before .before .before .before .before .next-pair) .last .1 .1 .1 .1 .1 .1 .1 .1 .1 .0)) ((c .before .before .before .s3) .given .0 .1 .0) ((c .before .before .before .s3) .given .0 .0) ((c .before .before .before .s3) .given .0 .1 .1 .1 .0) ((c .before .before .before .s3) .given .0 .1 .1 .0) (length (take (length ((c .before .before .before .before .before .before .before .before .before .next-pair) .last .1 .1 .1 .1 .1 .0) - ((c .before .before .before .s3) .given .0 .1 .0)) (drop ((c .before .before .before .s3) .given .0 .1 .0) ((c .before .before .before .before .before .before .before .before .before .next-pair) .last .1 .1 .1 .1 .1 .0)))) (length (take (length ((c .before .before .before .before .before .before .before .before .before .next-pair) .last .1 .1 .1 .1 .1 .1 .1 .1 .1 .0) - ((c .before .before .before .s3) .given .0 .1 .1 .1 .0)) (drop ((c .before .before .before .s3) .given .0 .1 .1 .1 .0) ((c .before .before .before .before .before .before .before .before .before .next-pair) .last .1 .1 .1 .1 .1 .1 .1 .1 .1 .0)))) (spare-kept ((c .before .before .before .before .before .before .before .before .before .before .before .before .before .before .before .before .before .before .before .before .args) .m) ((c .before .before .before .before .before .before .before .before .before .before .before .before .before .before .before .before .before .before .before .before .args) .l) ((c .before .before .before .before .before .before .before .before .before .before .before .before .before .before .before .before .before .before .before .before .args) .r) (length ((c .before .before .before .before .before .before .before .before .before .before .before .before .before .before .before .before .before .before .before .before .args) .left .now)) (length ((c .before .before .before .before .before .before .before .before .before .before .before .before .before .before .before .before .before .before .before .before .args) .right .now)) (length ((c .before .before .before .before .before .before .before .before .before .next-pair) .last .1 .1 .1 .1 .1 .0)) (length ((c .before .before .before .before .before .before .before .before .before .next-pair) .last .1 .1 .1 .1 .1 .1 .1 .1 .1 .0)) ((c .before .before .before .before .before .before .before .before .before .before .before .before .before .before .before .before .before .before .before .before .pre) .1 .3) (((c .before .before .before .before .before .before .before .before .before .next-pair) .kept .1 .1 .1 .1 .1 .0) ∙ (c .before .before .before .before .before .before .before .before .before .before .before .before .loop) .inv .1 ∙ length-set ((c .before .before .before .before .before .before .before .before .before .before .before .before .before .before .before .before .before .before .before .before .args) .left .now) 0 ((c .before .before .before .before .before .before .before .before .before .before .before .before .before .before .before .before .before .before .before .before .args) .l)) (((c .before .before .before .before .before .before .before .before .before .next-pair) .kept .1 .1 .1 .1 .1 .1 .1 .1 .1 .0) ∙ (c .before .before .before .before .before .before .before .before .before .before .before .before .loop) .inv .2 ∙ length-set ((c .before .before .before .before .before .before .before .before .before .before .before .before .before .before .before .before .before .before .before .before .args) .right .now) 0 ((c .before .before .before .before .before .before .before .before .before .before .before .before .before .before .before .before .before .before .before .before .args) .r))) w0 w2 w3 (length-part ((c .before .before .before .s3) .given .0 .1 .0) ((c .before .before .before .before .before .before .before .before .before .next-pair) .last .1 .1 .1 .1 .1 .0)) (length-part ((c .before .before .before .s3) .given .0 .1 .1 .1 .0) ((c .before .before .before .before .before .before .before .before .before .next-pair) .last .1 .1 .1 .1 .1 .1 .1 .1 .1 .0))))
 
--- src/lib.rt:590:21
+-- src/lib.rt:249:21
 eq-stack-same-length-7 : (t : ℕ) → eq-stack-lts.Need-same-length-7 (
   same-stack-reads.Asked,
   same-stack-reads.Learnt,
@@ -1318,7 +1318,7 @@ eq-stack-same-length-7 : (t : ℕ) → eq-stack-lts.Need-same-length-7 (
 ) (eq-stack-at t) eq-stack.Post eq-stack-Inv-loop eq-stack-μ-loop
 eq-stack-same-length-7 t c = same-len-mid ((c .before .before .before .before .before .before .before .before .before .s3) .given .0 .1 .0) (length ((c .before .before .before .before .before .before .before .before .before .before .before .before .before .before .before .next-pair) .last .1 .1 .1 .1 .1 .0) - ((c .before .before .before .before .before .before .before .before .before .s3) .given .0 .1 .0)) ((c .before .before .before .before .before .before .before .before .before .before .before .before .before .before .before .next-pair) .last .1 .1 .1 .1 .1 .0) ((c .before .before .before .before .before .eq-value2) .last .1 .1 .1 .1 .1 .1 .1 .1 .1 .1 .0) ((c .before .before .before .before .before .eq-value2) .kept .1 .1 .1 .1 .1 .1 .1 .1 .1 .1 .0) ∙ ((c .before .before .before .before .before .before .before .before .before .before .before .before .before .before .before .next-pair) .kept .1 .1 .1 .1 .1 .0) ∙ (c .before .before .before .before .before .before .before .before .before .before .before .before .before .before .before .before .before .before .loop) .inv .1 ∙ length-set ((c .before .before .before .before .before .before .before .before .before .before .before .before .before .before .before .before .before .before .before .before .before .before .before .before .before .before .args) .left .now) 0 ((c .before .before .before .before .before .before .before .before .before .before .before .before .before .before .before .before .before .before .before .before .before .before .before .before .before .before .args) .l)
 
--- src/lib.rt:590:21
+-- src/lib.rt:249:21
 eq-stack-same-length-8 : (t : ℕ) → eq-stack-lts.Need-same-length-8 (
   same-stack-reads.Asked,
   same-stack-reads.Learnt,
@@ -1329,7 +1329,7 @@ eq-stack-same-length-8 : (t : ℕ) → eq-stack-lts.Need-same-length-8 (
 ) (eq-stack-at t) eq-stack.Post eq-stack-Inv-loop eq-stack-μ-loop
 eq-stack-same-length-8 t c = same-len-mid ((c .before .before .before .before .before .before .before .before .before .s3) .given .0 .1 .1 .1 .0) (length ((c .before .before .before .before .before .before .before .before .before .before .before .before .before .before .before .next-pair) .last .1 .1 .1 .1 .1 .1 .1 .1 .1 .0) - ((c .before .before .before .before .before .before .before .before .before .s3) .given .0 .1 .1 .1 .0)) ((c .before .before .before .before .before .before .before .before .before .before .before .before .before .before .before .next-pair) .last .1 .1 .1 .1 .1 .1 .1 .1 .1 .0) ((c .before .before .before .before .before .eq-value2) .last .1 .1 .1 .1 .1 .1 .1 .1 .1 .1 .1 .0) ((c .before .before .before .before .before .eq-value2) .kept .1 .1 .1 .1 .1 .1 .1 .1 .1 .1 .1 .0) ∙ ((c .before .before .before .before .before .before .before .before .before .before .before .before .before .before .before .next-pair) .kept .1 .1 .1 .1 .1 .1 .1 .1 .1 .0) ∙ (c .before .before .before .before .before .before .before .before .before .before .before .before .before .before .before .before .before .before .loop) .inv .2 ∙ length-set ((c .before .before .before .before .before .before .before .before .before .before .before .before .before .before .before .before .before .before .before .before .before .before .before .before .before .before .args) .right .now) 0 ((c .before .before .before .before .before .before .before .before .before .before .before .before .before .before .before .before .before .before .before .before .before .before .before .before .before .before .args) .r)
 
--- src/lib.rt:590:21
+-- src/lib.rt:249:21
 eq-stack-returns-5 : (t : ℕ) → eq-stack-lts.Need-returns-5 (
   same-stack-reads.Asked,
   same-stack-reads.Learnt,
@@ -1374,7 +1374,7 @@ eq-stack-loop-again-3 t c =
     let w3 = w .3 in
     ((match-given (tab ((c .before .before .before .before .before .before .before .before .before .before .before .before .before .before .before .before .before .before .before .before .before .before .before .before .before .before .args) .rows .now) ((c .before .before .before .before .before .before .before .before .before .before .before .before .before .before .before .before .before .before .before .before .before .before .before .before .before .before .args) .parts .now)) (argsOf (tab ((c .before .before .before .before .before .before .before .before .before .before .before .before .before .before .before .before .before .before .before .before .before .before .before .before .before .before .args) .rows .now) ((c .before .before .before .before .before .before .before .before .before .before .before .before .before .before .before .before .before .before .before .before .before .before .before .before .before .before .args) .parts .now)) ((c .before .before .before .before .before .before .before .before .before .before .before .before .before .before .before .before .before .before .before .before .before .before .before .before .before .before .args) .args .now) ((c .before .before .before .before .before .before .before .before .before .before .before .before .before .before .before .before .before .before .before .before .before .before .before .before .before .before .args) .m)) ((c .before .before .before .before .before .before .before .before .before .before .before .before .before .before .before .before .before .before .before .before .before .before .before .before .before .before .args) .m) ((c .before .before .before .before .before .before .before .before .before .before .before .before .before .before .before .before .before .before .before .before .before .before .before .before .before .before .args) .by) ((c .before .before .before .before .before .before .before .before .before .before .before .before .before .before .before .before .before .before .before .before .before .before .before .before .before .before .args) .d) ((c .before .before .before .before .before .before .before .before .before .before .before .before .before .before .before .before .before .before .before .before .before .before .before .before .before .before .args) .l) ((c .before .before .before .before .before .before .before .before .before .before .before .before .before .before .before .before .before .before .before .before .before .before .before .before .before .before .args) .by2) ((c .before .before .before .before .before .before .before .before .before .before .before .before .before .before .before .before .before .before .before .before .before .before .before .before .before .before .args) .d2) ((c .before .before .before .before .before .before .before .before .before .before .before .before .before .before .before .before .before .before .before .before .before .before .before .before .before .before .args) .r) ((c .before .before .before .before .before .before .before .before .before .before .before .before .before .before .before .before .before .before .loop) .left) ((c .before .before .before .before .before .before .before .before .before .before .before .before .before .before .before .before .before .before .loop) .i) ((c .before .before .before .before .before .before .before .before .before .before .before .before .before .before .before .before .before .before .loop) .right) ((c .before .before .before .before .before .before .before .before .before .before .before .before .before .before .before .before .before .before .loop) .j) ((c .before .before .before .before .before .before .before .before .before .before .before .before .before .before .before .before .before .before .loop) .inv .0) ((c .before .before .before .before .before .before .before .before .before .before .before .before .before .before .before .next-pair) .last .1 .1 .1 .1 .1 .0) ((c .before .before .before .before .before .before .before .before .before .before .before .before .before .before .before .next-pair) .last .1 .1 .1 .1 .1 .1 .1 .1 .1 .0) (putMid ((c .before .before .before .before .before .before .before .before .before .s3) .given .0 .1 .0) (length ((c .before .before .before .before .before .before .before .before .before .before .before .before .before .before .before .next-pair) .last .1 .1 .1 .1 .1 .0) - ((c .before .before .before .before .before .before .before .before .before .s3) .given .0 .1 .0)) ((c .before .before .before .before .before .before .before .before .before .before .before .before .before .before .before .next-pair) .last .1 .1 .1 .1 .1 .0) ((c .before .before .before .before .before .eq-value2) .last .1 .1 .1 .1 .1 .1 .1 .1 .1 .1 .0)) (putMid ((c .before .before .before .before .before .before .before .before .before .s3) .given .0 .1 .1 .1 .0) (length ((c .before .before .before .before .before .before .before .before .before .before .before .before .before .before .before .next-pair) .last .1 .1 .1 .1 .1 .1 .1 .1 .1 .0) - ((c .before .before .before .before .before .before .before .before .before .s3) .given .0 .1 .1 .1 .0)) ((c .before .before .before .before .before .before .before .before .before .before .before .before .before .before .before .next-pair) .last .1 .1 .1 .1 .1 .1 .1 .1 .1 .0) ((c .before .before .before .before .before .eq-value2) .last .1 .1 .1 .1 .1 .1 .1 .1 .1 .1 .1 .0)) ((c .before .before .before .before .before .before .before .before .before .before .before .before .before .before .before .next-pair) .result) ((c .before .before .before .before .before .before .before .before .before .s3) .given .0 .0) ((c .before .before .before .before .before .before .before .before .before .s3) .given .0 .1 .0) ((c .before .before .before .before .before .before .before .before .before .s3) .given .0 .1 .1 .0) ((c .before .before .before .before .before .before .before .before .before .s3) .given .0 .1 .1 .1 .0) (agree-mid ((c .before .before .before .before .before .before .before .before .before .s3) .given .0 .1 .0) (length ((c .before .before .before .before .before .before .before .before .before .before .before .before .before .before .before .next-pair) .last .1 .1 .1 .1 .1 .0) - ((c .before .before .before .before .before .before .before .before .before .s3) .given .0 .1 .0)) ((c .before .before .before .before .before .before .before .before .before .before .before .before .before .before .before .next-pair) .last .1 .1 .1 .1 .1 .0) ((c .before .before .before .before .before .eq-value2) .last .1 .1 .1 .1 .1 .1 .1 .1 .1 .1 .0) (omega arith)) (agree-mid ((c .before .before .before .before .before .before .before .before .before .s3) .given .0 .1 .1 .1 .0) (length ((c .before .before .before .before .before .before .before .before .before .before .before .before .before .before .before .next-pair) .last .1 .1 .1 .1 .1 .1 .1 .1 .1 .0) - ((c .before .before .before .before .before .before .before .before .before .s3) .given .0 .1 .1 .1 .0)) ((c .before .before .before .before .before .before .before .before .before .before .before .before .before .before .before .next-pair) .last .1 .1 .1 .1 .1 .1 .1 .1 .1 .0) ((c .before .before .before .before .before .eq-value2) .last .1 .1 .1 .1 .1 .1 .1 .1 .1 .1 .1 .0) (omega arith)) ((c .before .before .before .before .before .before .before .before .before .before .before .before .before .before .before .next-pair) .ensures ((c .before .before .before .before .before .before .before .before .before .before .before .before .before .before .before .before .before .before .before .before .before .before .before .before .before .before .args) .parts .now)) ((c .before .before .before .before .before .before .before .before .before .s3) .given .1) ((c .before .before .before .before .before .eq-value2) .ensures ∙ plain-args (tab ((c .before .before .before .before .before .before .before .before .before .before .before .before .before .before .before .before .before .before .before .before .before .before .before .before .before .before .args) .rows .now) ((c .before .before .before .before .before .before .before .before .before .before .before .before .before .before .before .before .before .before .before .before .before .before .before .before .before .before .args) .parts .now)) ((c .before .before .before .before .before .before .before .before .before .before .before .before .before .before .before .before .before .before .before .before .before .before .before .before .before .before .args) .args .now) ((c .before .before .before .before .before .before .before .before .before .before .before .before .before .before .before .before .before .before .before .before .before .before .before .before .before .before .args) .d) ((c .before .before .before .before .before .before .before .before .before .s3) .given .0 .0) ((c .before .before .before .before .before .before .before .before .before .before .before .before .before .before .before .before .before .before .before .before .before .before .before .before .before .before .args) .by2) ((c .before .before .before .before .before .before .before .before .before .before .before .before .before .before .before .before .before .before .before .before .before .before .before .before .before .before .args) .d2) ((c .before .before .before .before .before .before .before .before .before .s3) .given .0 .1 .1 .0)) (not-true ((c .if3) .left))) .0, same-len-mid ((c .before .before .before .before .before .before .before .before .before .s3) .given .0 .1 .0) (length ((c .before .before .before .before .before .before .before .before .before .before .before .before .before .before .before .next-pair) .last .1 .1 .1 .1 .1 .0) - ((c .before .before .before .before .before .before .before .before .before .s3) .given .0 .1 .0)) ((c .before .before .before .before .before .before .before .before .before .before .before .before .before .before .before .next-pair) .last .1 .1 .1 .1 .1 .0) ((c .before .before .before .before .before .eq-value2) .last .1 .1 .1 .1 .1 .1 .1 .1 .1 .1 .0) ((c .before .before .before .before .before .eq-value2) .kept .1 .1 .1 .1 .1 .1 .1 .1 .1 .1 .0) ∙ ((c .before .before .before .before .before .before .before .before .before .before .before .before .before .before .before .next-pair) .kept .1 .1 .1 .1 .1 .0) ∙ (c .before .before .before .before .before .before .before .before .before .before .before .before .before .before .before .before .before .before .loop) .inv .1, same-len-mid ((c .before .before .before .before .before .before .before .before .before .s3) .given .0 .1 .1 .1 .0) (length ((c .before .before .before .before .before .before .before .before .before .before .before .before .before .before .before .next-pair) .last .1 .1 .1 .1 .1 .1 .1 .1 .1 .0) - ((c .before .before .before .before .before .before .before .before .before .s3) .given .0 .1 .1 .1 .0)) ((c .before .before .before .before .before .before .before .before .before .before .before .before .before .before .before .next-pair) .last .1 .1 .1 .1 .1 .1 .1 .1 .1 .0) ((c .before .before .before .before .before .eq-value2) .last .1 .1 .1 .1 .1 .1 .1 .1 .1 .1 .1 .0) ((c .before .before .before .before .before .eq-value2) .kept .1 .1 .1 .1 .1 .1 .1 .1 .1 .1 .1 .0) ∙ ((c .before .before .before .before .before .before .before .before .before .before .before .before .before .before .before .next-pair) .kept .1 .1 .1 .1 .1 .1 .1 .1 .1 .0) ∙ (c .before .before .before .before .before .before .before .before .before .before .before .before .before .before .before .before .before .before .loop) .inv .2)
 
--- src/lib.rt:353:8
+-- src/lib.rt:38:8
 eq-value-same-place-requires : (t : ℕ) → eq-value-lts.Need-same-place-requires (
   same-place-reads.Asked,
   same-place-reads.Learnt,
@@ -1397,7 +1397,7 @@ eq-value-same-place-requires : (t : ℕ) → eq-value-lts.Need-same-place-requir
 ) (eq-value-at t) eq-value.Post
 eq-value-same-place-requires t c κs = search needs
 
--- src/lib.rt:354:9
+-- src/lib.rt:39:9
 eq-value-returns : (t : ℕ) → eq-value-lts.Need-returns (
   same-place-reads.Asked,
   same-place-reads.Learnt,
@@ -1420,7 +1420,7 @@ eq-value-returns : (t : ℕ) → eq-value-lts.Need-returns (
 ) (eq-value-at t) eq-value.Post
 eq-value-returns t c = place-value (tab ((c .before .before .before .before .before .before .before .args) .rows .now) ((c .before .before .before .before .before .before .before .args) .parts .now)) ((c .before .before .before .before .before .before .before .args) .args .now) ((c .before .before .before .before .before .before .before .args) .m) ((c .before .before .before .before .before .before .before .args) .by) ((c .before .before .before .before .before .before .before .args) .d) ((c .before .before .before .before .before .before .before .args) .l) ((c .before .before .before .before .before .before .before .args) .by2) ((c .before .before .before .before .before .before .before .args) .d2) ((c .before .before .before .before .before .before .before .args) .r) ((c .before .same-place) .ensures) ((c .if1) .taken)
 
--- src/lib.rt:356:9
+-- src/lib.rt:41:9
 eq-value-read-value-requires : (t : ℕ) → eq-value-lts.Need-read-value-requires (
   same-place-reads.Asked,
   same-place-reads.Learnt,
@@ -1446,7 +1446,7 @@ eq-value-read-value-requires t c κs =
     let q = few-left (tab ((c .before .before .before .before .before .before .before .args) .rows .now) ((c .before .before .before .before .before .before .before .args) .parts .now)) ((c .before .before .before .before .before .before .before .args) .args .now) ((c .before .before .before .before .before .before .before .pre) .1 .0) in
     (omega arith, omega arith)
 
--- src/lib.rt:357:9
+-- src/lib.rt:42:9
 eq-value-read-value-requires-2 : (t : ℕ) → eq-value-lts.Need-read-value-requires-2 (
   same-place-reads.Asked,
   same-place-reads.Learnt,
@@ -1472,7 +1472,7 @@ eq-value-read-value-requires-2 t c κs =
     let q = few-right (tab ((c .before .before .before .before .before .before .before .before .args) .rows .now) ((c .before .before .before .before .before .before .before .before .args) .parts .now)) ((c .before .before .before .before .before .before .before .before .args) .args .now) ((c .before .before .before .before .before .before .before .before .pre) .1 .0) in
     (omega arith, omega arith)
 
--- src/lib.rt:358:9
+-- src/lib.rt:43:9
 eq-value-pair-up-requires : (t : ℕ) → eq-value-lts.Need-pair-up-requires (
   same-place-reads.Asked,
   same-place-reads.Learnt,
@@ -1495,7 +1495,7 @@ eq-value-pair-up-requires : (t : ℕ) → eq-value-lts.Need-pair-up-requires (
 ) (eq-value-at t) eq-value.Post
 eq-value-pair-up-requires t c κs = search needs
 
--- src/lib.rt:360:23
+-- src/lib.rt:45:23
 eq-value-enum-told : (t : ℕ) → eq-value-lts.Need-enum-told (
   same-place-reads.Asked,
   same-place-reads.Learnt,
@@ -1518,7 +1518,7 @@ eq-value-enum-told : (t : ℕ) → eq-value-lts.Need-enum-told (
 ) (eq-value-at t) eq-value.Post
 eq-value-enum-told t c = search needs
 
--- src/lib.rt:361:25
+-- src/lib.rt:46:25
 eq-value-enum-told-2 : (t : ℕ) → eq-value-lts.Need-enum-told-2 (
   same-place-reads.Asked,
   same-place-reads.Learnt,
@@ -1541,7 +1541,7 @@ eq-value-enum-told-2 : (t : ℕ) → eq-value-lts.Need-enum-told-2 (
 ) (eq-value-at t) eq-value.Post
 eq-value-enum-told-2 t c = search needs
 
--- src/lib.rt:362:22
+-- src/lib.rt:47:22
 eq-value-enum-known-p : (t : ℕ) → eq-value-lts.Need-enum-known-p (
   same-place-reads.Asked,
   same-place-reads.Learnt,
@@ -1564,7 +1564,7 @@ eq-value-enum-known-p : (t : ℕ) → eq-value-lts.Need-enum-known-p (
 ) (eq-value-at t) eq-value.Post
 eq-value-enum-known-p t c = search needs
 
--- src/lib.rt:363:17
+-- src/lib.rt:48:17
 eq-value-at-requires : (t : ℕ) → eq-value-lts.Need-at-requires (
   same-place-reads.Asked,
   same-place-reads.Learnt,
@@ -1587,7 +1587,7 @@ eq-value-at-requires : (t : ℕ) → eq-value-lts.Need-at-requires (
 ) (eq-value-at t) eq-value.Post
 eq-value-at-requires t c κs = search needs
 
--- src/lib.rt:364:16
+-- src/lib.rt:49:16
 eq-value-is-stack-requires : (t : ℕ) → eq-value-lts.Need-is-stack-requires (
   same-place-reads.Asked,
   same-place-reads.Learnt,
@@ -1612,7 +1612,7 @@ eq-value-is-stack-requires t c κs =
     let q = (c .at) .ensures .1 in
     omega arith
 
--- src/lib.rt:365:17
+-- src/lib.rt:50:17
 eq-value-returns-2 : (t : ℕ) → eq-value-lts.Need-returns-2 (
   same-place-reads.Asked,
   same-place-reads.Learnt,
@@ -1637,7 +1637,7 @@ eq-value-returns-2 t c =
     let ok = pair-ok ((c .before .before .before .before .before .before .before .before .before .before .before .before .before .before .before .before .args) .m) ((c .before .before .before .before .before .before .before .before .before .before .before .before .before .before .before .before .args) .l) ((c .before .before .before .before .before .before .before .before .before .before .before .before .before .before .before .before .args) .r) ((c .before .before .before .before .before .before .before .before .read-value) .result) ((c .before .before .before .before .before .before .before .read-value2) .result) ((c .before .before .before .before .before .before .before .before .read-value) .ensures .1) ((c .before .before .before .before .before .before .before .read-value2) .ensures .1) ((c .before .before .before .before .before .before .pair-up) .ensures) ((c .before .before .before .before .p) .given .1) in
     filled-not (tab ((c .before .before .before .before .before .before .before .before .before .before .before .before .before .before .before .before .args) .rows .now) ((c .before .before .before .before .before .before .before .before .before .before .before .before .before .before .before .before .args) .parts .now)) ((c .before .before .before .before .before .before .before .before .before .before .before .before .before .before .before .before .args) .args .now) ((c .before .before .before .before .before .before .before .before .before .before .before .before .before .before .before .before .args) .m) ((c .before .before .before .before .before .before .before .before .before .before .before .before .before .before .before .before .args) .by) ((c .before .before .before .before .before .before .before .before .before .before .before .before .before .before .before .before .args) .d) ((c .before .before .before .before .before .before .before .before .before .before .before .before .before .before .before .before .args) .by2) ((c .before .before .before .before .before .before .before .before .before .before .before .before .before .before .before .before .args) .d2) ((c .before .before .before .before .before .before .before .before .before .before .before .before .before .before .before .before .args) .r) ((c .before .before .before .before .p) .given .0 .0) ((c .before .before .at) .result) ok ((c .before .before .at) .ensures .0) ((c .before .is-stack) .ensures) ((c .if2) .taken) ∙ value-pair (tab ((c .before .before .before .before .before .before .before .before .before .before .before .before .before .before .before .before .args) .rows .now) ((c .before .before .before .before .before .before .before .before .before .before .before .before .before .before .before .before .args) .parts .now)) (argsOf (tab ((c .before .before .before .before .before .before .before .before .before .before .before .before .before .before .before .before .args) .rows .now) ((c .before .before .before .before .before .before .before .before .before .before .before .before .before .before .before .before .args) .parts .now)) ((c .before .before .before .before .before .before .before .before .before .before .before .before .before .before .before .before .args) .args .now) ((c .before .before .before .before .before .before .before .before .before .before .before .before .before .before .before .before .args) .m)) ((c .before .before .before .before .before .before .before .before .before .before .before .before .before .before .before .before .args) .by) ((c .before .before .before .before .before .before .before .before .before .before .before .before .before .before .before .before .args) .d) ((c .before .before .before .before .before .before .before .before .before .before .before .before .before .before .before .before .args) .by2) ((c .before .before .before .before .before .before .before .before .before .before .before .before .before .before .before .before .args) .d2) ((c .before .before .before .before .before .before .before .before .before .before .before .before .before .before .before .before .args) .m) ((c .before .before .before .before .before .before .before .before .before .before .before .before .before .before .before .before .args) .l) ((c .before .before .before .before .before .before .before .before .before .before .before .before .before .before .before .before .args) .r) (length-args (tab ((c .before .before .before .before .before .before .before .before .before .before .before .before .before .before .before .before .args) .rows .now) ((c .before .before .before .before .before .before .before .before .before .before .before .before .before .before .before .before .args) .parts .now)) ((c .before .before .before .before .before .before .before .before .before .before .before .before .before .before .before .before .args) .args .now) ((c .before .before .before .before .before .before .before .before .before .before .before .before .before .before .before .before .args) .m)) ((c .before .before .before .before .before .before .before .before .read-value) .ensures .0) ((c .before .before .before .before .before .before .before .read-value2) .ensures .0) ((c .before .before .before .before .before .before .before .read-value2) .ensures .1) ((c .before .before .before .before .before .before .pair-up) .ensures) ((c .before .before .before .before .p) .given .1)
 
--- src/lib.rt:367:50
+-- src/lib.rt:52:50
 eq-value-add-eq-value : (t : ℕ) → eq-value-lts.Need-add-eq-value (
   same-place-reads.Asked,
   same-place-reads.Learnt,
@@ -1662,7 +1662,7 @@ eq-value-add-eq-value t c =
     let q = (c .before .before .at) .ensures .1 in
     omega arith
 
--- src/lib.rt:367:13
+-- src/lib.rt:52:13
 eq-value-eq-value-requires : (t : ℕ) → eq-value-lts.Need-eq-value-requires (
   same-place-reads.Asked,
   same-place-reads.Learnt,
@@ -1694,7 +1694,7 @@ eq-value-eq-value-requires t c κs =
     let f = few-arg (tab ((c .before .before .before .before .before .before .before .before .before .before .before .before .before .before .before .before .before .before .args) .rows .now) ((c .before .before .before .before .before .before .before .before .before .before .before .before .before .before .before .before .before .before .args) .parts .now)) ((c .before .before .before .before .before .before .before .before .before .before .before .before .before .before .before .before .before .before .args) .args .now) ((c .before .before .before .before .before .before .p) .given .0 .0) ((c .before .before .before .before .before .before .before .before .before .before .before .before .before .before .before .before .before .before .pre) .1 .0) ok in
     (omega arith, (tabled-arg (tab ((c .before .before .before .before .before .before .before .before .before .before .before .before .before .before .before .before .before .before .args) .rows .now) ((c .before .before .before .before .before .before .before .before .before .before .before .before .before .before .before .before .before .before .args) .parts .now)) ((c .before .before .before .before .before .before .before .before .before .before .before .before .before .before .before .before .before .before .args) .args .now) ((c .before .before .before .before .before .before .p) .given .0 .0) ((c .before .before .before .before .at) .result) ((c .before .before .before .before .before .before .before .before .before .before .before .before .before .before .before .before .before .before .args) .r) ((c .before .before .before .before .before .before .before .before .before .before .before .before .before .before .before .before .before .before .pre) .1 .0) ok ((c .before .before .before .before .at) .ensures .0) (omega arith), omega arith, rr, spare-arg ((c .before .before .before .before .before .before .before .before .before .before .before .before .before .before .before .before .before .before .args) .m) ((c .before .before .before .before .before .before .before .before .before .before .before .before .before .before .before .before .before .before .args) .l) ((c .before .before .before .before .before .before .before .before .before .before .before .before .before .before .before .before .before .before .args) .r) (length ((c .before .before .before .before .before .before .before .before .before .before .before .before .before .before .before .before .before .before .args) .left .now)) (length ((c .before .before .before .before .before .before .before .before .before .before .before .before .before .before .before .before .before .before .args) .right .now)) ((c .before .before .before .before .at) .result + 1) ((c .before .before .before .before .before .before .p) .given .0 .0) ((c .before .before .before .before .before .before .before .before .before .before .before .before .before .before .before .before .before .before .pre) .1 .3) ok (omega arith)))
 
--- src/lib.rt:369:22
+-- src/lib.rt:54:22
 eq-value-enum-known-p-2 : (t : ℕ) → eq-value-lts.Need-enum-known-p-2 (
   same-place-reads.Asked,
   same-place-reads.Learnt,
@@ -1717,7 +1717,7 @@ eq-value-enum-known-p-2 : (t : ℕ) → eq-value-lts.Need-enum-known-p-2 (
 ) (eq-value-at t) eq-value.Post
 eq-value-enum-known-p-2 t c = search needs
 
--- src/lib.rt:369:34
+-- src/lib.rt:54:34
 eq-value-eq-parts-requires : (t : ℕ) → eq-value-lts.Need-eq-parts-requires (
   same-place-reads.Asked,
   same-place-reads.Learnt,
@@ -1748,7 +1748,7 @@ eq-value-eq-parts-requires t c κs =
     let o2 = ok .2 in
     (omega arith, (((c .before .before .before .before .before .before .before .before .before .before .before .before .before .before .before .pre) .1 .0), omega arith, omega arith, ok .3, ok .4, o2, omega arith, omega arith, ((c .before .before .before .before .before .before .before .before .before .before .before .before .before .before .before .pre) .1 .3)))
 
--- src/lib.rt:387:24
+-- src/lib.rt:72:24
 eq-value-enum-known-p-3 : (t : ℕ) → eq-value-lts.Need-enum-known-p-3 (
   same-place-reads.Asked,
   same-place-reads.Learnt,
@@ -1771,7 +1771,7 @@ eq-value-enum-known-p-3 : (t : ℕ) → eq-value-lts.Need-enum-known-p-3 (
 ) (eq-value-at t) eq-value.Post
 eq-value-enum-known-p-3 t c = search needs
 
--- src/lib.rt:387:33
+-- src/lib.rt:72:33
 eq-value-eq-stack-requires : (t : ℕ) → eq-value-lts.Need-eq-stack-requires (
   same-place-reads.Asked,
   same-place-reads.Learnt,
@@ -1801,7 +1801,7 @@ eq-value-eq-stack-requires t c κs =
     let o1 = ok .1 in
     (omega arith, (tabled-low (tab ((c .before .before .before .before .before .before .before .before .before .before .before .before .before .before .before .args) .rows .now) ((c .before .before .before .before .before .before .before .before .before .before .before .before .before .before .before .args) .parts .now)) ((c .before .before .before .before .before .before .before .before .before .before .before .before .before .before .before .args) .args .now) ((c .before .before .before .p3) .given .0 .0) ((c .before .before .before .p3) .given .0 .1 .0) ((c .before .before .before .before .before .before .before .before .before .before .before .before .before .before .before .pre) .1 .0) (omega arith) (omega arith), omega arith, omega arith, spare-low ((c .before .before .before .before .before .before .before .before .before .before .before .before .before .before .before .args) .m) ((c .before .before .before .before .before .before .before .before .before .before .before .before .before .before .before .args) .l) ((c .before .before .before .before .before .before .before .before .before .before .before .before .before .before .before .args) .r) (length ((c .before .before .before .before .before .before .before .before .before .before .before .before .before .before .before .args) .left .now)) (length ((c .before .before .before .before .before .before .before .before .before .before .before .before .before .before .before .args) .right .now)) ((c .before .before .before .p3) .given .0 .0) ((c .before .before .before .p3) .given .0 .1 .0) ((c .before .before .before .before .before .before .before .before .before .before .before .before .before .before .before .pre) .1 .3) (omega arith) (omega arith)))
 
--- src/lib.rt:388:21
+-- src/lib.rt:73:21
 eq-value-enum-known-p-4 : (t : ℕ) → eq-value-lts.Need-enum-known-p-4 (
   same-place-reads.Asked,
   same-place-reads.Learnt,
@@ -1824,7 +1824,7 @@ eq-value-enum-known-p-4 : (t : ℕ) → eq-value-lts.Need-enum-known-p-4 (
 ) (eq-value-at t) eq-value.Post
 eq-value-enum-known-p-4 t c = search needs
 
--- src/lib.rt:388:36
+-- src/lib.rt:73:36
 eq-value-eq-code-requires : (t : ℕ) → eq-value-lts.Need-eq-code-requires (
   same-place-reads.Asked,
   same-place-reads.Learnt,

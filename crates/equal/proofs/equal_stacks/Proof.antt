@@ -12,23 +12,23 @@ use Rattle.equal.proofs.equal_stacks.Lts as lts
 use Rattle.equal.proofs.eq_stack.Reads as eq-stack-reads
 use Rattle.equal.proofs.link_of.Reads as link-of-reads
 
--- src/lib.rt:641:9
+-- src/lib.rt:300:9
 link-of-requires : tie.Need-link-of-requires
 link-of-requires c κs = (c .before .before .pre)
 
--- src/lib.rt:642:9
+-- src/lib.rt:301:9
 link-of-requires-2 : tie.Need-link-of-requires-2
 link-of-requires-2 c κs = (c .before .before .before .pre)
 
--- src/lib.rt:656:9
+-- src/lib.rt:315:9
 slice-aggregate-eq-stack : tie.Need-slice-aggregate-eq-stack
 slice-aggregate-eq-stack c = search needs
 
--- src/lib.rt:657:9
+-- src/lib.rt:316:9
 slice-aggregate-eq-stack-2 : tie.Need-slice-aggregate-eq-stack-2
 slice-aggregate-eq-stack-2 c = search needs
 
--- src/lib.rt:645:5
+-- src/lib.rt:304:5
 eq-stack-requires : tie.Need-eq-stack-requires
 eq-stack-requires c κs =
     let fw = (c .before .before .before .before .before .before .pre) in
@@ -36,7 +36,7 @@ eq-stack-requires c κs =
     let b = link-few (tab ((c .before .before .before .before .before .before .args) .rows .now) ((c .before .before .before .before .before .before .args) .parts .now)) ((c .before .before .before .before .before .before .args) .rows .now) ((c .before .before .before .before .before .before .args) .n) ((c .before .before .link-of2) .result) ((c .before .before .before .before .before .before .args) .r) ((c .before .before .link-of2) .ensures) in
     (tabled-plain (tab ((c .before .before .before .before .before .before .args) .rows .now) ((c .before .before .before .before .before .before .args) .parts .now)) ((c .before .before .before .before .before .before .args) .rows .now) ((c .before .before .before .before .before .before .args) .n) ((c .before .before .before .link-of) .result) ((c .before .before .link-of2) .result) ((c .before .before .before .before .before .before .args) .l) ((c .before .before .before .before .before .before .args) .r) fw ((c .before .before .before .link-of) .ensures) ((c .before .before .link-of2) .ensures), omega arith, omega arith, spare-plain (tab ((c .before .before .before .before .before .before .args) .rows .now) ((c .before .before .before .before .before .before .args) .parts .now)) ((c .before .before .before .before .before .before .args) .rows .now) ((c .before .before .before .before .before .before .args) .n) ((c .before .before .before .link-of) .result) ((c .before .before .link-of2) .result) ((c .before .before .before .before .before .before .args) .l) ((c .before .before .before .before .before .before .args) .r) fw ((c .before .before .before .link-of) .ensures) ((c .before .before .link-of2) .ensures))
 
--- src/lib.rt:637:1
+-- src/lib.rt:296:1
 returns : tie.Need-returns
 returns c = stacks-are (tab ((c .before .before .before .before .before .before .before .before .before .args) .rows .now) ((c .before .before .before .before .before .before .before .before .before .args) .parts .now)) ((c .before .before .before .before .before .before .before .before .before .args) .rows .now) ((c .before .before .before .before .before .before .before .before .before .args) .n) ((c .before .before .before .before .before .before .link-of) .result) ((c .before .before .before .before .before .link-of2) .result) ((c .before .before .before .before .before .before .before .before .before .args) .l) ((c .before .before .before .before .before .before .before .before .before .args) .r) ((c .before .before .before .before .before .before .link-of) .ensures) ((c .before .before .before .before .before .link-of2) .ensures) ((c .before .before .eq-stack) .ensures)
 

@@ -12,23 +12,23 @@ use Rattle.equal.proofs.equal_values.Lts as lts
 use Rattle.equal.proofs.eq_value.Reads as eq-value-reads
 use Rattle.equal.proofs.link_of.Reads as link-of-reads
 
--- src/lib.rt:616:9
+-- src/lib.rt:275:9
 link-of-requires : tie.Need-link-of-requires
 link-of-requires c κs = (c .before .before .pre)
 
--- src/lib.rt:617:9
+-- src/lib.rt:276:9
 link-of-requires-2 : tie.Need-link-of-requires-2
 link-of-requires-2 c κs = (c .before .before .before .pre)
 
--- src/lib.rt:631:9
+-- src/lib.rt:290:9
 slice-aggregate-eq-value : tie.Need-slice-aggregate-eq-value
 slice-aggregate-eq-value c = search needs
 
--- src/lib.rt:632:9
+-- src/lib.rt:291:9
 slice-aggregate-eq-value-2 : tie.Need-slice-aggregate-eq-value-2
 slice-aggregate-eq-value-2 c = search needs
 
--- src/lib.rt:620:5
+-- src/lib.rt:279:5
 eq-value-requires : tie.Need-eq-value-requires
 eq-value-requires c κs =
     let fw = (c .before .before .before .before .before .before .pre) in
@@ -36,7 +36,7 @@ eq-value-requires c κs =
     let b = link-few (tab ((c .before .before .before .before .before .before .args) .rows .now) ((c .before .before .before .before .before .before .args) .parts .now)) ((c .before .before .before .before .before .before .args) .rows .now) ((c .before .before .before .before .before .before .args) .n) ((c .before .before .link-of2) .result) ((c .before .before .before .before .before .before .args) .r) ((c .before .before .link-of2) .ensures) in
     (tabled-plain (tab ((c .before .before .before .before .before .before .args) .rows .now) ((c .before .before .before .before .before .before .args) .parts .now)) ((c .before .before .before .before .before .before .args) .rows .now) ((c .before .before .before .before .before .before .args) .n) ((c .before .before .before .link-of) .result) ((c .before .before .link-of2) .result) ((c .before .before .before .before .before .before .args) .l) ((c .before .before .before .before .before .before .args) .r) fw ((c .before .before .before .link-of) .ensures) ((c .before .before .link-of2) .ensures), omega arith, omega arith, spare-plain (tab ((c .before .before .before .before .before .before .args) .rows .now) ((c .before .before .before .before .before .before .args) .parts .now)) ((c .before .before .before .before .before .before .args) .rows .now) ((c .before .before .before .before .before .before .args) .n) ((c .before .before .before .link-of) .result) ((c .before .before .link-of2) .result) ((c .before .before .before .before .before .before .args) .l) ((c .before .before .before .before .before .before .args) .r) fw ((c .before .before .before .link-of) .ensures) ((c .before .before .link-of2) .ensures))
 
--- src/lib.rt:612:1
+-- src/lib.rt:271:1
 returns : tie.Need-returns
 returns c = values-are (tab ((c .before .before .before .before .before .before .before .before .before .args) .rows .now) ((c .before .before .before .before .before .before .before .before .before .args) .parts .now)) ((c .before .before .before .before .before .before .before .before .before .args) .rows .now) ((c .before .before .before .before .before .before .before .before .before .args) .n) ((c .before .before .before .before .before .before .link-of) .result) ((c .before .before .before .before .before .link-of2) .result) ((c .before .before .before .before .before .before .before .before .before .args) .l) ((c .before .before .before .before .before .before .before .before .before .args) .r) ((c .before .before .before .before .before .before .link-of) .ensures) ((c .before .before .before .before .before .link-of2) .ensures) ((c .before .before .eq-value) .ensures)
 

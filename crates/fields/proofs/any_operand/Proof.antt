@@ -14,7 +14,7 @@ use Rattle.text.specs.Bytes.{split}
 use Rattle.text.specs.Grammar.{carried, operand}
 use Rattle.lines.specs.Parts.{firstPart}
 use Rattle.numbers.proofs.Laws.{part-from}
-use Rattle.fields.specs.Answers.{answerOf, argsOf}
+use Rattle.plain_operands.specs.Answers.{answerOf, argsOf}
 use Rattle.fields.proofs.Stores.{fits-next}
 use Rattle.fields.proofs.Operands.{nothing-is, plain-is, field-plain, field-more, field-sides}
 use Rattle.fields.proofs.any_operand.Statement.{statement}

@@ -2,14 +2,14 @@ use mathlib.Core.Path.{_≡_, ap, sym, _∙_}
 use Prim.Native.Nat.{_+_}
 use native.Mathlib.Omega.{arith}
 use Rattle.lines.proofs.InLine.{field-read, field-part}
-use Rattle.fields.proofs.PlacedLaws.{plain-operand, any-at}
+use Rattle.fields.proofs.Placed.{plain-operand, any-at}
 use borrow.Author.Needs.{needs}
 use Rattle.fields.proofs.operand_at.Statement.{statement}
 use Rattle.fields.proofs.operand_at.Tie as tie
 use Rattle.fields.proofs.operand_at.Reads as reads
 use Rattle.fields.proofs.operand_at.Lts as lts
 use Rattle.fields.proofs.any_operand.Reads as any-operand-reads
-use Rattle.fields.proofs.plain_at.Reads as plain-at-reads
+use Rattle.plain_operands.proofs.plain_at.Reads as plain-at-reads
 use Rattle.lines.proofs.field_end.Reads as field-end-reads
 
 -- src/lib.rt:510:9

@@ -10,7 +10,7 @@ use Rattle.text.specs.Bytes.{split}
 use Rattle.text.specs.Grammar.{rowNumber}
 use Rattle.lines.proofs.Parts.{end-from, end-within, split-more, split-last}
 use Rattle.fields.specs.Pieces.{orZero, rowsIn}
-use Rattle.fields.proofs.Stores.{sets-out, sets-one}
+use Rattle.names.proofs.Stores.{sets-out, sets-one}
 use Rattle.fields.proofs.Operands.{rows-cons, rows-one}
 use Rattle.fields.proofs.put_rows.Statement.{statement}
 use Rattle.fields.proofs.put_rows.Tie as tie

@@ -9,7 +9,7 @@ use Rattle.judge.proofs.judge.Lts as lts
 use Rattle.judge.proofs.has_operands.Reads as has-operands-reads
 use Rattle.judge.proofs.operand_form.Reads as operand-form-reads
 use Rattle.judge.proofs.plain_form.Reads as plain-form-reads
-use Rattle.judge_forms.proofs.entry.Reads as entry-reads
+use Rattle.instr_codes.proofs.entry.Reads as entry-reads
 
 -- src/lib.rt:225:9
 entry-requires : tie.Need-entry-requires

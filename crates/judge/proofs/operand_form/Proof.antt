@@ -11,8 +11,8 @@ use Rattle.judge.proofs.operand_form.Tie as tie
 use Rattle.judge.proofs.operand_form.Reads as reads
 use Rattle.judge.proofs.operand_form.Lts as lts
 use Rattle.judge.proofs.has_target.Reads as has-target-reads
-use Rattle.judge_forms.proofs.jump_form.Reads as jump-form-reads
-use Rattle.judge_forms.proofs.value_form.Reads as value-form-reads
+use Rattle.operand_forms.proofs.jump_form.Reads as jump-form-reads
+use Rattle.operand_forms.proofs.value_form.Reads as value-form-reads
 
 -- src/lib.rt:86:8
 has-target-requires : tie.Need-has-target-requires

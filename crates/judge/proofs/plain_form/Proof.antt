@@ -9,9 +9,9 @@ use Rattle.judge.proofs.plain_form.Statement.{statement}
 use Rattle.judge.proofs.plain_form.Tie as tie
 use Rattle.judge.proofs.plain_form.Reads as reads
 use Rattle.judge.proofs.plain_form.Lts as lts
-use Rattle.judge_forms.proofs.heap_form.Reads as heap-form-reads
-use Rattle.judge_forms.proofs.item_form.Reads as item-form-reads
-use Rattle.judge_forms.proofs.sp_form.Reads as sp-form-reads
+use Rattle.plain_forms.proofs.heap_form.Reads as heap-form-reads
+use Rattle.plain_forms.proofs.item_form.Reads as item-form-reads
+use Rattle.plain_forms.proofs.sp_form.Reads as sp-form-reads
 
 -- src/lib.rt:140:13
 heap-form-requires : tie.Need-heap-form-requires

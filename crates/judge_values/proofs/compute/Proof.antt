@@ -8,7 +8,7 @@ use Rattle.valid.specs.PassThree.{operand}
 use Rattle.context.specs.Context.{regsOf}
 use Rattle.typing.specs.Typing.{typesIn}
 use Rattle.operands.specs.Operands.{operandTable}
-use Rattle.operands.proofs.Lists.{ten}
+use Rattle.operands.proofs.Filling.{ten}
 use Rattle.judge_heap.specs.Forms.{held}
 use Rattle.judge_values.proofs.Laws.{computes-none, computes, int-type}
 use borrow.Author.Needs.{needs}

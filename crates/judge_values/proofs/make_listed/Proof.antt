@@ -16,8 +16,8 @@ use Rattle.judge_values.proofs.make_listed.Reads as reads
 use Rattle.judge_values.proofs.make_listed.Lts as lts
 use Rattle.context.proofs.least.Reads as least-reads
 use Rattle.judge_heap.proofs.set_register.Reads as set-register-reads
-use Rattle.operands.proofs.operand_list.Reads as operand-list-reads
-use Rattle.operands.proofs.same_tuple.Reads as same-tuple-reads
+use Rattle.components.proofs.operand_list.Reads as operand-list-reads
+use Rattle.components.proofs.same_tuple.Reads as same-tuple-reads
 use Rattle.typing.proofs.formed_row.Reads as formed-row-reads
 use Rattle.typing.proofs.given_row.Reads as given-row-reads
 

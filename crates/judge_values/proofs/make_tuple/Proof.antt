@@ -16,7 +16,7 @@ use Rattle.judge_values.proofs.make_tuple.Reads as reads
 use Rattle.judge_values.proofs.make_tuple.Lts as lts
 use Rattle.judge_heap.proofs.set_register.Reads as set-register-reads
 use Rattle.judge_values.proofs.make_listed.Reads as make-listed-reads
-use Rattle.operands.proofs.plain_tuple.Reads as plain-tuple-reads
+use Rattle.plain_components.proofs.plain_tuple.Reads as plain-tuple-reads
 use Rattle.typing.proofs.formed_row.Reads as formed-row-reads
 use Rattle.typing.proofs.given_row.Reads as given-row-reads
 

@@ -8,7 +8,7 @@ use Rattle.context.specs.Context.{regsOf}
 use Rattle.typing.specs.Typing.{typesIn}
 use Rattle.typing.proofs.Judging.{mov-stops, mov-goes}
 use Rattle.operands.specs.Operands.{operandTable}
-use Rattle.operands.proofs.Lists.{ten}
+use Rattle.operands.proofs.Filling.{ten}
 use Rattle.judge_heap.specs.Forms.{held}
 use borrow.Author.Needs.{needs}
 use Rattle.judge_values.proofs.move_to.Statement.{statement}

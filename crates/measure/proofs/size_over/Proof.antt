@@ -3,7 +3,7 @@ use mathlib.Core.Path.{_≡_, ap, sym, _∙_, subst}
 use Prim.Native.Nat.{ℕ, _+_, _-_}
 use mathlib.Core.List.{List}
 use Rattle.rows.specs.Read.{tab}
-use Rattle.measure.specs.Size.{Measured}
+use Rattle.row_size.specs.Size.{Measured}
 use Rattle.measure.proofs.Sizes.{is-over, not-over, measured-kept}
 use borrow.Author.Needs.{needs}
 use Rattle.measure.proofs.size_over.Statement.{statement}
@@ -11,7 +11,7 @@ use Rattle.measure.proofs.size_over.Tie as tie
 use Rattle.measure.proofs.size_over.Reads as reads
 use Rattle.measure.proofs.size_over.Lts as lts
 use Rattle.measure.proofs.keep_size.Reads as keep-size-reads
-use Rattle.measure.proofs.spend_row.Reads as spend-row-reads
+use Rattle.row_size.proofs.spend_row.Reads as spend-row-reads
 
 -- src/lib.rt:141:46
 add-spend-row : tie.Need-add-spend-row

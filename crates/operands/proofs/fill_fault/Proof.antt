@@ -17,29 +17,29 @@ use Rattle.operands.proofs.fill_fault.Statement.{statement}
 use Rattle.operands.proofs.fill_fault.Tie as tie
 use Rattle.operands.proofs.fill_fault.Reads as reads
 use Rattle.operands.proofs.fill_fault.Lts as lts
-use Rattle.equal.proofs.filled.Reads as filled-reads
-use Rattle.operands.proofs.base_type.Reads as base-type-reads
+use Rattle.filling.proofs.filled.Reads as filled-reads
+use Rattle.bases.proofs.base_type.Reads as base-type-reads
 use Rattle.operands.proofs.is_closed.Reads as is-closed-reads
 use Rattle.typing.proofs.code.Reads as code-reads
 use Rattle.typing.proofs.given_row.Reads as given-row-reads
 use Rattle.typing.proofs.letters_fit.Reads as letters-fit-reads
 
--- src/lib.rt:142:9
+-- src/lib.rt:58:9
 base-type-requires : tie.Need-base-type-requires
 base-type-requires c κs = ((c .before .before .before .before .before .before .before .pre) .0, (c .before .before .before .before .before .before .before .pre) .1)
 
--- src/lib.rt:144:9
+-- src/lib.rt:60:9
 returns : tie.Need-returns
 returns c =
     let a = (c .before .before .before .before .before .before .before .before .before .before .args) in
     let T : List Arg = typesIn (a .rows .now) (a .parts .now) (a .n) in
     λ P Δ f h e. applied-stops P Δ (regsOf T (a .regs .now)) f (baseOf (a .kind) (a .number)) (map (λ (x : ℕ). getD T x (arg value junk)) (a .args .now)) (a .t) ((c .before .before .base-type) .result .fault) (typeAt value T ((c .before .before .base-type) .result .row)) ((c .before .before .base-type) .ensures .0 P Δ h) ((c .if1) .taken)
 
--- src/lib.rt:146:9
+-- src/lib.rt:62:9
 code-requires : tie.Need-code-requires
 code-requires c κs = ((c .before .before .before .before .before .before .before .before .before .before .pre) .0, omega (arith, (c .before .before .base-type) .ensures .1, (c .before .before .before .before .before .before .before .before .before .before .pre) .0 .few))
 
--- src/lib.rt:148:9
+-- src/lib.rt:64:9
 returns-2 : tie.Need-returns-2
 returns-2 c =
     let a = (c .before .before .before .before .before .before .before .before .before .before .before .before .before .args) in
@@ -47,11 +47,11 @@ returns-2 c =
     let k = (c .before .before .code) .result in
     λ P Δ f h e. applied-plain P Δ (regsOf T (a .regs .now)) f (baseOf (a .kind) (a .number)) (map (λ (x : ℕ). getD T x (arg value junk)) (a .args .now)) (a .t) ((c .before .before .before .before .before .base-type) .result .fault) (typeAt value T ((c .before .before .before .before .before .base-type) .result .row)) ((c .before .before .before .before .before .base-type) .ensures .0 P Δ h) ((c .before .before .before .if1) .left) (when-is (k .is) false (codeIn (a .rows .now) (a .parts .now) (k .link) (k .stack) (k .start)) ((c .before .before .code) .ensures .0) (not-yes ((c .if2) .taken)))
 
--- src/lib.rt:150:9
+-- src/lib.rt:66:9
 letters-fit-requires : tie.Need-letters-fit-requires
 letters-fit-requires c κs = ((c .before .before .before .before .before .before .before .before .before .before .before .before .before .pre) .0 .few, (c .before .before .code) .ensures .3, (c .before .before .before .before .before .before .before .before .before .before .before .before .before .pre) .2)
 
--- src/lib.rt:151:9
+-- src/lib.rt:67:9
 returns-3 : tie.Need-returns-3
 returns-3 c =
     let a = (c .before .before .before .before .before .before .before .before .before .before .before .before .before .before .before .args) in
@@ -59,23 +59,23 @@ returns-3 c =
     let k = (c .before .before .before .before .code) .result in
     λ P Δ f h e. applied-letters P Δ (regsOf T (a .regs .now)) f (baseOf (a .kind) (a .number)) (map (λ (x : ℕ). getD T x (arg value junk)) (a .args .now)) (a .t) ((c .before .before .before .before .before .before .before .base-type) .result .fault) (typeAt value T ((c .before .before .before .before .before .before .before .base-type) .result .row)) (codeIn (a .rows .now) (a .parts .now) (k .link) (k .stack) (k .start)) ((c .before .before .before .before .before .before .before .base-type) .ensures .0 P Δ h) ((c .before .before .before .before .before .if1) .left) (when-is (k .is) true (codeIn (a .rows .now) (a .parts .now) (k .link) (k .stack) (k .start)) ((c .before .before .before .before .code) .ensures .0) (not-no ((c .before .before .if2) .left))) (when-is ((c .before .letters-fit) .result) false (lettersLess (a .parts .now) (k .start) (length (a .args .now))) ((c .before .letters-fit) .ensures P Δ) (not-yes ((c .if3) .taken)))
 
--- src/lib.rt:153:9
+-- src/lib.rt:69:9
 is-closed-requires : tie.Need-is-closed-requires
 is-closed-requires c κs = (c .before .before .before .before .before .before .before .before .before .before .before .before .before .before .before .pre) .3
 
--- src/lib.rt:157:9
+-- src/lib.rt:73:9
 add-filled : tie.Need-add-filled
 add-filled c = let f = (c .before .before .before .before .before .before .before .before .before .before .before .before .before .before .before .before .pre) .0 .few in omega arith
 
--- src/lib.rt:161:9
+-- src/lib.rt:77:9
 given-row-requires : tie.Need-given-row-requires
 given-row-requires c κs = (c .before .before .before .before .before .before .before .before .before .before .before .before .before .before .before .before .pre) .0 .few
 
--- src/lib.rt:154:8
+-- src/lib.rt:70:8
 filled-requires : tie.Need-filled-requires
 filled-requires c κs = (let f = (c .before .before .before .before .before .before .before .before .before .before .before .before .before .before .before .before .before .pre) .0 .few in omega arith, (c .before .before .before .before .before .before .before .before .before .before .before .before .before .before .before .before .before .pre) .2, (c .before .is-closed) .ensures)
 
--- src/lib.rt:163:9
+-- src/lib.rt:79:9
 returns-4 : tie.Need-returns-4
 returns-4 c =
     let a = (c .before .before .before .before .before .before .before .before .before .before .before .before .before .before .before .before .before .before .before .args) in
@@ -83,7 +83,7 @@ returns-4 c =
     let k = (c .before .before .before .before .before .before .before .before .code) .result in
     λ P Δ f h e. filled-told P Δ (a .rows .now) (a .parts .now) (a .n) ((c .before .before .before .before .before .before .before .before .before .before .before .before .before .before .before .before .before .before .before .pre) .0) (h .types) (regsOf T (a .regs .now)) f (baseOf (a .kind) (a .number)) (map (λ (x : ℕ). getD T x (arg value junk)) (a .args .now)) (a .t) ((c .before .before .before .before .before .before .before .before .before .before .before .base-type) .result .fault) ((c .before .before .given-row) .result) (typeAt value T ((c .before .before .before .before .before .before .before .before .before .before .before .base-type) .result .row)) (codeIn (a .rows .now) (a .parts .now) (k .link) (k .stack) (k .start)) (lettersLess (a .parts .now) (k .start) (length (a .args .now))) true e ((c .before .before .before .before .before .before .before .before .before .before .before .base-type) .ensures .0 P Δ h) ((c .before .before .before .before .before .before .before .before .before .if1) .left) (when-is (k .is) true (codeIn (a .rows .now) (a .parts .now) (k .link) (k .stack) (k .start)) ((c .before .before .before .before .before .before .before .before .code) .ensures .0) (not-no ((c .before .before .before .before .before .before .if2) .left))) (when-is ((c .before .before .before .before .before .letters-fit) .result) true (lettersLess (a .parts .now) (k .start) (length (a .args .now))) ((c .before .before .before .before .before .letters-fit) .ensures P Δ) (not-no ((c .before .before .before .before .if3) .left))) ((c .before .before .given-row) .ensures .0) ((c .before .filled) .ensures) ((c .if4) .taken)
 
--- src/lib.rt:125:1
+-- src/lib.rt:41:1
 returns-5 : tie.Need-returns-5
 returns-5 c =
     let a = (c .before .before .before .before .before .before .before .before .before .before .before .before .before .before .before .before .before .before .before .args) in

@@ -14,29 +14,29 @@ use Rattle.operands.proofs.operand.Statement.{statement}
 use Rattle.operands.proofs.operand.Tie as tie
 use Rattle.operands.proofs.operand.Reads as reads
 use Rattle.operands.proofs.operand.Lts as lts
-use Rattle.operands.proofs.base_type.Reads as base-type-reads
+use Rattle.bases.proofs.base_type.Reads as base-type-reads
 use Rattle.operands.proofs.instance.Reads as instance-reads
-use Rattle.operands.proofs.number_at.Reads as number-at-reads
-use Rattle.operands.proofs.entry.Reads as entry-reads
+use Rattle.bases.proofs.number_at.Reads as number-at-reads
+use Rattle.bases.proofs.entry.Reads as entry-reads
 use Rattle.typing.proofs.given_row.Reads as given-row-reads
 
--- src/lib.rt:185:9
+-- src/lib.rt:101:9
 entry-requires : tie.Need-entry-requires
 entry-requires c κs = search needs
 
--- src/lib.rt:186:9
+-- src/lib.rt:102:9
 entry-requires-2 : tie.Need-entry-requires-2
 entry-requires-2 c κs = search needs
 
--- src/lib.rt:187:9
+-- src/lib.rt:103:9
 number-at-requires : tie.Need-number-at-requires
 number-at-requires c κs = search needs
 
--- src/lib.rt:189:9
+-- src/lib.rt:105:9
 base-type-requires : tie.Need-base-type-requires
 base-type-requires c κs = ((c .before .before .before .before .before .before .before .before .before .before .before .before .before .before .pre) .0, (c .before .number-at) .ensures .1)
 
--- src/lib.rt:189:9
+-- src/lib.rt:105:9
 returns : tie.Need-returns
 returns c =
     let a = (c .before .before .before .before .before .before .before .before .before .before .before .before .before .before .before .args) in
@@ -44,30 +44,30 @@ returns c =
     let Δ : List Kind = map letterOf (span (a .parts .now) (a .l) (a .q)) in
     (λ P f h e. plain-told P Δ f (regsOf (typesIn (a .rows .now) (a .parts .now) (a .n)) (a .regs .now)) (operandAt ω (a .v)) (baseOf ((c .before .before .before .before .entry) .result) ((c .before .before .number-at) .result)) _ _ (plain-at ω (a .v) ((c .before .before .before .before .entry) .result) ((c .before .before .before .entry2) .result) ((c .before .before .number-at) .result) ((c .before .before .before .before .entry) .ensures .0) ((c .before .before .before .entry2) .ensures .0) ((c .before .before .number-at) .ensures .0) ((c .before .if1) .taken)) ((c .base-type) .ensures .0 P Δ h), (c .base-type) .ensures .1)
 
--- src/lib.rt:191:9
+-- src/lib.rt:107:9
 entry-requires-3 : tie.Need-entry-requires-3
 entry-requires-3 c κs = search needs
 
--- src/lib.rt:192:88
+-- src/lib.rt:108:88
 mul-instance : tie.Need-mul-instance
 mul-instance c = search needs
 
--- src/lib.rt:192:9
+-- src/lib.rt:108:9
 instance-requires : tie.Need-instance-requires
 instance-requires c κs =
     let a = (c .before .before .before .before .before .before .before .before .before .before .before .before .before .before .before .before .args) in
     let ω : OperandTable = operandTable (a .operands .now) (a .numbers .now) (a .args .now) in
     ((c .before .before .before .before .before .before .before .before .before .before .before .before .before .before .before .before .pre) .0, (c .before .before .before .before .before .before .before .before .before .before .before .before .before .before .before .before .pre) .1, (c .before .before .before .number-at) .ensures .1, few-args ω (a .v) ((c .before .before .before .before .before .entry) .result) ((c .before .before .before .before .entry2) .result) ((c .before .before .before .number-at) .result) ((c .before .entry3) .result) ((c .before .before .before .before .before .entry) .ensures .0) ((c .before .before .before .before .entry2) .ensures .0) ((c .before .before .before .number-at) .ensures .0) ((c .before .entry3) .ensures .0) ((c .before .before .if1) .left) ((c .before .before .before .before .before .before .before .before .before .before .before .before .before .before .before .before .pre) .2), (c .before .before .before .before .before .before .before .before .before .before .before .before .before .before .before .before .pre) .4, omega (arith, (c .before .before .before .before .before .before .before .before .before .before .before .before .before .before .before .before .pre) .3))
 
--- src/lib.rt:193:28
+-- src/lib.rt:109:28
 given-row-requires : tie.Need-given-row-requires
 given-row-requires c κs = (c .before .before .before .before .before .before .before .before .before .before .before .before .before .before .before .before .before .before .before .pre) .0 .few
 
--- src/lib.rt:165:1
+-- src/lib.rt:81:1
 same-length : tie.Need-same-length
 same-length c = search needs
 
--- src/lib.rt:165:1
+-- src/lib.rt:81:1
 returns-2 : tie.Need-returns-2
 returns-2 c =
     let a = (c .before .before .before .before .before .before .before .before .before .before .before .before .before .before .before .before .before .before .before .before .args) in

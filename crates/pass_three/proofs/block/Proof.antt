@@ -14,8 +14,8 @@ use Rattle.pass_three.proofs.block.Reads as reads
 use Rattle.pass_three.proofs.block.Lts as lts
 use Rattle.entry.proofs.block_fault.Reads as block-fault-reads
 use Rattle.pass_three.proofs.block_end.Reads as block-end-reads
-use Rattle.pass_three.proofs.code_block.Reads as code-block-reads
-use Rattle.pass_three.proofs.on_line.Reads as on-line-reads
+use Rattle.block_body.proofs.code_block.Reads as code-block-reads
+use Rattle.finding.proofs.on_line.Reads as on-line-reads
 use Rattle.rows.proofs.at.Reads as at-reads
 use Rattle.rows.proofs.link.Reads as link-reads
 use Rattle.rows.proofs.read_value.Reads as read-value-reads

@@ -13,16 +13,16 @@ use Rattle.valid.specs.PassThree.{passThree}
 use Rattle.rows.specs.Read.{tab}
 use Rattle.premises.specs.Answers.{Holds}
 use Rattle.operands.specs.Operands.{operandTable}
-use Rattle.pass_three.specs.Found.{Refuses}
-use Rattle.pass_three.proofs.Lines.{refuses-as, none-found}
+use Rattle.finding.specs.Found.{Refuses}
+use Rattle.finding.proofs.Laws.{refuses-as, none-found}
 use Rattle.pass_three.proofs.Blocks.{blocksLeft, block-next, block-found, blocks-end, whole, no-block, length-all}
 use Rattle.pass_three.proofs.pass_three.Statement.{statement}
 use Rattle.pass_three.proofs.pass_three.Tie as tie
 use Rattle.pass_three.proofs.pass_three.Reads as reads
 use Rattle.pass_three.proofs.pass_three.Lts as lts
 use Rattle.pass_three.proofs.block.Reads as block-reads
-use Rattle.pass_three.proofs.nothing.Reads as nothing-reads
-use Rattle.pass_three.proofs.on_line.Reads as on-line-reads
+use Rattle.finding.proofs.nothing.Reads as nothing-reads
+use Rattle.finding.proofs.on_line.Reads as on-line-reads
 
 abbrev Inv-loop : tie.InvT-loop
 Inv-loop rows parts n uses tops blocks nb instrs ni operands numbers args regs₀ sp₀ work₀ b₀ regs sp work b = ((length regs ≡ length regs₀) × (length sp ≡ length sp₀) × (length work ≡ length work₀)) × ((P : Program) → Holds (tab rows parts) n blocks nb P → P .blocks ≡ blocksOf (typesOf (rowsIn (tab rows parts) n)) (blocksFrom blocks instrs (operandTable operands numbers args) ni 0 nb) → blocksLeft P (typesOf (rowsIn (tab rows parts) n)) blocks instrs (operandTable operands numbers args) ni n nb b ≡ lowestLine 0 (passThree P))

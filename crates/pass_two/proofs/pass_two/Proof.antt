@@ -2,7 +2,7 @@
 use mathlib.Core.List.{[]}
 use Rattle.tables.specs.Tables.{blocksFrom}
 use Rattle.rows.specs.Read.{tab}
-use Rattle.refs.specs.Refs.{operandTable}
+use Rattle.instr_refs.specs.Instrs.{operandTable}
 use Rattle.pass_two.proofs.Laws.{at-row, behind-rows, measured-none}
 use Prim.Native.Nat.{_≤_}
 use borrow.Author.Needs.{needs}

@@ -11,7 +11,7 @@ use Rattle.pass_two.proofs.row_fault.Tie as tie
 use Rattle.pass_two.proofs.row_fault.Reads as reads
 use Rattle.pass_two.proofs.row_fault.Lts as lts
 use Rattle.measure.proofs.size_over.Reads as size-over-reads
-use Rattle.refs.proofs.row_fault.Reads as row-fault-reads
+use Rattle.row_refs.proofs.row_fault.Reads as row-fault-reads
 
 -- src/lib.rt:23:9
 row-fault-requires : tie.Need-row-fault-requires

@@ -9,7 +9,7 @@ use Rattle.tables.specs.Tables.{rowsIn}
 use Rattle.rows.specs.Read.{tab}
 use Rattle.refs.specs.Refs.{refusalOf}
 use Rattle.pass_two.proofs.Laws.{rowsLeft, rows-start, rows-next, rows-found, rows-end}
-use Rattle.measure.specs.Size.{Measured}
+use Rattle.row_size.specs.Size.{Measured}
 use borrow.Author.Needs.{needs}
 use Rattle.pass_two.proofs.rows_fault.Statement.{statement}
 use Rattle.pass_two.proofs.rows_fault.Tie as tie

@@ -1,7 +1,7 @@
 -- `refs::cell2` meets its contract. Past the end stands 0.
 use Prim.Native.Nat.{_+_, _*_}
 use native.Mathlib.Omega.{arith}
-use Rattle.refs.proofs.References.{past}
+use Rattle.row_refs.proofs.References.{past}
 use borrow.Author.Needs.{needs}
 use Rattle.refs.proofs.cell2.Statement.{statement}
 use Rattle.refs.proofs.cell2.Tie as tie

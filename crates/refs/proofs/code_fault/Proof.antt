@@ -8,7 +8,8 @@ use Rattle.text.proofs.Entries.{entriesIn}
 use Rattle.tables.specs.Tables.{rowsIn, blocksFrom}
 use Rattle.types.specs.Rows.{entriesFaults}
 use Rattle.rows.specs.Read.{tab}
-use Rattle.refs.specs.Refs.{operandTable, foundOf}
+use Rattle.instr_refs.specs.Instrs.{operandTable}
+use Rattle.refs.specs.Refs.{foundOf}
 use Rattle.refs.proofs.Lines.{blocksLeft, blocks-start, block-found, body-found, block-next, blocks-end}
 use Rattle.refs.proofs.code_fault.Statement.{statement}
 use Rattle.refs.proofs.code_fault.Tie as tie

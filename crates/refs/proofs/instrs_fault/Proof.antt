@@ -5,7 +5,7 @@ use mathlib.Core.Path.{_≡_, refl, sym, _∙_}
 use mathlib.Core.List.{List}
 use Rattle.tables.specs.Tables.{rowsIn}
 use Rattle.rows.specs.Read.{tab}
-use Rattle.refs.specs.Refs.{operandTable}
+use Rattle.instr_refs.specs.Instrs.{operandTable}
 use Rattle.refs.proofs.Lines.{instrsLeft, instrs-found, instrs-next, instrs-end}
 use Rattle.refs.proofs.instrs_fault.Statement.{statement}
 use Rattle.refs.proofs.instrs_fault.Tie as tie

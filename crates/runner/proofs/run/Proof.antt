@@ -2,14 +2,18 @@ use native.Mathlib.Omega.{arith}
 use borrow.Author.Needs.{needs}
 use Rattle.runner.proofs.run.Statement.{statement}
 use Rattle.runner.proofs.run.Tie as tie
+use Rattle.runner.proofs.run.Reads as reads
+use Rattle.runner.proofs.run.Lts as lts
+use Rattle.predecode.proofs.predecode.Reads as predecode-reads
+use Rattle.runner.proofs.run_rows.Reads as run-rows-reads
 
 predecode-requires : tie.Need-predecode-requires
 predecode-requires c κs = ((c .before .before .before .before .before .before .before .before .before .before .before .before .pre) .1, (c .before .before .before .before .before .before .before .before .before .before .before .before .pre) .0 .few)
 
 run-rows-requires : tie.Need-run-rows-requires
 run-rows-requires c κs =
-    let p = c .before .before .before .before .before .before .before .before .before .before .before .before .before .before .before .before .before .before .before .before .before .before .pre in
-    ((c .before .before .before .before .before .before .before .before .before .predecode) .ensures, p .0, omega (arith, p .1, (c .before .before .before .before .before .before .before .before .before .predecode) .kept .1 .1 .1 .1 .1 .1 .0), p .2, p .3, p .4, p .5, p .6, p .7, p .8, p .9, p .10)
+    let p = (c .before .before .before .before .before .before .before .before .before .before .before .before .before .before .before .before .before .before .before .before .before .before .pre) in
+    ((c .before .before .before .before .before .before .before .before .before .predecode) .ensures, p .0, omega (arith, p .1, (c .before .before .before .before .before .before .before .before .before .predecode) .kept .1 .1 .1 .1 .1 .1 .0), p .2, p .3, p .4, p .5, p .6, p .7, p .8, p .9, p .10, p .11)
 
 same-length : tie.Need-same-length
 same-length c = search needs

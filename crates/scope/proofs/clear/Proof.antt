@@ -17,23 +17,23 @@ Inv-loop uses₀ from to i₀ uses i = (from ≤ i) × (length uses ≡ length u
 abbrev μ-loop : tie.MeasureT-loop
 μ-loop uses₀ from to i₀ uses i = to - i
 
--- src/lib.rt:324:5
+-- src/lib.rt:79:5
 loop-holds : tie.Need-loop-holds Inv-loop μ-loop
 loop-holds c = (omega arith, refl, clear-first ((c .args) .uses .now) ((c .args) .from) ((c .args) .to))
 
--- src/lib.rt:325:9
+-- src/lib.rt:80:9
 slice-write-uses : tie.Need-slice-write-uses Inv-loop μ-loop
 slice-write-uses c = search needs
 
--- src/lib.rt:326:9
+-- src/lib.rt:81:9
 add-i : tie.Need-add-i Inv-loop μ-loop
 add-i c = search needs
 
--- src/lib.rt:324:5
+-- src/lib.rt:79:5
 loop-less : tie.Need-loop-less Inv-loop μ-loop
 loop-less c = search needs
 
--- src/lib.rt:324:5
+-- src/lib.rt:79:5
 loop-again : tie.Need-loop-again Inv-loop μ-loop
 loop-again c =
     let a = (c .before .before .args) in
@@ -42,11 +42,11 @@ loop-again c =
     let t = (c .loop-test) .taken in
     (omega arith, simp length-set (l .inv .1), clear-next (a .uses .now) (l .uses) (a .from) (a .to) (l .i) (l .inv .0) (omega arith) (l .inv .2))
 
--- src/lib.rt:319:1
+-- src/lib.rt:74:1
 same-length : tie.Need-same-length Inv-loop μ-loop
 same-length c = (c .before .loop) .inv .1
 
--- src/lib.rt:319:1
+-- src/lib.rt:74:1
 returns : tie.Need-returns Inv-loop μ-loop
 returns c = clear-last ((c .before .before .args) .uses .now) ((c .before .loop) .uses) ((c .before .before .args) .from) ((c .before .before .args) .to) ((c .before .loop) .i) ((c .loop-test) .left) ((c .before .loop) .inv .2)
 

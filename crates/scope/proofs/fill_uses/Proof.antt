@@ -5,7 +5,7 @@ use Prim.Native.Nat.{_+_, _*_, _≤_, _-_}
 use native.Mathlib.Omega.{arith}
 use native.Mathlib.Nat.{not-suc-le-zero}
 use lib.ListN.{length, length-set}
-use Rattle.scope.specs.Free.{topOf, freeIn}
+use Rattle.variables.specs.Free.{topOf, freeIn}
 use Rattle.rows.specs.Read.{tab}
 use Rattle.scope.specs.Scoped.{rowType, Free}
 use Rattle.scope.proofs.Laws.{Filled, free-kept, filled-more, top-none, top-more, use-now, row-from}
@@ -15,8 +15,8 @@ use Rattle.scope.proofs.fill_uses.Tie as tie
 use Rattle.scope.proofs.fill_uses.Reads as reads
 use Rattle.scope.proofs.fill_uses.Lts as lts
 use Rattle.scope.proofs.clear.Reads as clear-reads
-use Rattle.scope.proofs.entry.Reads as entry-reads
-use Rattle.scope.proofs.form_use.Reads as form-use-reads
+use Rattle.variables.proofs.entry.Reads as entry-reads
+use Rattle.variables.proofs.form_use.Reads as form-use-reads
 use Rattle.scope.proofs.limit_of.Reads as limit-of-reads
 use Rattle.scope.proofs.raised.Reads as raised-reads
 
@@ -26,57 +26,57 @@ Inv-loop rows parts uses₀ r bound c a b limit top₀ k₀ uses top k = (k ≤ 
 abbrev μ-loop : tie.MeasureT-loop
 μ-loop rows parts uses₀ r bound c a b limit top₀ k₀ uses top k = limit - k
 
--- src/lib.rt:335:9
+-- src/lib.rt:90:9
 entry-requires : tie.Need-entry-requires Inv-loop μ-loop
 entry-requires c κs = search needs
 
--- src/lib.rt:336:9
+-- src/lib.rt:91:9
 entry-requires-2 : tie.Need-entry-requires-2 Inv-loop μ-loop
 entry-requires-2 c κs = search needs
 
--- src/lib.rt:337:9
+-- src/lib.rt:92:9
 entry-requires-3 : tie.Need-entry-requires-3 Inv-loop μ-loop
 entry-requires-3 c κs = search needs
 
--- src/lib.rt:338:9
+-- src/lib.rt:93:9
 limit-of-requires : tie.Need-limit-of-requires Inv-loop μ-loop
 limit-of-requires c κs = search needs
 
--- src/lib.rt:341:5
+-- src/lib.rt:96:5
 loop-holds : tie.Need-loop-holds Inv-loop μ-loop
 loop-holds c =
     let a = (c .before .before .before .before .before .before .before .args) in
     (omega arith, refl, (c .before .before .before .before .before .before .before .pre) .2, (λ j h. absurd (not-suc-le-zero h)), top-none (λ j. freeIn j (rowType (tab (a .rows .now) (a .parts .now)) (a .r))))
 
--- src/lib.rt:342:13
+-- src/lib.rt:97:13
 form-use-requires : tie.Need-form-use-requires Inv-loop μ-loop
 form-use-requires c κs = search needs
 
--- src/lib.rt:343:14
+-- src/lib.rt:98:14
 mul-uses : tie.Need-mul-uses Inv-loop μ-loop
 mul-uses c = search needs
 
--- src/lib.rt:343:14
+-- src/lib.rt:98:14
 add-uses : tie.Need-add-uses Inv-loop μ-loop
 add-uses c = search needs
 
--- src/lib.rt:343:9
+-- src/lib.rt:98:9
 slice-write-uses : tie.Need-slice-write-uses Inv-loop μ-loop
 slice-write-uses c = search needs
 
--- src/lib.rt:344:9
+-- src/lib.rt:99:9
 raised-requires : tie.Need-raised-requires Inv-loop μ-loop
 raised-requires c κs = search needs
 
--- src/lib.rt:345:9
+-- src/lib.rt:100:9
 add-k : tie.Need-add-k Inv-loop μ-loop
 add-k c = search needs
 
--- src/lib.rt:341:5
+-- src/lib.rt:96:5
 loop-less : tie.Need-loop-less Inv-loop μ-loop
 loop-less c = search needs
 
--- src/lib.rt:341:5
+-- src/lib.rt:96:5
 loop-again : tie.Need-loop-again Inv-loop μ-loop
 loop-again c =
     let a = (c .before .before .before .before .before .before .before .before .before .before .before .before .args) in
@@ -90,31 +90,31 @@ loop-again c =
       top-more (λ j. freeIn j (rowType τ (a .r))) (l .k) (l .inv .4) e ((c .raised) .ensures),
     )
 
--- src/lib.rt:347:17
+-- src/lib.rt:102:17
 mul-clear : tie.Need-mul-clear Inv-loop μ-loop
 mul-clear c = search needs
 
--- src/lib.rt:347:17
+-- src/lib.rt:102:17
 add-clear : tie.Need-add-clear Inv-loop μ-loop
 add-clear c = search needs
 
--- src/lib.rt:347:33
+-- src/lib.rt:102:33
 mul-clear-2 : tie.Need-mul-clear-2 Inv-loop μ-loop
 mul-clear-2 c = search needs
 
--- src/lib.rt:347:33
+-- src/lib.rt:102:33
 add-clear-2 : tie.Need-add-clear-2 Inv-loop μ-loop
 add-clear-2 c = search needs
 
--- src/lib.rt:347:5
+-- src/lib.rt:102:5
 clear-requires : tie.Need-clear-requires Inv-loop μ-loop
 clear-requires c κs = search needs
 
--- src/lib.rt:331:1
+-- src/lib.rt:86:1
 same-length : tie.Need-same-length Inv-loop μ-loop
 same-length c = (c .before .before .clear) .kept .0 ∙ (c .before .before .before .before .before .loop) .inv .1
 
--- src/lib.rt:331:1
+-- src/lib.rt:86:1
 returns : tie.Need-returns Inv-loop μ-loop
 returns c =
     let a = (c .before .before .before .before .before .before .before .before .before .before .before .before .before .args) in

@@ -21,13 +21,13 @@ Inv-loop rows parts uses₀ tops₀ n bound₀ r₀ uses tops bound r = (r ≤ n
 abbrev μ-loop : tie.MeasureT-loop
 μ-loop rows parts uses₀ tops₀ n bound₀ r₀ uses tops bound r = n - r
 
--- src/lib.rt:395:5
+-- src/lib.rt:150:5
 loop-holds : tie.Need-loop-holds Inv-loop μ-loop
 loop-holds c =
     let a = (c .before .before .before .before .args) in
     (omega arith, refl, refl, scoped-none (tab (a .rows .now) (a .parts .now)) (a .uses .now) (a .tops .now), omega arith, within-none (tab (a .rows .now) (a .parts .now)))
 
--- src/lib.rt:396:9
+-- src/lib.rt:151:9
 find-uses-requires : tie.Need-find-uses-requires Inv-loop μ-loop
 find-uses-requires c κs =
     let l = (c .before .before .before .loop) in
@@ -35,15 +35,15 @@ find-uses-requires c κs =
     let t = (c .before .before .loop-test) .taken in
     (omega arith, omega arith, p .2 (l .r) t, l .inv .3, l .inv .4, l .inv .5)
 
--- src/lib.rt:397:9
+-- src/lib.rt:152:9
 add-r : tie.Need-add-r Inv-loop μ-loop
 add-r c = search needs
 
--- src/lib.rt:395:5
+-- src/lib.rt:150:5
 loop-less : tie.Need-loop-less Inv-loop μ-loop
 loop-less c = search needs
 
--- src/lib.rt:395:5
+-- src/lib.rt:150:5
 loop-again : tie.Need-loop-again Inv-loop μ-loop
 loop-again c =
     let a = (c .before .before .before .before .before .before .before .before .before .before .before .before .before .args) in
@@ -51,15 +51,15 @@ loop-again c =
     let f = (c .before .before .before .before .find-uses) in
     (omega arith, omega arith, omega arith, rw add-one (f .ensures .0), f .ensures .1, rw add-one (f .ensures .2))
 
--- src/lib.rt:389:1
+-- src/lib.rt:144:1
 same-length : tie.Need-same-length Inv-loop μ-loop
 same-length c = (c .before .loop) .inv .1
 
--- src/lib.rt:389:1
+-- src/lib.rt:144:1
 same-length-2 : tie.Need-same-length-2 Inv-loop μ-loop
 same-length-2 c = (c .before .loop) .inv .2
 
--- src/lib.rt:389:1
+-- src/lib.rt:144:1
 returns : tie.Need-returns Inv-loop μ-loop
 returns c =
     let a = (c .before .before .before .before .before .before .args) in

@@ -1,6 +1,6 @@
 -- `scope::find_uses` meets its contract.
 use native.Mathlib.Omega.{arith}
-use Rattle.scope.specs.Free.{freeIn}
+use Rattle.variables.specs.Free.{freeIn}
 use Rattle.rows.specs.Read.{tab}
 use Rattle.scope.specs.Scoped.{rowType}
 use Rattle.scope.proofs.Rows.{top-le}
@@ -17,15 +17,15 @@ use Rattle.scope.proofs.larger.Reads as larger-reads
 use Rattle.scope.proofs.mark.Reads as mark-reads
 use Rattle.scope.proofs.row_respected.Reads as row-respected-reads
 
--- src/lib.rt:382:9
+-- src/lib.rt:137:9
 row-respected-requires : tie.Need-row-respected-requires
 row-respected-requires c κs = search needs
 
--- src/lib.rt:383:9
+-- src/lib.rt:138:9
 fill-uses-requires : tie.Need-fill-uses-requires
 fill-uses-requires c κs = ((c .before .before .before .before .before .before .before .before .pre) .0, (c .before .before .before .before .before .before .before .before .pre) .2, (c .before .before .before .before .before .before .before .before .pre) .3 .free, (c .before .before .before .before .before .before .before .before .pre) .4, (c .before .before .before .before .before .before .before .before .pre) .5)
 
--- src/lib.rt:384:15
+-- src/lib.rt:139:15
 mark-requires : tie.Need-mark-requires
 mark-requires c κs =
     let a = (c .before .before .before .before .before .before .before .before .before .before .before .args) in
@@ -33,27 +33,27 @@ mark-requires c κs =
     let e = (c .before .before .fill-uses) .ensures .0 in
     omega arith
 
--- src/lib.rt:384:5
+-- src/lib.rt:139:5
 mul-tops : tie.Need-mul-tops
 mul-tops c = search needs
 
--- src/lib.rt:384:5
+-- src/lib.rt:139:5
 slice-write-tops : tie.Need-slice-write-tops
 slice-write-tops c = search needs
 
--- src/lib.rt:385:5
+-- src/lib.rt:140:5
 larger-requires : tie.Need-larger-requires
 larger-requires c κs = search needs
 
--- src/lib.rt:371:1
+-- src/lib.rt:126:1
 same-length : tie.Need-same-length
 same-length c = search needs
 
--- src/lib.rt:371:1
+-- src/lib.rt:126:1
 same-length-2 : tie.Need-same-length-2
 same-length-2 c = search needs
 
--- src/lib.rt:371:1
+-- src/lib.rt:126:1
 returns : tie.Need-returns
 returns c =
     let a = (c .before .before .before .before .before .before .before .before .before .before .before .before .before .args) in

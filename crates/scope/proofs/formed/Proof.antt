@@ -6,10 +6,11 @@ use mathlib.Core.List.{map}
 use Prim.Native.Nat.{_≤_, _-_}
 use native.Mathlib.Omega.{arith}
 use Rattle.tables.specs.Tables.{span, letterOf}
-use Rattle.scope.specs.Free.{fitTo}
+use Rattle.variables.specs.Free.{fitTo}
 use Rattle.rows.specs.Read.{tab}
-use Rattle.scope.specs.Scoped.{useAt}
-use Rattle.scope.proofs.Laws.{fit-none, fit-more, formed-not, formed-unfit, formed-fit}
+use Rattle.variables.specs.Uses.{useAt}
+use Rattle.variables.proofs.Laws.{fit-none, fit-more}
+use Rattle.scope.proofs.Laws.{formed-not, formed-unfit, formed-fit}
 use Rattle.scope.proofs.formed.Statement.{statement}
 use Rattle.scope.proofs.formed.Tie as tie
 

@@ -6,11 +6,11 @@ use Rattle.scope.proofs.larger.Tie as tie
 use Rattle.scope.proofs.larger.Reads as reads
 use Rattle.scope.proofs.larger.Lts as lts
 
--- src/lib.rt:355:9
+-- src/lib.rt:110:9
 returns : tie.Need-returns
 returns c = larger-b ((c .before .args) .a) ((c .before .args) .b) ((c .if1) .taken)
 
--- src/lib.rt:351:1
+-- src/lib.rt:106:1
 returns-2 : tie.Need-returns-2
 returns-2 c = larger-a ((c .before .args) .a) ((c .before .args) .b) ((c .if1) .left)
 

@@ -7,15 +7,15 @@ use Rattle.scope.proofs.limit_of.Tie as tie
 use Rattle.scope.proofs.limit_of.Reads as reads
 use Rattle.scope.proofs.limit_of.Lts as lts
 
--- src/lib.rt:310:9
+-- src/lib.rt:65:9
 returns : tie.Need-returns
 returns c = (limit-value ((c .before .args) .c) ((c .before .args) .bound) ((c .if1) .taken), omega arith)
 
--- src/lib.rt:313:9
+-- src/lib.rt:68:9
 returns-2 : tie.Need-returns-2
 returns-2 c = (limit-stack ((c .before .before .args) .c) ((c .before .before .args) .bound) ((c .before .if1) .left) ((c .if2) .taken), omega arith)
 
--- src/lib.rt:305:1
+-- src/lib.rt:60:1
 returns-3 : tie.Need-returns-3
 returns-3 c = (limit-other ((c .before .before .args) .c) ((c .before .before .args) .bound) ((c .before .if1) .left) ((c .if2) .left), (c .before .before .pre))
 

@@ -11,39 +11,39 @@ use Rattle.share.proofs.alike.Lts as lts
 use Rattle.rows.proofs.entry.Reads as entry-reads
 use Rattle.share.proofs.alike_forms.Reads as alike-forms-reads
 
--- src/lib.rt:391:9
+-- src/lib.rt:104:9
 entry-requires : tie.Need-entry-requires
 entry-requires c κs = search needs
 
--- src/lib.rt:392:13
+-- src/lib.rt:105:13
 entry-requires-2 : tie.Need-entry-requires-2
 entry-requires-2 c κs = search needs
 
--- src/lib.rt:393:9
+-- src/lib.rt:106:9
 returns : tie.Need-returns
 returns c = λ z. none-true z
 
--- src/lib.rt:399:9
+-- src/lib.rt:112:9
 entry-requires-3 : tie.Need-entry-requires-3
 entry-requires-3 c κs = search needs
 
--- src/lib.rt:400:9
+-- src/lib.rt:113:9
 entry-requires-4 : tie.Need-entry-requires-4
 entry-requires-4 c κs = search needs
 
--- src/lib.rt:401:9
+-- src/lib.rt:114:9
 entry-requires-5 : tie.Need-entry-requires-5
 entry-requires-5 c κs = search needs
 
--- src/lib.rt:402:9
+-- src/lib.rt:115:9
 entry-requires-6 : tie.Need-entry-requires-6
 entry-requires-6 c κs = search needs
 
--- src/lib.rt:395:5
+-- src/lib.rt:108:5
 alike-forms-requires : tie.Need-alike-forms-requires
 alike-forms-requires c κs = search needs
 
--- src/lib.rt:387:1
+-- src/lib.rt:100:1
 returns-2 : tie.Need-returns-2
 returns-2 c = λ z. alike-types (tab ((c .before .before .before .before .before .before .before .before .before .before .before .args) .rows .now) ((c .before .before .before .before .before .before .before .before .before .before .before .args) .parts .now)) ((c .before .before .before .before .before .before .before .before .before .before .before .args) .m) (((c .before .before .before .before .before .before .before .before .before .before .before .args) .first) .now) ((c .before .before .before .before .before .before .before .before .before .before .before .args) .c) ((c .before .before .before .before .before .before .before .before .before .before .before .args) .r) ((c .before .before .before .before .before .before .before .before .before .before .before .pre) .1) ((c .before .before .before .before .before .before .before .before .before .before .before .pre) .2) ((c .before .before .before .before .before .before .before .before .before .before .before .pre) .3) ((c .before .before .before .before .before .before .before .before .before .before .before .pre) .4) ((c .before .before .before .before .before .before .before .entry) .result) ((c .before .before .before .before .entry3) .result) ((c .before .before .before .entry4) .result) ((c .before .before .entry5) .result) ((c .before .entry6) .result) ((c .before .before .before .before .before .before .before .entry) .ensures .0) ((c .before .before .before .before .before .if1) .left ∙ (c .before .before .before .before .before .before .entry2) .ensures .0) ((c .before .before .before .before .entry3) .ensures .0) ((c .before .before .before .entry4) .ensures .0) ((c .before .before .entry5) .ensures .0) ((c .before .entry6) .ensures .0) ((c .alike-forms) .ensures z)
 

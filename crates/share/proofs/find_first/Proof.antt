@@ -9,10 +9,10 @@ use Rattle.share.proofs.find_first.Statement.{statement}
 use Rattle.share.proofs.find_first.Tie as tie
 use Rattle.share.proofs.find_first.Reads as reads
 use Rattle.share.proofs.find_first.Lts as lts
-use Rattle.share.proofs.chain_row.Reads as chain-row-reads
+use Rattle.row_hash.proofs.chain_row.Reads as chain-row-reads
 use Rattle.share.proofs.first_like.Reads as first-like-reads
-use Rattle.share.proofs.narrow.Reads as narrow-reads
-use Rattle.share.proofs.put_hash.Reads as put-hash-reads
+use Rattle.rename.proofs.narrow.Reads as narrow-reads
+use Rattle.row_hash.proofs.put_hash.Reads as put-hash-reads
 
 abbrev Inv-loop : tie.InvT-loop
 Inv-loop rows parts n first₀ work₀ chains₀ r₀ first work chains r = Naming (tab rows parts) (n + 2) n first₀ first r × (length work ≡ length work₀) × (length chains ≡ length chains₀)
@@ -20,24 +20,24 @@ Inv-loop rows parts n first₀ work₀ chains₀ r₀ first work chains r = Nami
 abbrev μ-loop : tie.MeasureT-loop
 μ-loop rows parts n first₀ work₀ chains₀ r₀ first work chains r = n - r
 
--- src/lib.rt:396:5
+-- src/lib.rt:109:5
 loop-holds : tie.Need-loop-holds Inv-loop μ-loop
 loop-holds c = (naming-first (tab ((c .before .before .before .before .before .args) .rows .now) ((c .before .before .before .before .before .args) .parts .now)) (((c .before .before .before .before .before .args) .n) + 2) ((c .before .before .before .before .before .args) .n) (((c .before .before .before .before .before .args) .first) .now), refl, refl)
 
--- src/lib.rt:397:9
+-- src/lib.rt:110:9
 put-hash-requires : tie.Need-put-hash-requires Inv-loop μ-loop
 put-hash-requires c κs =
     let i = (c .before .before .before .loop) .inv .0 .0 in
     let p = (c .before .before .before .before .before .before .before .before .before .pre) .0 in
     omega arith
 
--- src/lib.rt:398:41
+-- src/lib.rt:111:41
 add-first-like : tie.Need-add-first-like Inv-loop μ-loop
 add-first-like c =
     let p = (c .before .before .before .before .before .before .before .before .before .before .before .before .pre) .0 in
     omega arith
 
--- src/lib.rt:398:13
+-- src/lib.rt:111:13
 first-like-requires : tie.Need-first-like-requires Inv-loop μ-loop
 first-like-requires c κs =
     let i = (c .before .before .before .before .before .before .before .before .before .loop) .inv .0 .0 in
@@ -45,7 +45,7 @@ first-like-requires c κs =
     let p = (c .before .before .before .before .before .before .before .before .before .before .before .before .before .before .before .pre) .0 in
     (omega arith, (c .before .before .before .before .before .before .before .before .before .before .before .before .before .before .before .pre) .1, omega arith, (c .before .before .before .before .before .before .before .before .before .loop) .inv .0 .2, λ x l. (c .before .before .before .before .before .before .before .before .before .before .before .before .before .before .before .pre) .3 x (omega arith))
 
--- src/lib.rt:399:20
+-- src/lib.rt:112:20
 narrow-requires : tie.Need-narrow-requires Inv-loop μ-loop
 narrow-requires c κs =
     let i = (c .before .before .before .before .before .before .before .before .before .before .loop) .inv .0 .0 in
@@ -53,14 +53,14 @@ narrow-requires c κs =
     let p = (c .before .before .before .before .before .before .before .before .before .before .before .before .before .before .before .before .pre) .0 in
     omega arith
 
--- src/lib.rt:399:9
+-- src/lib.rt:112:9
 mul-first : tie.Need-mul-first Inv-loop μ-loop
 mul-first c =
     let i = (c .before .before .before .before .before .before .before .before .before .before .before .loop) .inv .0 .0 in
     let p = (c .before .before .before .before .before .before .before .before .before .before .before .before .before .before .before .before .before .pre) .0 in
     omega arith
 
--- src/lib.rt:399:9
+-- src/lib.rt:112:9
 slice-write-first : tie.Need-slice-write-first Inv-loop μ-loop
 slice-write-first c =
     let i = (c .before .before .before .before .before .before .before .before .before .before .before .loop) .inv .0 .1 in
@@ -68,27 +68,27 @@ slice-write-first c =
     let p = (c .before .before .before .before .before .before .before .before .before .before .before .before .before .before .before .before .before .pre) .2 in
     omega arith
 
--- src/lib.rt:400:9
+-- src/lib.rt:113:9
 chain-row-requires : tie.Need-chain-row-requires Inv-loop μ-loop
 chain-row-requires c κs =
     let i = (c .before .before .before .before .before .before .before .before .before .before .before .before .before .loop) .inv .0 .0 in
     let p = (c .before .before .before .before .before .before .before .before .before .before .before .before .before .before .before .before .before .before .before .pre) .0 in
     omega arith
 
--- src/lib.rt:401:9
+-- src/lib.rt:114:9
 add-r : tie.Need-add-r Inv-loop μ-loop
 add-r c =
     let i = (c .before .before .before .before .before .before .before .before .before .before .before .before .before .before .before .before .loop) .inv .0 .0 in
     let p = (c .before .before .before .before .before .before .before .before .before .before .before .before .before .before .before .before .before .before .before .before .before .before .pre) .0 in
     omega arith
 
--- src/lib.rt:396:5
+-- src/lib.rt:109:5
 loop-less : tie.Need-loop-less Inv-loop μ-loop
 loop-less c =
     let t = (c .before .before .before .before .before .before .before .before .before .before .before .before .before .before .before .loop-test) .taken in
     omega arith
 
--- src/lib.rt:396:5
+-- src/lib.rt:109:5
 loop-again : tie.Need-loop-again Inv-loop μ-loop
 loop-again c =
     let k = (c .before .before .before .before .before .before .before .before .before .before .before .before .put-hash) .kept in
@@ -97,19 +97,19 @@ loop-again c =
     let l = (c .before .before .chain-row) .kept in
     (naming-next (tab ((c .before .before .before .before .before .before .before .before .before .before .before .before .before .before .before .before .before .before .before .before .before .before .args) .rows .now) ((c .before .before .before .before .before .before .before .before .before .before .before .before .before .before .before .before .before .before .before .before .before .before .args) .parts .now)) (((c .before .before .before .before .before .before .before .before .before .before .before .before .before .before .before .before .before .before .before .before .before .before .args) .n) + 2) ((c .before .before .before .before .before .before .before .before .before .before .before .before .before .before .before .before .before .before .before .before .before .before .args) .n) (((c .before .before .before .before .before .before .before .before .before .before .before .before .before .before .before .before .before .before .before .before .before .before .args) .first) .now) ((c .before .before .before .before .before .before .before .before .before .before .before .before .before .before .before .before .loop) .first) ((c .before .before .before .before .before .before .before .before .before .before .before .before .before .before .before .before .loop) .r) ((c .before .before .before .before .before .before .first-like) .result) ((c .before .before .before .before .before .narrow) .result) ((c .before .before .before .before .before .before .before .before .before .before .before .before .before .before .before .loop-test) .taken) ((c .before .before .before .before .before .before .before .before .before .before .before .before .before .before .before .before .before .before .before .before .before .before .pre) .2) ((c .before .before .before .before .before .before .first-like) .ensures .0) ((c .before .before .before .before .before .narrow) .ensures) ((c .before .before .before .before .before .before .before .before .before .before .before .before .before .before .before .before .loop) .inv .0), omega arith, omega arith)
 
--- src/lib.rt:384:1
+-- src/lib.rt:97:1
 same-length : tie.Need-same-length Inv-loop μ-loop
 same-length c = (c .before .loop) .inv .0 .1
 
--- src/lib.rt:384:1
+-- src/lib.rt:97:1
 same-length-2 : tie.Need-same-length-2 Inv-loop μ-loop
 same-length-2 c = (c .before .loop) .inv .1
 
--- src/lib.rt:384:1
+-- src/lib.rt:97:1
 same-length-3 : tie.Need-same-length-3 Inv-loop μ-loop
 same-length-3 c = (c .before .loop) .inv .2
 
--- src/lib.rt:384:1
+-- src/lib.rt:97:1
 returns : tie.Need-returns Inv-loop μ-loop
 returns c = naming-last (tab ((c .before .before .before .before .before .before .before .args) .rows .now) ((c .before .before .before .before .before .before .before .args) .parts .now)) (((c .before .before .before .before .before .before .before .args) .n) + 2) ((c .before .before .before .before .before .before .before .args) .n) (((c .before .before .before .before .before .before .before .args) .first) .now) ((c .before .loop) .first) ((c .before .loop) .r) ((c .loop-test) .left) ((c .before .loop) .inv .0)
 

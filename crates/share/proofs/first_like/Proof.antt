@@ -6,8 +6,8 @@ use Rattle.share.proofs.first_like.Statement.{statement}
 use Rattle.share.proofs.first_like.Tie as tie
 use Rattle.share.proofs.first_like.Reads as reads
 use Rattle.share.proofs.first_like.Lts as lts
-use Rattle.share.proofs.below.Reads as below-reads
-use Rattle.share.proofs.chain_of.Reads as chain-of-reads
+use Rattle.row_hash.proofs.below.Reads as below-reads
+use Rattle.row_hash.proofs.chain_of.Reads as chain-of-reads
 use Rattle.share.proofs.stands_for.Reads as stands-for-reads
 
 abbrev Inv-loop : tie.InvT-loop
@@ -16,29 +16,29 @@ Inv-loop rows parts m first work chains r h c₀ c = c ≤ r
 abbrev μ-loop : tie.MeasureT-loop
 μ-loop rows parts m first work chains r h c₀ c = c
 
--- src/lib.rt:373:9
+-- src/lib.rt:86:9
 chain-of-requires : tie.Need-chain-of-requires Inv-loop μ-loop
 chain-of-requires c κs = search needs
 
--- src/lib.rt:374:34
+-- src/lib.rt:87:34
 add-below : tie.Need-add-below Inv-loop μ-loop
 add-below c = search needs
 
--- src/lib.rt:374:9
+-- src/lib.rt:87:9
 below-requires : tie.Need-below-requires Inv-loop μ-loop
 below-requires c κs = search needs
 
--- src/lib.rt:375:5
+-- src/lib.rt:88:5
 loop-holds : tie.Need-loop-holds Inv-loop μ-loop
 loop-holds c =
     let h = (c .below) .ensures in
     omega arith
 
--- src/lib.rt:376:52
+-- src/lib.rt:89:52
 sub-stands-for : tie.Need-sub-stands-for Inv-loop μ-loop
 sub-stands-for c = search needs
 
--- src/lib.rt:376:12
+-- src/lib.rt:89:12
 stands-for-requires : tie.Need-stands-for-requires Inv-loop μ-loop
 stands-for-requires c κs =
     let t = (c .loop-test) .taken in
@@ -46,39 +46,39 @@ stands-for-requires c κs =
     let h = (c .before .before .before .before .before .before .before .before .before .pre) .2 in
     ((c .before .before .before .before .before .before .before .before .before .pre) .0, (c .before .before .before .before .before .before .before .before .before .pre) .1, omega arith, (c .before .before .before .before .before .before .before .before .before .pre) .2, (c .before .before .before .before .before .before .before .before .before .pre) .3, (c .before .before .before .before .before .before .before .before .before .pre) .4)
 
--- src/lib.rt:377:20
+-- src/lib.rt:90:20
 sub-result : tie.Need-sub-result Inv-loop μ-loop
 sub-result c = search needs
 
--- src/lib.rt:377:13
+-- src/lib.rt:90:13
 returns : tie.Need-returns Inv-loop μ-loop
 returns c =
     let t = (c .before .before .loop-test) .taken in
     let i = (c .before .before .before .loop) .inv in
     ((c .before .stands-for) .ensures ((c .if1) .taken), omega arith)
 
--- src/lib.rt:379:27
+-- src/lib.rt:92:27
 add-below-2 : tie.Need-add-below-2 Inv-loop μ-loop
 add-below-2 c = search needs
 
--- src/lib.rt:379:9
+-- src/lib.rt:92:9
 below-requires-2 : tie.Need-below-requires-2 Inv-loop μ-loop
 below-requires-2 c κs = search needs
 
--- src/lib.rt:375:5
+-- src/lib.rt:88:5
 loop-less : tie.Need-loop-less Inv-loop μ-loop
 loop-less c =
     let h = (c .below2) .ensures in
     omega arith
 
--- src/lib.rt:375:5
+-- src/lib.rt:88:5
 loop-again : tie.Need-loop-again Inv-loop μ-loop
 loop-again c =
     let h = (c .below2) .ensures in
     let i = (c .before .before .before .before .loop) .inv in
     omega arith
 
--- src/lib.rt:361:1
+-- src/lib.rt:74:1
 returns-2 : tie.Need-returns-2 Inv-loop μ-loop
 returns-2 c = (refl, omega arith)
 

@@ -5,47 +5,47 @@ use Rattle.share.proofs.share.Statement.{statement}
 use Rattle.share.proofs.share.Tie as tie
 use Rattle.share.proofs.share.Reads as reads
 use Rattle.share.proofs.share.Lts as lts
-use Rattle.share.proofs.fill_parts.Reads as fill-parts-reads
-use Rattle.share.proofs.fill_rows.Reads as fill-rows-reads
+use Rattle.rename.proofs.fill_parts.Reads as fill-parts-reads
+use Rattle.rename.proofs.fill_rows.Reads as fill-rows-reads
 use Rattle.share.proofs.find_first.Reads as find-first-reads
 
--- src/lib.rt:532:45
+-- src/lib.rt:205:45
 slice-aggregate-find-first : tie.Need-slice-aggregate-find-first
 slice-aggregate-find-first c = search needs
 
--- src/lib.rt:532:5
+-- src/lib.rt:205:5
 find-first-requires : tie.Need-find-first-requires
 find-first-requires c κs = ((c .before .before .before .before .before .before .before .before .before .pre) .0 .0, (c .before .before .before .before .before .before .before .before .before .pre) .1 .0 .0, (c .before .before .before .before .before .before .before .before .before .pre) .0 .3, lower-rows (tab ((c .before .before .before .before .before .before .before .before .before .args) .rows .now) ((c .before .before .before .before .before .before .before .before .before .args) .parts .now)) ((c .before .before .before .before .before .before .before .before .before .args) .n) ((c .before .before .before .before .before .before .before .before .before .pre) .1 .1 .0))
 
--- src/lib.rt:533:28
+-- src/lib.rt:206:28
 add-fill-rows : tie.Need-add-fill-rows
 add-fill-rows c = search needs
 
--- src/lib.rt:533:5
+-- src/lib.rt:206:5
 fill-rows-requires : tie.Need-fill-rows-requires
 fill-rows-requires c κs = search needs
 
--- src/lib.rt:534:5
+-- src/lib.rt:207:5
 fill-parts-requires : tie.Need-fill-parts-requires
 fill-parts-requires c κs = search needs
 
--- src/lib.rt:517:1
+-- src/lib.rt:190:1
 same-length : tie.Need-same-length
 same-length c = search needs
 
--- src/lib.rt:517:1
+-- src/lib.rt:190:1
 same-length-2 : tie.Need-same-length-2
 same-length-2 c = search needs
 
--- src/lib.rt:517:1
+-- src/lib.rt:190:1
 same-length-3 : tie.Need-same-length-3
 same-length-3 c = search needs
 
--- src/lib.rt:517:1
+-- src/lib.rt:190:1
 same-length-4 : tie.Need-same-length-4
 same-length-4 c = search needs
 
--- src/lib.rt:517:1
+-- src/lib.rt:190:1
 returns : tie.Need-returns
 returns c = shared ((c .before .before .before .before .before .before .before .before .before .before .before .before .before .before .before .before .before .before .before .before .before .before .before .before .before .args) .rows .now) ((c .before .before .before .before .before .before .before .before .before .before .before .before .before .before .before .before .before .before .before .before .before .before .before .before .before .args) .parts .now) ((c .before .before .before .before .before .before .before .before .before .before .before .before .before .before .before .find-first) .last .1 .1 .1 .0) ((c .before .before .before .before .before .before .before .fill-rows) .last .1 .1 .1 .0) ((c .before .before .fill-parts) .last .1 .1 .1 .1 .0) ((c .before .before .before .before .before .before .before .before .before .before .before .before .before .before .before .before .before .before .before .before .before .before .before .before .before .args) .n) ((c .before .before .before .before .before .before .before .fill-rows) .ensures) ((c .before .before .fill-parts) .ensures) ((c .before .before .before .before .before .before .before .before .before .before .before .before .before .before .before .before .before .before .before .before .before .before .before .before .before .pre) .1 .1 .1) ((c .before .before .before .before .before .before .before .before .before .before .before .before .before .before .before .before .before .before .before .before .before .before .before .before .before .pre) .1 .1 .0) ((c .before .before .before .before .before .before .before .before .before .before .before .before .before .before .before .find-first) .ensures) ((c .before .before .before .before .before .before .before .before .before .before .before .before .before .before .before .before .before .before .before .before .before .before .before .before .before .pre) .1 .0 .1) ((c .before .before .before .before .before .before .before .before .before .before .before .before .before .before .before .before .before .before .before .before .before .before .before .before .before .pre) .1 .0 .2) ((c .before .before .before .before .before .before .before .before .before .before .before .before .before .before .before .before .before .before .before .before .before .before .before .before .before .pre) .1 .0 .0)
 

@@ -2,7 +2,7 @@ use Prim.Native.Nat.{ℕ, _+_, _-_, _≤_}
 use native.Mathlib.Omega.{arith}
 use mathlib.Core.Path.{_≡_, refl, ap}
 use lib.ListN.{getD}
-use Rattle.syntax.specs.Syntax.{lit, plain}
+use Rattle.syntax.specs.Syntax.{reg, lit, plain}
 use Rattle.exec.specs.Machine.{Word}
 use Rattle.arith.specs.Codes.{arithOf}
 use Rattle.memory.specs.Lent.{lent, operandTable}
@@ -40,10 +40,14 @@ push-requires c κs = ((c .before .before .before .before .before .before .befor
 pop-requires : tie.Need-pop-requires
 pop-requires c κs = ((c .before .before .before .before .before .before .before .before .before .before .before .before .pre) .0, (c .before .before .before .before .before .before .before .before .before .before .before .before .pre) .8, (c .before .before .before .before .before .before .before .before .before .before .before .before .pre) .9)
 
-tuple-requires : tie.Need-tuple-requires
-tuple-requires c κs =
+register-requires : tie.Need-register-requires
+unfolding readsOperand
+register-requires c κs =
     let a = (c .before .before .before .before .before .before .before .before .before .before .before .before .before .before .before .before .args) in
-    ((c .before .before .before .before .before .before .before .before .before .before .before .before .before .before .before .before .pre) .0, (c .before .before .before .before .before .before .before .before .before .before .before .before .before .before .before .before .pre) .1, (c .before .before .before .before .before .before .before .before .before .before .before .before .before .before .before .before .pre) .2, (c .before .before .before .before .before .before .before .before .before .before .before .before .before .before .before .before .pre) .7 .columns, (c .before .before .before .before .before .before .before .before .before .before .before .before .before .before .before .before .pre) .8, (c .before .before .before .before .before .before .before .before .before .before .before .before .before .before .before .before .pre) .9, (c .before .before .before .before .before .before .before .before .before .before .before .before .before .before .before .before .pre) .5, (c .before .before .before .before .before .before .before .before .before .before .before .before .before .before .before .before .pre) .6, (c .before .before .before .before .before .before .before .before .before .before .before .before .before .before .before .before .pre) .7 .tuple (other-form (a .plan .now) (a .at) ((c .before .before .before .before .before .before .before .before .before .before .before .before .before .before .before .before .pre) .10) ((c .before .before .before .before .before .read) .ensures) 20 ((c .before .before .before .before .match) .keys6)))
+    ((c .before .before .before .before .before .before .before .before .before .before .before .before .before .before .before .before .pre) .0, (c .before .before .before .before .before .before .before .before .before .before .before .before .before .before .before .before .pre) .1, (c .before .before .before .before .before .before .before .before .before .before .before .before .before .before .before .before .pre) .2, (c .before .before .before .before .before .before .before .before .before .before .before .before .before .before .before .before .pre) .7 .operand (reads 20 refl (other-form (a .plan .now) (a .at) ((c .before .before .before .before .before .before .before .before .before .before .before .before .before .before .before .before .pre) .10) ((c .before .before .before .before .before .read) .ensures) 20 ((c .before .before .before .before .match) .keys6))))
+
+reckon-requires-2 : tie.Need-reckon-requires-2
+reckon-requires-2 c κs = ((c .before .before .before .before .before .before .before .before .before .before .before .before .before .before .before .before .before .pre) .0, (c .before .before .before .before .before .before .before .before .before .before .before .before .before .before .before .before .before .pre) .1, (c .before .before .before .before .before .before .before .before .before .before .before .before .before .before .before .before .before .pre) .2, (c .before .before .before .before .before .before .before .before .before .before .before .before .before .before .before .before .before .pre) .7 .columns, (c .before .before .before .before .before .before .before .before .before .before .before .before .before .before .before .before .before .pre) .8, (c .before .before .before .before .before .before .before .before .before .before .before .before .before .before .before .before .before .pre) .9)
 
 branch-register-requires : tie.Need-branch-register-requires
 unfolding readsOperand
@@ -122,24 +126,18 @@ same-length-9 c = search needs
 same-length-10 : tie.Need-same-length-10
 same-length-10 c = search needs
 
+returns-6 : tie.Need-returns-6
+unfolding planned arithOf
+returns-6 c =
+    let a = (c .before .before .before .before .before .before .before .before .before .before .before .before .before .before .before .before .before .before .before .before .before .before .args) in
+    let ef : formOf (a .plan .now) (a .at) ≡ 20 = (other-form (a .plan .now) (a .at) ((c .before .before .before .before .before .before .before .before .before .before .before .before .before .before .before .before .before .before .before .before .before .before .pre) .10) ((c .before .before .before .before .before .before .before .before .before .before .before .read) .ensures) 20 ((c .before .before .before .before .before .before .before .before .before .before .match) .keys6)) in
+    by-does (operandTable (a .operands .now) (a .bases .now)) (a .blocks .now) (a .labels) (a .plan .now) (a .at) (a .h) (a .u) (a .more) (lent (a .rk .now) (a .rn .now)) (lent (a .sk .now) (a .sn .now)) (lent (a .hk .now) (a .hn .now)) 20 ef ((c .before .before .before .before .reckon2) .result) (lent ((c .before .before .before .before .reckon2) .last .1 .0) ((c .before .before .before .before .reckon2) .last .1 .1 .0)) (lent (a .sk .now) (a .sn .now)) (lent (a .hk .now) (a .hn .now)) (omega arith) (λ s g. (c .before .before .before .before .reckon2) .ensures (operandTable (a .operands .now) (a .bases .now)) (plain (reg (getD (a .plan .now) (a .at + 4) 0))) (lent (a .sk .now) (a .sn .now)) (lent (a .hk .now) (a .hn .now)) ((c .before .before .before .before .before .register) .ensures))
+
 same-length-11 : tie.Need-same-length-11
 same-length-11 c = search needs
 
 same-length-12 : tie.Need-same-length-12
 same-length-12 c = search needs
-
-returns-6 : tie.Need-returns-6
-unfolding planned
-returns-6 c =
-    let a = (c .before .before .before .before .before .before .before .before .before .before .before .before .before .before .before .before .before .before .before .before .before .before .before .before .before .args) in
-    let ef : formOf (a .plan .now) (a .at) ≡ 20 = (other-form (a .plan .now) (a .at) ((c .before .before .before .before .before .before .before .before .before .before .before .before .before .before .before .before .before .before .before .before .before .before .before .before .before .pre) .10) ((c .before .before .before .before .before .before .before .before .before .before .before .before .before .before .read) .ensures) 20 ((c .before .before .before .before .before .before .before .before .before .before .before .before .before .match) .keys6)) in
-    by-does (operandTable (a .operands .now) (a .bases .now)) (a .blocks .now) (a .labels) (a .plan .now) (a .at) (a .h) (a .u) (a .more) (lent (a .rk .now) (a .rn .now)) (lent (a .sk .now) (a .sn .now)) (lent (a .hk .now) (a .hn .now)) 20 ef ((c .before .before .before .before .before .before .before .before .tuple) .result) (lent ((c .before .before .before .before .before .before .before .before .tuple) .last .1 .1 .1 .0) ((c .before .before .before .before .before .before .before .before .tuple) .last .1 .1 .1 .1 .0)) (lent (a .sk .now) (a .sn .now)) (lent ((c .before .before .before .before .before .before .before .before .tuple) .last .1 .1 .1 .1 .1 .0) ((c .before .before .before .before .before .before .before .before .tuple) .last .1 .1 .1 .1 .1 .1 .0)) (omega arith) (λ s g. (c .before .before .before .before .before .before .before .before .tuple) .ensures (lent (a .sk .now) (a .sn .now)))
-
-same-length-13 : tie.Need-same-length-13
-same-length-13 c = search needs
-
-same-length-14 : tie.Need-same-length-14
-same-length-14 c = search needs
 
 returns-7 : tie.Need-returns-7
 unfolding planned
@@ -148,11 +146,11 @@ returns-7 c =
     let ef : formOf (a .plan .now) (a .at) ≡ 21 = (other-form (a .plan .now) (a .at) ((c .before .before .before .before .before .before .before .before .before .before .before .before .before .before .before .pre) .10) ((c .before .before .before .before .read) .ensures) 21 ((c .before .before .before .match) .keys7)) in
     by-turn (operandTable (a .operands .now) (a .bases .now)) (a .blocks .now) (a .labels) (a .plan .now) (a .at) (a .h) (a .u) (a .more) (lent (a .rk .now) (a .rn .now)) (lent (a .sk .now) (a .sn .now)) (lent (a .hk .now) (a .hn .now)) 21 ef ((c .branch-register) .result) (lent (a .rk .now) (a .rn .now)) (lent (a .sk .now) (a .sn .now)) (lent (a .hk .now) (a .hn .now)) (λ m s j p g starts goals et lp. (c .branch-register) .ensures (operandTable (a .operands .now) (a .bases .now)) (lent (a .sk .now) (a .sn .now)) (lent (a .hk .now) (a .hn .now)) m j p starts et (lp (omega arith)))
 
-same-length-15 : tie.Need-same-length-15
-same-length-15 c = search needs
+same-length-13 : tie.Need-same-length-13
+same-length-13 c = search needs
 
-same-length-16 : tie.Need-same-length-16
-same-length-16 c = search needs
+same-length-14 : tie.Need-same-length-14
+same-length-14 c = search needs
 
 returns-8 : tie.Need-returns-8
 unfolding planned
@@ -187,7 +185,8 @@ other-spec =
     cut-requires
     push-requires
     pop-requires
-    tuple-requires
+    register-requires
+    reckon-requires-2
     branch-register-requires
     branch-nowhere-requires
     stuck-requires
@@ -206,14 +205,12 @@ other-spec =
     returns-5
     same-length-9
     same-length-10
+    returns-6
     same-length-11
     same-length-12
-    returns-6
+    returns-7
     same-length-13
     same-length-14
-    returns-7
-    same-length-15
-    same-length-16
     returns-8
     returns-9
     returns-10)

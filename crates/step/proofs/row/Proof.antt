@@ -34,30 +34,26 @@ literal-requires c κs = (c .before .before .before .before .before .before .bef
 reckon-requires-2 : tie.Need-reckon-requires-2
 reckon-requires-2 c κs = ((c .before .before .before .before .before .before .before .before .before .before .before .before .before .before .before .pre) .0, (c .before .before .before .before .before .before .before .before .before .before .before .before .before .before .before .pre) .1, (c .before .before .before .before .before .before .before .before .before .before .before .before .before .before .before .pre) .2, (c .before .before .before .before .before .before .before .before .before .before .before .before .before .before .before .pre) .7 .columns, (c .before .before .before .before .before .before .before .before .before .before .before .before .before .before .before .pre) .8, (c .before .before .before .before .before .before .before .before .before .before .before .before .before .before .before .pre) .9)
 
+tuple-requires : tie.Need-tuple-requires
+tuple-requires c κs =
+    let a = (c .before .before .before .before .before .before .before .before .before .before .before .before .before .before .before .before .args) in
+    ((c .before .before .before .before .before .before .before .before .before .before .before .before .before .before .before .before .pre) .0, (c .before .before .before .before .before .before .before .before .before .before .before .before .before .before .before .before .pre) .1, (c .before .before .before .before .before .before .before .before .before .before .before .before .before .before .before .before .pre) .2, (c .before .before .before .before .before .before .before .before .before .before .before .before .before .before .before .before .pre) .7 .columns, (c .before .before .before .before .before .before .before .before .before .before .before .before .before .before .before .before .pre) .8, (c .before .before .before .before .before .before .before .before .before .before .before .before .before .before .before .before .pre) .9, (c .before .before .before .before .before .before .before .before .before .before .before .before .before .before .before .before .pre) .5, (c .before .before .before .before .before .before .before .before .before .before .before .before .before .before .before .before .pre) .6, (c .before .before .before .before .before .before .before .before .before .before .before .before .before .before .before .before .pre) .7 .tuple (class-form (a .plan .now) (a .at) ((c .before .before .before .before .before .before .before .before .before .before .before .before .before .before .before .before .pre) .7 .class) ((c .before .before .before .before .before .read) .ensures) 2 (omega arith) ((c .before .before .before .before .match) .keys3)))
+
 register-requires-2 : tie.Need-register-requires-2
 unfolding readsOperand
 register-requires-2 c κs =
     let a = (c .before .before .before .before .before .before .before .before .before .before .before .before .before .before .before .before .args) in
-    ((c .before .before .before .before .before .before .before .before .before .before .before .before .before .before .before .before .pre) .0, (c .before .before .before .before .before .before .before .before .before .before .before .before .before .before .before .before .pre) .1, (c .before .before .before .before .before .before .before .before .before .before .before .before .before .before .before .before .pre) .2, (c .before .before .before .before .before .before .before .before .before .before .before .before .before .before .before .before .pre) .7 .operand (reads 2 refl (class-form (a .plan .now) (a .at) ((c .before .before .before .before .before .before .before .before .before .before .before .before .before .before .before .before .pre) .7 .class) ((c .before .before .before .before .before .read) .ensures) 2 (omega arith) ((c .before .before .before .before .match) .keys3))))
+    ((c .before .before .before .before .before .before .before .before .before .before .before .before .before .before .before .before .pre) .0, (c .before .before .before .before .before .before .before .before .before .before .before .before .before .before .before .before .pre) .1, (c .before .before .before .before .before .before .before .before .before .before .before .before .before .before .before .before .pre) .2, (c .before .before .before .before .before .before .before .before .before .before .before .before .before .before .before .before .pre) .7 .operand (reads 3 refl (class-form (a .plan .now) (a .at) ((c .before .before .before .before .before .before .before .before .before .before .before .before .before .before .before .before .pre) .7 .class) ((c .before .before .before .before .before .read) .ensures) 3 (omega arith) ((c .before .before .before .before .match) .keys4))))
 
 reckon-requires-3 : tie.Need-reckon-requires-3
 reckon-requires-3 c κs = ((c .before .before .before .before .before .before .before .before .before .before .before .before .before .before .before .before .before .pre) .0, (c .before .before .before .before .before .before .before .before .before .before .before .before .before .before .before .before .before .pre) .1, (c .before .before .before .before .before .before .before .before .before .before .before .before .before .before .before .before .before .pre) .2, (c .before .before .before .before .before .before .before .before .before .before .before .before .before .before .before .before .before .pre) .7 .columns, (c .before .before .before .before .before .before .before .before .before .before .before .before .before .before .before .before .before .pre) .8, (c .before .before .before .before .before .before .before .before .before .before .before .before .before .before .before .before .before .pre) .9)
 
-register-requires-3 : tie.Need-register-requires-3
-unfolding readsOperand
-register-requires-3 c κs =
-    let a = (c .before .before .before .before .before .before .before .before .before .before .before .before .before .before .before .before .args) in
-    ((c .before .before .before .before .before .before .before .before .before .before .before .before .before .before .before .before .pre) .0, (c .before .before .before .before .before .before .before .before .before .before .before .before .before .before .before .before .pre) .1, (c .before .before .before .before .before .before .before .before .before .before .before .before .before .before .before .before .pre) .2, (c .before .before .before .before .before .before .before .before .before .before .before .before .before .before .before .before .pre) .7 .operand (reads 3 refl (class-form (a .plan .now) (a .at) ((c .before .before .before .before .before .before .before .before .before .before .before .before .before .before .before .before .pre) .7 .class) ((c .before .before .before .before .before .read) .ensures) 3 (omega arith) ((c .before .before .before .before .match) .keys4))))
-
-reckon-requires-4 : tie.Need-reckon-requires-4
-reckon-requires-4 c κs = ((c .before .before .before .before .before .before .before .before .before .before .before .before .before .before .before .before .before .pre) .0, (c .before .before .before .before .before .before .before .before .before .before .before .before .before .before .before .before .before .pre) .1, (c .before .before .before .before .before .before .before .before .before .before .before .before .before .before .before .before .before .pre) .2, (c .before .before .before .before .before .before .before .before .before .before .before .before .before .before .before .before .before .pre) .7 .columns, (c .before .before .before .before .before .before .before .before .before .before .before .before .before .before .before .before .before .pre) .8, (c .before .before .before .before .before .before .before .before .before .before .before .before .before .before .before .before .before .pre) .9)
-
 branch-requires : tie.Need-branch-requires
 branch-requires c κs = ((c .before .before .before .before .before .before .before .before .before .before .before .before .before .before .pre) .0, (c .before .before .before .before .before .before .before .before .before .before .before .before .before .before .pre) .1, (c .before .before .before .before .before .before .before .before .before .before .before .before .before .before .pre) .2, (c .before .before .before .before .before .before .before .before .before .before .before .before .before .before .pre) .7 .columns, (c .before .before .before .before .before .before .before .before .before .before .before .before .before .before .pre) .8, (c .before .before .before .before .before .before .before .before .before .before .before .before .before .before .pre) .9)
 
-register-requires-4 : tie.Need-register-requires-4
+register-requires-3 : tie.Need-register-requires-3
 unfolding readsOperand
-register-requires-4 c κs =
+register-requires-3 c κs =
     let a = (c .before .before .before .before .before .before .before .before .before .before .before .before .before .before .before .before .args) in
     ((c .before .before .before .before .before .before .before .before .before .before .before .before .before .before .before .before .pre) .0, (c .before .before .before .before .before .before .before .before .before .before .before .before .before .before .before .before .pre) .1, (c .before .before .before .before .before .before .before .before .before .before .before .before .before .before .before .before .pre) .2, (c .before .before .before .before .before .before .before .before .before .before .before .before .before .before .before .before .pre) .7 .operand (reads 5 refl (class-form (a .plan .now) (a .at) ((c .before .before .before .before .before .before .before .before .before .before .before .before .before .before .before .before .pre) .7 .class) ((c .before .before .before .before .before .read) .ensures) 5 (omega arith) ((c .before .before .before .before .match) .keys6))))
 
@@ -76,9 +72,9 @@ index-requires c κs = search needs
 goes-requires : tie.Need-goes-requires
 goes-requires c κs = search needs
 
-register-requires-5 : tie.Need-register-requires-5
+register-requires-4 : tie.Need-register-requires-4
 unfolding readsOperand
-register-requires-5 c κs =
+register-requires-4 c κs =
     let a = (c .before .before .before .before .before .before .before .before .before .before .before .before .before .before .args) in
     ((c .before .before .before .before .before .before .before .before .before .before .before .before .before .before .pre) .0, (c .before .before .before .before .before .before .before .before .before .before .before .before .before .before .pre) .1, (c .before .before .before .before .before .before .before .before .before .before .before .before .before .before .pre) .2, (c .before .before .before .before .before .before .before .before .before .before .before .before .before .before .pre) .7 .operand (reads 8 refl (class-form (a .plan .now) (a .at) ((c .before .before .before .before .before .before .before .before .before .before .before .before .before .before .pre) .7 .class) ((c .before .before .before .read) .ensures) 8 (omega arith) ((c .before .before .match) .keys9))))
 
@@ -86,10 +82,10 @@ jump-requires : tie.Need-jump-requires
 jump-requires c κs = ((c .before .before .before .before .before .before .before .before .before .before .before .before .before .before .before .pre) .8, (c .before .before .before .before .before .before .before .before .before .before .before .before .before .before .before .pre) .9)
 
 load-requires : tie.Need-load-requires
-load-requires c κs = ((c .before .before .before .before .before .before .before .before .before .before .before .before .before .before .before .before .pre) .0, (c .before .before .before .before .before .before .before .before .before .before .before .before .before .before .before .before .pre) .1, (c .before .before .before .before .before .before .before .before .before .before .before .before .before .before .before .before .pre) .2, (c .before .before .before .before .before .before .before .before .before .before .before .before .before .before .before .before .pre) .7 .columns, (c .before .before .before .before .before .before .before .before .before .before .before .before .before .before .before .before .pre) .8, (c .before .before .before .before .before .before .before .before .before .before .before .before .before .before .before .before .pre) .9, (c .before .before .before .before .before .before .before .before .before .before .before .before .before .before .before .before .pre) .5, (c .before .before .before .before .before .before .before .before .before .before .before .before .before .before .before .before .pre) .6)
+load-requires c κs = ((c .before .before .before .before .before .before .before .before .before .before .before .before .before .before .before .before .pre) .0, (c .before .before .before .before .before .before .before .before .before .before .before .before .before .before .before .before .pre) .1, (c .before .before .before .before .before .before .before .before .before .before .before .before .before .before .before .before .pre) .2, (c .before .before .before .before .before .before .before .before .before .before .before .before .before .before .before .before .pre) .7 .columns, (c .before .before .before .before .before .before .before .before .before .before .before .before .before .before .before .before .pre) .8, (c .before .before .before .before .before .before .before .before .before .before .before .before .before .before .before .before .pre) .9, (c .before .before .before .before .before .before .before .before .before .before .before .before .before .before .before .before .pre) .5, (c .before .before .before .before .before .before .before .before .before .before .before .before .before .before .before .before .pre) .6, (c .before .before .before .before .before .before .before .before .before .before .before .before .before .before .before .before .pre) .10)
 
 store-requires : tie.Need-store-requires
-store-requires c κs = ((c .before .before .before .before .before .before .before .before .before .before .before .before .before .before .before .before .pre) .0, (c .before .before .before .before .before .before .before .before .before .before .before .before .before .before .before .before .pre) .1, (c .before .before .before .before .before .before .before .before .before .before .before .before .before .before .before .before .pre) .2, (c .before .before .before .before .before .before .before .before .before .before .before .before .before .before .before .before .pre) .7 .columns, (c .before .before .before .before .before .before .before .before .before .before .before .before .before .before .before .before .pre) .8, (c .before .before .before .before .before .before .before .before .before .before .before .before .before .before .before .before .pre) .9, (c .before .before .before .before .before .before .before .before .before .before .before .before .before .before .before .before .pre) .5, (c .before .before .before .before .before .before .before .before .before .before .before .before .before .before .before .before .pre) .6)
+store-requires c κs = ((c .before .before .before .before .before .before .before .before .before .before .before .before .before .before .before .before .pre) .0, (c .before .before .before .before .before .before .before .before .before .before .before .before .before .before .before .before .pre) .1, (c .before .before .before .before .before .before .before .before .before .before .before .before .before .before .before .before .pre) .2, (c .before .before .before .before .before .before .before .before .before .before .before .before .before .before .before .before .pre) .7 .columns, (c .before .before .before .before .before .before .before .before .before .before .before .before .before .before .before .before .pre) .8, (c .before .before .before .before .before .before .before .before .before .before .before .before .before .before .before .before .pre) .9, (c .before .before .before .before .before .before .before .before .before .before .before .before .before .before .before .before .pre) .5, (c .before .before .before .before .before .before .before .before .before .before .before .before .before .before .before .before .pre) .6, (c .before .before .before .before .before .before .before .before .before .before .before .before .before .before .before .before .pre) .10)
 
 peek-requires : tie.Need-peek-requires
 peek-requires c κs = ((c .before .before .before .before .before .before .before .before .before .before .before .before .before .before .before .before .pre) .0, (c .before .before .before .before .before .before .before .before .before .before .before .before .before .before .before .before .pre) .1, (c .before .before .before .before .before .before .before .before .before .before .before .before .before .before .before .before .pre) .2, (c .before .before .before .before .before .before .before .before .before .before .before .before .before .before .before .before .pre) .3, (c .before .before .before .before .before .before .before .before .before .before .before .before .before .before .before .before .pre) .4, (c .before .before .before .before .before .before .before .before .before .before .before .before .before .before .before .before .pre) .7 .columns, (c .before .before .before .before .before .before .before .before .before .before .before .before .before .before .before .before .pre) .8, (c .before .before .before .before .before .before .before .before .before .before .before .before .before .before .before .before .pre) .9)
@@ -140,31 +136,37 @@ same-length-5 c = search needs
 same-length-6 : tie.Need-same-length-6
 same-length-6 c = search needs
 
-returns-3 : tie.Need-returns-3
-unfolding planned arithOf
-returns-3 c =
-    let a = (c .before .before .before .before .before .before .before .before .before .before .before .before .before .before .before .before .before .before .before .before .before .before .args) in
-    let ef : formOf (a .plan .now) (a .at) ≡ 2 = (class-form (a .plan .now) (a .at) ((c .before .before .before .before .before .before .before .before .before .before .before .before .before .before .before .before .before .before .before .before .before .before .pre) .7 .class) ((c .before .before .before .before .before .before .before .before .before .before .before .read) .ensures) 2 (omega arith) ((c .before .before .before .before .before .before .before .before .before .before .match) .keys3)) in
-    by-does (operandTable (a .operands .now) (a .bases .now)) (a .blocks .now) (a .labels) (a .plan .now) (a .at) (a .h) (a .u) (a .more) (lent (a .rk .now) (a .rn .now)) (lent (a .sk .now) (a .sn .now)) (lent (a .hk .now) (a .hn .now)) 2 ef ((c .before .before .before .before .reckon3) .result) (lent ((c .before .before .before .before .reckon3) .last .1 .0) ((c .before .before .before .before .reckon3) .last .1 .1 .0)) (lent (a .sk .now) (a .sn .now)) (lent (a .hk .now) (a .hn .now)) (omega arith) (λ s g. (c .before .before .before .before .reckon3) .ensures (operandTable (a .operands .now) (a .bases .now)) (plain (reg (getD (a .plan .now) (a .at + 4) 0))) (lent (a .sk .now) (a .sn .now)) (lent (a .hk .now) (a .hn .now)) ((c .before .before .before .before .before .register2) .ensures))
-
 same-length-7 : tie.Need-same-length-7
 same-length-7 c = search needs
 
 same-length-8 : tie.Need-same-length-8
 same-length-8 c = search needs
 
-returns-4 : tie.Need-returns-4
-unfolding planned arithOf
-returns-4 c =
-    let a = (c .before .before .before .before .before .before .before .before .before .before .before .before .before .before .before .before .before .before .before .before .before .before .args) in
-    let ef : formOf (a .plan .now) (a .at) ≡ 3 = (class-form (a .plan .now) (a .at) ((c .before .before .before .before .before .before .before .before .before .before .before .before .before .before .before .before .before .before .before .before .before .before .pre) .7 .class) ((c .before .before .before .before .before .before .before .before .before .before .before .read) .ensures) 3 (omega arith) ((c .before .before .before .before .before .before .before .before .before .before .match) .keys4)) in
-    by-does (operandTable (a .operands .now) (a .bases .now)) (a .blocks .now) (a .labels) (a .plan .now) (a .at) (a .h) (a .u) (a .more) (lent (a .rk .now) (a .rn .now)) (lent (a .sk .now) (a .sn .now)) (lent (a .hk .now) (a .hn .now)) 3 ef ((c .before .before .before .before .reckon4) .result) (lent ((c .before .before .before .before .reckon4) .last .1 .0) ((c .before .before .before .before .reckon4) .last .1 .1 .0)) (lent (a .sk .now) (a .sn .now)) (lent (a .hk .now) (a .hn .now)) (omega arith) (λ s g. (c .before .before .before .before .reckon4) .ensures (operandTable (a .operands .now) (a .bases .now)) (plain (reg (getD (a .plan .now) (a .at + 4) 0))) (lent (a .sk .now) (a .sn .now)) (lent (a .hk .now) (a .hn .now)) ((c .before .before .before .before .before .register3) .ensures))
+returns-3 : tie.Need-returns-3
+unfolding planned
+returns-3 c =
+    let a = (c .before .before .before .before .before .before .before .before .before .before .before .before .before .before .before .before .before .before .before .before .before .before .before .before .before .args) in
+    let ef : formOf (a .plan .now) (a .at) ≡ 2 = (class-form (a .plan .now) (a .at) ((c .before .before .before .before .before .before .before .before .before .before .before .before .before .before .before .before .before .before .before .before .before .before .before .before .before .pre) .7 .class) ((c .before .before .before .before .before .before .before .before .before .before .before .before .before .before .read) .ensures) 2 (omega arith) ((c .before .before .before .before .before .before .before .before .before .before .before .before .before .match) .keys3)) in
+    by-does (operandTable (a .operands .now) (a .bases .now)) (a .blocks .now) (a .labels) (a .plan .now) (a .at) (a .h) (a .u) (a .more) (lent (a .rk .now) (a .rn .now)) (lent (a .sk .now) (a .sn .now)) (lent (a .hk .now) (a .hn .now)) 2 ef ((c .before .before .before .before .before .before .before .before .tuple) .result) (lent ((c .before .before .before .before .before .before .before .before .tuple) .last .1 .1 .1 .0) ((c .before .before .before .before .before .before .before .before .tuple) .last .1 .1 .1 .1 .0)) (lent (a .sk .now) (a .sn .now)) (lent ((c .before .before .before .before .before .before .before .before .tuple) .last .1 .1 .1 .1 .1 .0) ((c .before .before .before .before .before .before .before .before .tuple) .last .1 .1 .1 .1 .1 .1 .0)) (omega arith) (λ s g. (c .before .before .before .before .before .before .before .before .tuple) .ensures (lent (a .sk .now) (a .sn .now)))
 
 same-length-9 : tie.Need-same-length-9
 same-length-9 c = search needs
 
 same-length-10 : tie.Need-same-length-10
 same-length-10 c = search needs
+
+returns-4 : tie.Need-returns-4
+unfolding planned arithOf
+returns-4 c =
+    let a = (c .before .before .before .before .before .before .before .before .before .before .before .before .before .before .before .before .before .before .before .before .before .before .args) in
+    let ef : formOf (a .plan .now) (a .at) ≡ 3 = (class-form (a .plan .now) (a .at) ((c .before .before .before .before .before .before .before .before .before .before .before .before .before .before .before .before .before .before .before .before .before .before .pre) .7 .class) ((c .before .before .before .before .before .before .before .before .before .before .before .read) .ensures) 3 (omega arith) ((c .before .before .before .before .before .before .before .before .before .before .match) .keys4)) in
+    by-does (operandTable (a .operands .now) (a .bases .now)) (a .blocks .now) (a .labels) (a .plan .now) (a .at) (a .h) (a .u) (a .more) (lent (a .rk .now) (a .rn .now)) (lent (a .sk .now) (a .sn .now)) (lent (a .hk .now) (a .hn .now)) 3 ef ((c .before .before .before .before .reckon3) .result) (lent ((c .before .before .before .before .reckon3) .last .1 .0) ((c .before .before .before .before .reckon3) .last .1 .1 .0)) (lent (a .sk .now) (a .sn .now)) (lent (a .hk .now) (a .hn .now)) (omega arith) (λ s g. (c .before .before .before .before .reckon3) .ensures (operandTable (a .operands .now) (a .bases .now)) (plain (reg (getD (a .plan .now) (a .at + 4) 0))) (lent (a .sk .now) (a .sn .now)) (lent (a .hk .now) (a .hn .now)) ((c .before .before .before .before .before .register2) .ensures))
+
+same-length-11 : tie.Need-same-length-11
+same-length-11 c = search needs
+
+same-length-12 : tie.Need-same-length-12
+same-length-12 c = search needs
 
 returns-5 : tie.Need-returns-5
 unfolding planned
@@ -173,24 +175,24 @@ returns-5 c =
     let ef : formOf (a .plan .now) (a .at) ≡ 4 = (class-form (a .plan .now) (a .at) ((c .before .before .before .before .before .before .before .before .before .before .before .before .before .before .before .pre) .7 .class) ((c .before .before .before .before .read) .ensures) 4 (omega arith) ((c .before .before .before .match) .keys5)) in
     by-turn (operandTable (a .operands .now) (a .bases .now)) (a .blocks .now) (a .labels) (a .plan .now) (a .at) (a .h) (a .u) (a .more) (lent (a .rk .now) (a .rn .now)) (lent (a .sk .now) (a .sn .now)) (lent (a .hk .now) (a .hn .now)) 4 ef ((c .branch) .result) (lent (a .rk .now) (a .rn .now)) (lent (a .sk .now) (a .sn .now)) (lent (a .hk .now) (a .hn .now)) (λ m s j p g starts goals et lp. (c .branch) .ensures (operandTable (a .operands .now) (a .bases .now)) (lent (a .sk .now) (a .sn .now)) (lent (a .hk .now) (a .hn .now)) m j g (goals .branch ef))
 
-same-length-11 : tie.Need-same-length-11
-same-length-11 c = search needs
+same-length-13 : tie.Need-same-length-13
+same-length-13 c = search needs
 
-same-length-12 : tie.Need-same-length-12
-same-length-12 c = search needs
+same-length-14 : tie.Need-same-length-14
+same-length-14 c = search needs
 
 returns-6 : tie.Need-returns-6
 unfolding planned
 returns-6 c =
     let a = (c .before .before .before .before .before .before .before .before .before .before .before .before .before .before .before .before .before .before .before .before .before .before .args) in
     let ef : formOf (a .plan .now) (a .at) ≡ 5 = (class-form (a .plan .now) (a .at) ((c .before .before .before .before .before .before .before .before .before .before .before .before .before .before .before .before .before .before .before .before .before .before .pre) .7 .class) ((c .before .before .before .before .before .before .before .before .before .before .before .read) .ensures) 5 (omega arith) ((c .before .before .before .before .before .before .before .before .before .before .match) .keys6)) in
-    by-assign (operandTable (a .operands .now) (a .bases .now)) (a .blocks .now) (a .labels) (a .plan .now) (a .at) (a .h) (a .u) (a .more) (lent (a .rk .now) (a .rn .now)) (lent (a .sk .now) (a .sn .now)) (lent (a .hk .now) (a .hn .now)) 5 ef ((c .before .before .before .before .assign) .result) (omega arith) ((c .before .before .before .before .before .register4) .result) (lent ((c .before .before .before .before .assign) .last .1 .0) ((c .before .before .before .before .assign) .last .1 .1 .0)) ((c .before .before .before .before .before .before .before .before .before .before .before .before .before .before .before .before .before .before .before .before .before .before .pre) .8) ((c .before .before .before .before .before .before .before .before .before .before .before .before .before .before .before .before .before .before .before .before .before .before .pre) .9) (λ s p g. ap (λ (v : Word). Register (getD (a .plan .now) (a .at + 1) 0) (pair v) p) ((c .before .before .before .before .before .register4) .ensures)) ((c .before .before .before .before .assign) .ensures .0) ((c .before .before .before .before .assign) .ensures .1)
+    by-assign (operandTable (a .operands .now) (a .bases .now)) (a .blocks .now) (a .labels) (a .plan .now) (a .at) (a .h) (a .u) (a .more) (lent (a .rk .now) (a .rn .now)) (lent (a .sk .now) (a .sn .now)) (lent (a .hk .now) (a .hn .now)) 5 ef ((c .before .before .before .before .assign) .result) (omega arith) ((c .before .before .before .before .before .register3) .result) (lent ((c .before .before .before .before .assign) .last .1 .0) ((c .before .before .before .before .assign) .last .1 .1 .0)) ((c .before .before .before .before .before .before .before .before .before .before .before .before .before .before .before .before .before .before .before .before .before .before .pre) .8) ((c .before .before .before .before .before .before .before .before .before .before .before .before .before .before .before .before .before .before .before .before .before .before .pre) .9) (λ s p g. ap (λ (v : Word). Register (getD (a .plan .now) (a .at + 1) 0) (pair v) p) ((c .before .before .before .before .before .register3) .ensures)) ((c .before .before .before .before .assign) .ensures .0) ((c .before .before .before .before .assign) .ensures .1)
 
-same-length-13 : tie.Need-same-length-13
-same-length-13 c = search needs
+same-length-15 : tie.Need-same-length-15
+same-length-15 c = search needs
 
-same-length-14 : tie.Need-same-length-14
-same-length-14 c = search needs
+same-length-16 : tie.Need-same-length-16
+same-length-16 c = search needs
 
 returns-7 : tie.Need-returns-7
 unfolding planned
@@ -206,29 +208,29 @@ returns-8 c =
     let ef : formOf (a .plan .now) (a .at) ≡ 7 = (class-form (a .plan .now) (a .at) ((c .before .before .before .before .before .before .before .before .before .before .before .before .before .before .pre) .7 .class) ((c .before .before .before .read) .ensures) 7 (omega arith) ((c .before .before .match) .keys8)) in
     by-turn (operandTable (a .operands .now) (a .bases .now)) (a .blocks .now) (a .labels) (a .plan .now) (a .at) (a .h) (a .u) (a .more) (lent (a .rk .now) (a .rn .now)) (lent (a .sk .now) (a .sn .now)) (lent (a .hk .now) (a .hn .now)) 7 ef ((c .goes) .result) (lent (a .rk .now) (a .rn .now)) (lent (a .sk .now) (a .sn .now)) (lent (a .hk .now) (a .hn .now)) (λ m s j p g starts goals et lp. to-position (operandTable (a .operands .now) (a .bases .now)) m (a .more) (lent (a .rk .now) (a .rn .now)) (lent (a .sk .now) (a .sn .now)) (lent (a .hk .now) (a .hn .now)) (a .h) (a .u) j ((c .before .index) .result) s ((c .before .index) .ensures .0 ∙ goals .label ef) (goals .reached ef) ((c .before .before .before .before .before .before .before .before .before .before .before .before .before .before .pre) .8) ((c .before .before .before .before .before .before .before .before .before .before .before .before .before .before .pre) .9) ((c .goes) .result) refl ((c .goes) .ensures))
 
-same-length-15 : tie.Need-same-length-15
-same-length-15 c = search needs
-
-same-length-16 : tie.Need-same-length-16
-same-length-16 c = search needs
-
-returns-9 : tie.Need-returns-9
-returns-9 c =
-    let a = (c .before .before .before .before .before .before .before .before .before .before .before .before .before .before .before .before .args) in
-    let ef : formOf (a .plan .now) (a .at) ≡ 8 = (class-form (a .plan .now) (a .at) ((c .before .before .before .before .before .before .before .before .before .before .before .before .before .before .before .before .pre) .7 .class) ((c .before .before .before .before .before .read) .ensures) 8 (omega arith) ((c .before .before .before .before .match) .keys9)) in
-    by-jump (operandTable (a .operands .now) (a .bases .now)) (a .blocks .now) (a .labels) (a .plan .now) (a .at) (a .h) (a .u) (a .more) (lent (a .rk .now) (a .rn .now)) (lent (a .sk .now) (a .sn .now)) (lent (a .hk .now) (a .hn .now)) ef ((c .jump) .result) (wordIs ((c .before .register5) .result)) ((c .before .register5) .ensures) (λ m j starts. (c .jump) .ensures (operandTable (a .operands .now) (a .bases .now)) (lent (a .rk .now) (a .rn .now)) (lent (a .sk .now) (a .sn .now)) (lent (a .hk .now) (a .hn .now)) m j starts)
-
 same-length-17 : tie.Need-same-length-17
 same-length-17 c = search needs
 
 same-length-18 : tie.Need-same-length-18
 same-length-18 c = search needs
 
+returns-9 : tie.Need-returns-9
+returns-9 c =
+    let a = (c .before .before .before .before .before .before .before .before .before .before .before .before .before .before .before .before .args) in
+    let ef : formOf (a .plan .now) (a .at) ≡ 8 = (class-form (a .plan .now) (a .at) ((c .before .before .before .before .before .before .before .before .before .before .before .before .before .before .before .before .pre) .7 .class) ((c .before .before .before .before .before .read) .ensures) 8 (omega arith) ((c .before .before .before .before .match) .keys9)) in
+    by-jump (operandTable (a .operands .now) (a .bases .now)) (a .blocks .now) (a .labels) (a .plan .now) (a .at) (a .h) (a .u) (a .more) (lent (a .rk .now) (a .rn .now)) (lent (a .sk .now) (a .sn .now)) (lent (a .hk .now) (a .hn .now)) ef ((c .jump) .result) (wordIs ((c .before .register4) .result)) ((c .before .register4) .ensures) (λ m j starts. (c .jump) .ensures (operandTable (a .operands .now) (a .bases .now)) (lent (a .rk .now) (a .rn .now)) (lent (a .sk .now) (a .sn .now)) (lent (a .hk .now) (a .hn .now)) m j starts)
+
 same-length-19 : tie.Need-same-length-19
 same-length-19 c = search needs
 
 same-length-20 : tie.Need-same-length-20
 same-length-20 c = search needs
+
+same-length-21 : tie.Need-same-length-21
+same-length-21 c = search needs
+
+same-length-22 : tie.Need-same-length-22
+same-length-22 c = search needs
 
 returns-10 : tie.Need-returns-10
 unfolding planned
@@ -237,17 +239,17 @@ returns-10 c =
     let ef : formOf (a .plan .now) (a .at) ≡ 9 = (class-form (a .plan .now) (a .at) ((c .before .before .before .before .before .before .before .before .before .before .before .before .before .before .before .before .before .before .before .before .before .pre) .7 .class) ((c .before .before .before .before .before .before .before .before .before .before .read) .ensures) 9 (omega arith) ((c .before .before .before .before .before .before .before .before .before .match) .keys10)) in
     by-does (operandTable (a .operands .now) (a .bases .now)) (a .blocks .now) (a .labels) (a .plan .now) (a .at) (a .h) (a .u) (a .more) (lent (a .rk .now) (a .rn .now)) (lent (a .sk .now) (a .sn .now)) (lent (a .hk .now) (a .hn .now)) 9 ef ((c .before .before .before .before .load) .result) (lent ((c .before .before .before .before .load) .last .1 .0) ((c .before .before .before .before .load) .last .1 .1 .0)) (lent (a .sk .now) (a .sn .now)) (lent (a .hk .now) (a .hn .now)) (omega arith) (λ s g. (c .before .before .before .before .load) .ensures (operandTable (a .operands .now) (a .bases .now)) (lent (a .sk .now) (a .sn .now)))
 
-same-length-21 : tie.Need-same-length-21
-same-length-21 c = search needs
-
-same-length-22 : tie.Need-same-length-22
-same-length-22 c = search needs
-
 same-length-23 : tie.Need-same-length-23
 same-length-23 c = search needs
 
 same-length-24 : tie.Need-same-length-24
 same-length-24 c = search needs
+
+same-length-25 : tie.Need-same-length-25
+same-length-25 c = search needs
+
+same-length-26 : tie.Need-same-length-26
+same-length-26 c = search needs
 
 returns-11 : tie.Need-returns-11
 unfolding planned
@@ -256,17 +258,17 @@ returns-11 c =
     let ef : formOf (a .plan .now) (a .at) ≡ 10 = (class-form (a .plan .now) (a .at) ((c .before .before .before .before .before .before .before .before .before .before .before .before .before .before .before .before .before .before .before .before .before .pre) .7 .class) ((c .before .before .before .before .before .before .before .before .before .before .read) .ensures) 10 (omega arith) ((c .before .before .before .before .before .before .before .before .before .match) .keys11)) in
     by-does (operandTable (a .operands .now) (a .bases .now)) (a .blocks .now) (a .labels) (a .plan .now) (a .at) (a .h) (a .u) (a .more) (lent (a .rk .now) (a .rn .now)) (lent (a .sk .now) (a .sn .now)) (lent (a .hk .now) (a .hn .now)) 10 ef ((c .before .before .before .before .store) .result) (lent (a .rk .now) (a .rn .now)) (lent (a .sk .now) (a .sn .now)) (lent ((c .before .before .before .before .store) .last .1 .1 .1 .0) ((c .before .before .before .before .store) .last .1 .1 .1 .1 .0)) (omega arith) (λ s g. (c .before .before .before .before .store) .ensures (operandTable (a .operands .now) (a .bases .now)) (lent (a .sk .now) (a .sn .now)))
 
-same-length-25 : tie.Need-same-length-25
-same-length-25 c = search needs
-
-same-length-26 : tie.Need-same-length-26
-same-length-26 c = search needs
-
 same-length-27 : tie.Need-same-length-27
 same-length-27 c = search needs
 
 same-length-28 : tie.Need-same-length-28
 same-length-28 c = search needs
+
+same-length-29 : tie.Need-same-length-29
+same-length-29 c = search needs
+
+same-length-30 : tie.Need-same-length-30
+same-length-30 c = search needs
 
 returns-12 : tie.Need-returns-12
 unfolding planned
@@ -275,17 +277,17 @@ returns-12 c =
     let ef : formOf (a .plan .now) (a .at) ≡ 11 = (class-form (a .plan .now) (a .at) ((c .before .before .before .before .before .before .before .before .before .before .before .before .before .before .before .before .before .before .before .before .before .pre) .7 .class) ((c .before .before .before .before .before .before .before .before .before .before .read) .ensures) 11 (omega arith) ((c .before .before .before .before .before .before .before .before .before .match) .keys12)) in
     by-does (operandTable (a .operands .now) (a .bases .now)) (a .blocks .now) (a .labels) (a .plan .now) (a .at) (a .h) (a .u) (a .more) (lent (a .rk .now) (a .rn .now)) (lent (a .sk .now) (a .sn .now)) (lent (a .hk .now) (a .hn .now)) 11 ef ((c .before .before .before .before .peek) .result) (lent ((c .before .before .before .before .peek) .last .1 .0) ((c .before .before .before .before .peek) .last .1 .1 .0)) (lent (a .sk .now) (a .sn .now)) (lent (a .hk .now) (a .hn .now)) (omega arith) (λ s g. (c .before .before .before .before .peek) .ensures (operandTable (a .operands .now) (a .bases .now)) (lent (a .hk .now) (a .hn .now)))
 
-same-length-29 : tie.Need-same-length-29
-same-length-29 c = search needs
-
-same-length-30 : tie.Need-same-length-30
-same-length-30 c = search needs
-
 same-length-31 : tie.Need-same-length-31
 same-length-31 c = search needs
 
 same-length-32 : tie.Need-same-length-32
 same-length-32 c = search needs
+
+same-length-33 : tie.Need-same-length-33
+same-length-33 c = search needs
+
+same-length-34 : tie.Need-same-length-34
+same-length-34 c = search needs
 
 returns-13 : tie.Need-returns-13
 unfolding planned
@@ -294,17 +296,17 @@ returns-13 c =
     let ef : formOf (a .plan .now) (a .at) ≡ 12 = (class-form (a .plan .now) (a .at) ((c .before .before .before .before .before .before .before .before .before .before .before .before .before .before .before .before .before .before .before .before .before .pre) .7 .class) ((c .before .before .before .before .before .before .before .before .before .before .read) .ensures) 12 (omega arith) ((c .before .before .before .before .before .before .before .before .before .match) .keys13)) in
     by-does (operandTable (a .operands .now) (a .bases .now)) (a .blocks .now) (a .labels) (a .plan .now) (a .at) (a .h) (a .u) (a .more) (lent (a .rk .now) (a .rn .now)) (lent (a .sk .now) (a .sn .now)) (lent (a .hk .now) (a .hn .now)) 12 ef ((c .before .before .before .before .poke) .result) (lent (a .rk .now) (a .rn .now)) (lent ((c .before .before .before .before .poke) .last .1 .1 .1 .0) ((c .before .before .before .before .poke) .last .1 .1 .1 .1 .0)) (lent (a .hk .now) (a .hn .now)) (omega arith) (λ s g. (c .before .before .before .before .poke) .ensures (operandTable (a .operands .now) (a .bases .now)) (lent (a .hk .now) (a .hn .now)))
 
-same-length-33 : tie.Need-same-length-33
-same-length-33 c = search needs
-
-same-length-34 : tie.Need-same-length-34
-same-length-34 c = search needs
-
 same-length-35 : tie.Need-same-length-35
 same-length-35 c = search needs
 
 same-length-36 : tie.Need-same-length-36
 same-length-36 c = search needs
+
+same-length-37 : tie.Need-same-length-37
+same-length-37 c = search needs
+
+same-length-38 : tie.Need-same-length-38
+same-length-38 c = search needs
 
 returns-14 : tie.Need-returns-14
 unfolding planned
@@ -313,17 +315,17 @@ returns-14 c =
     let ef : formOf (a .plan .now) (a .at) ≡ 13 = (class-form (a .plan .now) (a .at) ((c .before .before .before .before .before .before .before .before .before .before .before .before .before .before .before .before .before .before .before .before .before .pre) .7 .class) ((c .before .before .before .before .before .before .before .before .before .before .read) .ensures) 13 (omega arith) ((c .before .before .before .before .before .before .before .before .before .match) .keys14)) in
     by-does (operandTable (a .operands .now) (a .bases .now)) (a .blocks .now) (a .labels) (a .plan .now) (a .at) (a .h) (a .u) (a .more) (lent (a .rk .now) (a .rn .now)) (lent (a .sk .now) (a .sn .now)) (lent (a .hk .now) (a .hn .now)) 13 ef ((c .before .before .before .before .peek-through) .result) (lent ((c .before .before .before .before .peek-through) .last .1 .0) ((c .before .before .before .before .peek-through) .last .1 .1 .0)) (lent (a .sk .now) (a .sn .now)) (lent (a .hk .now) (a .hn .now)) (omega arith) (λ s g. (c .before .before .before .before .peek-through) .ensures (operandTable (a .operands .now) (a .bases .now)) (lent (a .hk .now) (a .hn .now)))
 
-same-length-37 : tie.Need-same-length-37
-same-length-37 c = search needs
-
-same-length-38 : tie.Need-same-length-38
-same-length-38 c = search needs
-
 same-length-39 : tie.Need-same-length-39
 same-length-39 c = search needs
 
 same-length-40 : tie.Need-same-length-40
 same-length-40 c = search needs
+
+same-length-41 : tie.Need-same-length-41
+same-length-41 c = search needs
+
+same-length-42 : tie.Need-same-length-42
+same-length-42 c = search needs
 
 returns-15 : tie.Need-returns-15
 unfolding planned
@@ -331,12 +333,6 @@ returns-15 c =
     let a = (c .before .before .before .before .before .before .before .before .before .before .before .before .before .before .before .before .before .before .before .before .before .args) in
     let ef : formOf (a .plan .now) (a .at) ≡ 14 = (class-form (a .plan .now) (a .at) ((c .before .before .before .before .before .before .before .before .before .before .before .before .before .before .before .before .before .before .before .before .before .pre) .7 .class) ((c .before .before .before .before .before .before .before .before .before .before .read) .ensures) 14 (omega arith) ((c .before .before .before .before .before .before .before .before .before .match) .keys15)) in
     by-does (operandTable (a .operands .now) (a .bases .now)) (a .blocks .now) (a .labels) (a .plan .now) (a .at) (a .h) (a .u) (a .more) (lent (a .rk .now) (a .rn .now)) (lent (a .sk .now) (a .sn .now)) (lent (a .hk .now) (a .hn .now)) 14 ef ((c .before .before .before .before .poke-through) .result) (lent (a .rk .now) (a .rn .now)) (lent ((c .before .before .before .before .poke-through) .last .1 .1 .1 .0) ((c .before .before .before .before .poke-through) .last .1 .1 .1 .1 .0)) (lent (a .hk .now) (a .hn .now)) (omega arith) (λ s g. (c .before .before .before .before .poke-through) .ensures (operandTable (a .operands .now) (a .bases .now)) (lent (a .hk .now) (a .hn .now)))
-
-same-length-41 : tie.Need-same-length-41
-same-length-41 c = search needs
-
-same-length-42 : tie.Need-same-length-42
-same-length-42 c = search needs
 
 same-length-43 : tie.Need-same-length-43
 same-length-43 c = search needs
@@ -350,6 +346,12 @@ same-length-45 c = search needs
 same-length-46 : tie.Need-same-length-46
 same-length-46 c = search needs
 
+same-length-47 : tie.Need-same-length-47
+same-length-47 c = search needs
+
+same-length-48 : tie.Need-same-length-48
+same-length-48 c = search needs
+
 returns-16 : tie.Need-returns-16
 returns-16 c = (c .before .before .before .before .before .before .before .before .before .before .before .before .other) .ensures
 
@@ -362,18 +364,17 @@ row-spec =
     reckon-requires
     literal-requires
     reckon-requires-2
+    tuple-requires
     register-requires-2
     reckon-requires-3
-    register-requires-3
-    reckon-requires-4
     branch-requires
-    register-requires-4
+    register-requires-3
     assign-requires
     constant-requires
     assign-requires-2
     index-requires
     goes-requires
-    register-requires-5
+    register-requires-4
     jump-requires
     load-requires
     store-requires
@@ -390,57 +391,59 @@ row-spec =
     returns-2
     same-length-5
     same-length-6
-    returns-3
     same-length-7
     same-length-8
-    returns-4
+    returns-3
     same-length-9
     same-length-10
-    returns-5
+    returns-4
     same-length-11
     same-length-12
-    returns-6
+    returns-5
     same-length-13
     same-length-14
-    returns-7
-    returns-8
+    returns-6
     same-length-15
     same-length-16
-    returns-9
+    returns-7
+    returns-8
     same-length-17
     same-length-18
+    returns-9
     same-length-19
     same-length-20
-    returns-10
     same-length-21
     same-length-22
+    returns-10
     same-length-23
     same-length-24
-    returns-11
     same-length-25
     same-length-26
+    returns-11
     same-length-27
     same-length-28
-    returns-12
     same-length-29
     same-length-30
+    returns-12
     same-length-31
     same-length-32
-    returns-13
     same-length-33
     same-length-34
+    returns-13
     same-length-35
     same-length-36
-    returns-14
     same-length-37
     same-length-38
+    returns-14
     same-length-39
     same-length-40
-    returns-15
     same-length-41
     same-length-42
+    returns-15
     same-length-43
     same-length-44
     same-length-45
     same-length-46
+    same-length-47
+    same-length-48
     returns-16)

@@ -1,0 +1,4 @@
+pub mod Items
+pub mod Lines
+pub mod Registers
+pub mod Flat

@@ -1,0 +1,2 @@
+pub mod Itself
+pub mod Fill

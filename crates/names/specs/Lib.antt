@@ -1,0 +1,3 @@
+pub mod Names
+pub mod Letters
+pub mod Pieces

@@ -1,0 +1,26 @@
+use Rattle.plain_operands.proofs.PlacedLaws.{low-sum}
+use borrow.Author.Needs.{needs}
+use Rattle.plain_operands.proofs.low_of.Statement.{statement}
+use Rattle.plain_operands.proofs.low_of.Tie as tie
+use Rattle.plain_operands.proofs.low_of.Reads as reads
+use Rattle.plain_operands.proofs.low_of.Lts as lts
+use Rattle.plain_operands.proofs.one_if.Reads as one-if-reads
+
+-- src/lib.rt:433:5
+one-if-requires : tie.Need-one-if-requires
+one-if-requires c κs = search needs
+
+-- src/lib.rt:433:23
+one-if-requires-2 : tie.Need-one-if-requires-2
+one-if-requires-2 c κs = search needs
+
+-- src/lib.rt:433:5
+add-result : tie.Need-add-result
+add-result c = search needs
+
+-- src/lib.rt:105:1
+returns : tie.Need-returns
+returns c = low-sum ((c .before .before .args) .b) ((c .before .one-if) .result) ((c .one-if2) .result) ((c .before .one-if) .ensures .0) ((c .one-if2) .ensures .0)
+
+pub low-of-spec : {M : Type 1} → statement M
+low-of-spec = tie.close (tie.spec one-if-requires one-if-requires-2 add-result returns)

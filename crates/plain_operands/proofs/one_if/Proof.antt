@@ -1,0 +1,20 @@
+use borrow.Author.Needs.{needs}
+use native.Mathlib.Omega.{arith}
+use mathlib.Core.Path.{ap, sym}
+use mathlib.Core.Bool.{Bool, cond}
+use borrow.Author.Tests.{eq-eqb, ne-eqb}
+use Rattle.plain_operands.proofs.one_if.Statement.{statement}
+use Rattle.plain_operands.proofs.one_if.Tie as tie
+use Rattle.plain_operands.proofs.one_if.Reads as reads
+use Rattle.plain_operands.proofs.one_if.Lts as lts
+
+-- src/lib.rt:92:9
+returns : tie.Need-returns
+returns c = (sym (ap (λ (t : Bool). cond t 1 0) (eq-eqb ((c .before .args) .b) ((c .before .args) .c) ((c .if1) .taken))), omega arith)
+
+-- src/lib.rt:88:1
+returns-2 : tie.Need-returns-2
+returns-2 c = (sym (ap (λ (t : Bool). cond t 1 0) (ne-eqb ((c .before .args) .b) ((c .before .args) .c) ((c .if1) .left))), omega arith)
+
+pub one-if-spec : {M : Type 1} → statement M
+one-if-spec = tie.close (tie.spec returns returns-2)

@@ -1,0 +1,17 @@
+use borrow.Author.Needs.{needs}
+use borrow.Author.Tests.{eq-eqb, ne-eqb}
+use Rattle.stack_pairs.proofs.if_onward.Statement.{statement}
+use Rattle.stack_pairs.proofs.if_onward.Tie as tie
+use Rattle.stack_pairs.proofs.if_onward.Reads as reads
+use Rattle.stack_pairs.proofs.if_onward.Lts as lts
+
+-- src/lib.rt:67:9
+returns : tie.Need-returns
+returns c = simp (eq-eqb _ _ ((c .if1) .taken))
+
+-- src/lib.rt:63:1
+returns-2 : tie.Need-returns-2
+returns-2 c = simp (ne-eqb _ _ ((c .if1) .left))
+
+pub if-onward-spec : {M : Type 1} → statement M
+if-onward-spec = tie.close (tie.spec returns returns-2)
