@@ -1,5 +1,5 @@
 /* Times the proved library against the plain C of plain/, in one process and in turn.
-   bench                 the table: medians of RUNS runs each, CPU time of this thread, and the ratio
+   bench                 the table: medians of ROUNDS runs each, CPU time of this thread, and of the ratio in each round
    bench once NAME WHO   one call of measure NAME by WHO (ours, plain), for a profiler
    bench loop            nanoseconds for each round of the count-down loop
    bench list            the names */
@@ -12,7 +12,7 @@
 #include <string.h>
 #include <time.h>
 
-enum { RUNS = 15 };
+enum { ROUNDS = 101 };
 
 typedef struct {
     uint8_t *at;
@@ -74,30 +74,52 @@ static int by_size(const void *a, const void *b) {
     return (x > y) - (x < y);
 }
 
-/* medians of nanoseconds a call */
-static void time_it(const measure *m, double med[WHO]) {
-    double t[WHO][RUNS];
-    int whos = m->run ? WHO : SWITCH;
+/* medians over rounds of nanoseconds a call, of the same less a call with no steps, and of each one's time over ours in the same round */
+typedef struct {
+    double call[WHO], steps[WHO], ratio[WHO], steps_ratio[WHO];
+} times;
+
+static double median(const double *t, int n) {
+    static double s[ROUNDS];
+    memcpy(s, t, n * sizeof *t);
+    qsort(s, n, sizeof *s, by_size);
+    return s[n / 2];
+}
+
+static double lap(const measure *m, int who, int n) {
+    double from = now();
+    for (int i = 0; i < n; i++)
+        call(m, who);
+    return (now() - from) / n;
+}
+
+static times time_it(const measure *m) {
+    static double t[WHO][ROUNDS], s[WHO][ROUNDS], q[WHO][ROUNDS], sq[WHO][ROUNDS];
+    times all;
+    measure idle = *m;
+    int whos = m->run ? WHO : SWITCH, steps = m->run && m->budget;
     uint64_t said = call(m, OURS);
-    double a = now();
-    call(m, OURS);
-    double one = now() - a;
-    int n = one > 2e7 ? 1 : (int)(2e7 / (one + 1)) + 1; /* some 20 ms a run */
-    if (n > 20000)
-        n = 20000;
+    double one = lap(m, OURS, 1);
+    int rounds = one > 1e7 ? 15 : ROUNDS, n = one > 2e6 ? 1 : (int)(2e6 / (one + 1)) + 1; /* some 2 ms a run */
+    idle.budget = 0;
+    if (n > 2000)
+        n = 2000;
     if (said != call(m, PLAIN) || said != call(m, SWITCH))
         printf("%s: the answers differ\n", m->name);
-    for (int r = 0; r < RUNS; r++)
+    for (int r = 0; r < rounds; r++)
         for (int who = 0; who < whos; who++) {
-            double from = now();
-            for (int i = 0; i < n; i++)
-                call(m, who);
-            t[who][r] = (now() - from) / n;
+            t[who][r] = lap(m, who, n);
+            s[who][r] = t[who][r] - (steps ? lap(&idle, who, n) : 0);
+            q[who][r] = t[who][r] / t[OURS][r];
+            sq[who][r] = s[who][r] / s[OURS][r];
         }
     for (int who = 0; who < whos; who++) {
-        qsort(t[who], RUNS, sizeof(double), by_size);
-        med[who] = t[who][RUNS / 2];
+        all.call[who] = median(t[who], rounds);
+        all.steps[who] = median(s[who], rounds);
+        all.ratio[who] = median(q[who], rounds);
+        all.steps_ratio[who] = median(sq[who], rounds);
     }
+    return all;
 }
 
 static measure all[64];
@@ -145,28 +167,22 @@ static void table(void) {
     printf("%-28s %8s %8s %8s   %-24s %s\n", "M steps a second", "ours", "plain C", "switch", "ours/plain, ours/switch", "steps alone (less a start with no steps): ours/plain, ns a step");
     for (int i = 0; i < count; i++) {
         const measure *m = &all[i];
-        double t[WHO];
-        time_it(m, t);
+        times x = time_it(m);
+        double *t = x.call;
         if (m->run && m->budget) {
             size_t steps = steps_of(m);
-            measure idle = *m;
-            double z[WHO];
-            idle.budget = 0;
-            time_it(&idle, z);
-            for (int who = 0; who < WHO; who++)
-                z[who] = (t[who] - z[who]) / steps;
             printf("%-28s %8.1f %8.1f %8.1f   %.2f, %.2f %14s %.2f   %.2f, %.2f, %.2f   (%zu steps)\n", m->name, steps / t[OURS] * 1e3, steps / t[PLAIN] * 1e3, steps / t[SWITCH] * 1e3,
-                   t[PLAIN] / t[OURS], t[SWITCH] / t[OURS], "", z[PLAIN] / z[OURS], z[OURS], z[PLAIN], z[SWITCH], steps);
+                   x.ratio[PLAIN], x.ratio[SWITCH], "", x.steps_ratio[PLAIN], x.steps[OURS] / steps, x.steps[PLAIN] / steps, x.steps[SWITCH] / steps, steps);
         } else if (!strncmp(m->name, "hostile", 7)) {
             if (getenv("BENCH_ALL"))
-                printf("%-28s %11.0f us %11.0f us %9.2f\n", m->name, t[0] / 1e3, t[1] / 1e3, t[0] / t[1]);
+                printf("%-28s %11.0f us %11.0f us %9.2f\n", m->name, t[0] / 1e3, t[1] / 1e3, 1 / x.ratio[PLAIN]);
             if (t[0] > worst[0]) {
                 worst[0] = t[0];
                 worst[1] = t[1];
                 slow = m->name;
             }
         } else
-            printf("%-28s %11.2f us %11.2f us %9.2f   (%zu bytes)\n", m->name, t[0] / 1e3, t[1] / 1e3, t[0] / t[1], m->text.len);
+            printf("%-28s %11.2f us %11.2f us %9.2f   (%zu bytes)\n", m->name, t[0] / 1e3, t[1] / 1e3, 1 / x.ratio[PLAIN], m->text.len);
         if (m->run && m->budget && i + 1 < count && !(all[i + 1].run && all[i + 1].budget))
             printf("\n%-28s %11s    %11s    %9s\n", "a call", "ours", "plain C", "ours/plain");
         fflush(stdout);
@@ -200,9 +216,8 @@ int main(int argc, char **argv) {
         return 0;
     }
     if (argc > 1 && !strcmp(argv[1], "loop")) {
-        double t[WHO];
-        time_it(&all[0], t);
-        printf("ours %f\nplain_C %f\nplain_C_switch %f\n", t[OURS] / 333000, t[PLAIN] / 333000, t[SWITCH] / 333000);
+        times x = time_it(&all[0]);
+        printf("ours %f\nplain_C %f\nplain_C_switch %f\n", x.call[OURS] / 333000, x.call[PLAIN] / 333000, x.call[SWITCH] / 333000);
         return 0;
     }
     table();
