@@ -1,18 +1,19 @@
 // Runs packed cases (data/, written by tools/pack_cases, where their form is told) through check, start and resume, and compares every
-// answer and the whole lent state with what the cases say. Check: the counts of blocks and instructions, or number and line, and at fault 10
-// of a jump or branch the item named is one of those listed. Start and resume: the stop, the steps and r1's word, or number and line. State:
-// every lent word, the depth, the heap's use and the position. A case that differs is printed by its name, and at the end how many there are.
+// answer and the whole lent state with what the cases say. Check: the counts of blocks and instructions, or number and line, and at fault
+// 10 of a jump or branch the item named is one of those listed. Start and resume: the stop, the steps and r1's word, or number and line.
+// State: every lent word, the depth, the heap's use and the position. A case that differs is printed by its name, and at the end how many
+// there are.
+use exec_machine::Place;
+use exec_outcome::Outcome;
 use libc::STDOUT_FILENO;
-use machine::Place;
-use outcome::Outcome;
-use verdict::Answer;
+use valid_verdict::Answer;
 ghost use Prim.Native.Nat.{_<_, _≤_};
 ghost use lib.ListN.{length};
 ghost use Rattle.io.specs.Counts.{Counts};
 
 const FILES: u8 = 40;
 
-// Where the stack's and the heap's words stand in the wanted memory: 8 registers, 260 stack words, 2,052 heap words.
+// Where the stack's and the heap's words stand in the lent and the wanted memory: 8 registers, 260 stack words, 2,052 heap words.
 const STACK: usize = 8;
 
 const HEAP: usize = 268;
@@ -201,30 +202,20 @@ fn is_answer(line: &[u8], answer: Answer) -> bool {
 }
 
 // A call's answer is that of the line, from field 1 on.
-fn is_stop(line: &[u8], answer: outcome::Answer) -> bool {
+fn is_stop(line: &[u8], answer: exec_outcome::Answer) -> bool {
     match answer {
-        outcome::Answer::Refused(number, at) => has_numbers(line, 1, 0, number, at),
-        outcome::Answer::Halted(steps, kind, number) => {
+        exec_outcome::Answer::Refused(number, at) => has_numbers(line, 1, 0, number, at),
+        exec_outcome::Answer::Halted(steps, kind, number) => {
             if field(line, 4) != number as usize {
                 return false;
             }
             has_numbers(line, 1, 1, steps, kind as usize)
         }
-        outcome::Answer::Paused(steps) => has_numbers(line, 1, 2, steps, 0),
-        outcome::Answer::StackFull(steps) => has_numbers(line, 1, 3, steps, 0),
-        outcome::Answer::HeapFull(steps) => has_numbers(line, 1, 4, steps, 0),
-        outcome::Answer::Stuck(steps) => has_numbers(line, 1, 5, steps, 0),
+        exec_outcome::Answer::Paused(steps) => has_numbers(line, 1, 2, steps, 0),
+        exec_outcome::Answer::StackFull(steps) => has_numbers(line, 1, 3, steps, 0),
+        exec_outcome::Answer::HeapFull(steps) => has_numbers(line, 1, 4, steps, 0),
+        exec_outcome::Answer::Stuck(steps) => has_numbers(line, 1, 5, steps, 0),
     }
-}
-
-fn words(s: &[u32], a: usize, b: usize) -> &[u32] {
-    if s.len() < b {
-        return &s[0..0];
-    }
-    if b < a {
-        return &s[0..0];
-    }
-    &s[a..b]
 }
 
 fn word(s: &[u32], i: usize) -> u32 {
@@ -448,24 +439,42 @@ fn put_number(numbers: &mut [u32], i: usize, number: u32) {
     }
 }
 
-// One area of the lent state: `f` makes its words junk, `p area from end kind number` changes some of them.
-fn poke(line: &[u8], area: usize, kinds: &mut [u8], numbers: &mut [u32]) {
+fn least(a: usize, b: usize) -> usize
+    ensures { λ r. ⌜ r ≤ b ⌝ }
+{
+    if a < b {
+        return a;
+    }
+    b
+}
+
+// Where word i of an area stands, or the area's end: 0 the registers, 1 the stack, 2 the heap.
+fn word_at(area: usize, i: usize) -> usize {
+    if area == 0 {
+        return least(i, STACK);
+    }
+    if area == 1 {
+        return STACK + least(i, 260);
+    }
+    HEAP + least(i, 2052)
+}
+
+// `f` makes all words junk, `p area from end kind number` changes some of an area.
+fn poke(line: &[u8], kinds: &mut [u8], numbers: &mut [u32]) {
     let letter = byte(line, 0);
     if letter == b'f' {
-        fill(kinds, numbers, 0, WORDS, memory::JUNK, 0);
+        fill(kinds, numbers, 0, WORDS, exec_words::memory::JUNK, 0);
         return;
     }
     if letter != b'p' {
         return;
     }
-    if field(line, 0) != area {
-        return;
-    }
+    let area = field(line, 0);
     fill(
         kinds,
         numbers,
-        field(line, 1),
-        field(line, 2),
+        word_at(area, field(line, 1)),
+        word_at(area, field(line, 2)),
         kind_field(line, 3),
         number_field(line, 4),
     );
@@ -475,7 +484,7 @@ fn poke(line: &[u8], area: usize, kinds: &mut [u8], numbers: &mut [u32]) {
 fn want(line: &[u8], wk: &mut [u8], wn: &mut [u32]) {
     let letter = byte(line, 0);
     if letter == b'f' {
-        fill(wk, wn, 0, WORDS, memory::JUNK, 0);
+        fill(wk, wn, 0, WORDS, exec_words::memory::JUNK, 0);
         return;
     }
     if letter != b'w' {
@@ -491,13 +500,49 @@ fn want(line: &[u8], wk: &mut [u8], wn: &mut [u32]) {
     );
 }
 
-fn least(a: usize, b: usize) -> usize
-    ensures { λ r. ⌜ r ≤ b ⌝ }
+// The kinds from `at` on into an area, and back.
+fn take_kinds(kinds: &[u8], at: usize, area: &mut [u8])
+    requires { ⌜ at ≤ 2320 ⌝ }
 {
-    if a < b {
-        return a;
+    let n = least(area.len(), WORDS);
+    let mut i = 0;
+    while i < n {
+        put_byte(area, i, byte(kinds, at + i));
+        i += 1;
     }
-    b
+}
+
+fn give_kinds(kinds: &mut [u8], at: usize, area: &[u8])
+    requires { ⌜ at ≤ 2320 ⌝ }
+{
+    let n = least(area.len(), WORDS);
+    let mut i = 0;
+    while i < n {
+        put_byte(kinds, at + i, byte(area, i));
+        i += 1;
+    }
+}
+
+fn take_numbers(numbers: &[u32], at: usize, area: &mut [u32])
+    requires { ⌜ at ≤ 2320 ⌝ }
+{
+    let n = least(area.len(), WORDS);
+    let mut i = 0;
+    while i < n {
+        put_number(area, i, word(numbers, at + i));
+        i += 1;
+    }
+}
+
+fn give_numbers(numbers: &mut [u32], at: usize, area: &[u32])
+    requires { ⌜ at ≤ 2320 ⌝ }
+{
+    let n = least(area.len(), WORDS);
+    let mut i = 0;
+    while i < n {
+        put_number(numbers, at + i, word(area, i));
+        i += 1;
+    }
 }
 
 // Start, or continue.
@@ -520,8 +565,82 @@ fn call(
     execute::resume(text, budget, rk, rn, sk, sn, hk, hn, place)
 }
 
+// As many words of the stack and the heap as are lent.
+fn call_lent(
+    line: &[u8],
+    text: &[u8],
+    samples: &[u8],
+    b: Bench,
+    rk: &mut [u8],
+    rn: &mut [u32],
+    sk: &mut [u8],
+    sn: &mut [u32],
+    hk: &mut [u8],
+    hn: &mut [u32],
+) -> Outcome {
+    let ks = least(b.stack, sk.len());
+    let ns = least(b.stack, sn.len());
+    let kh = least(b.heap, hk.len());
+    let nh = least(b.heap, hn.len());
+    let place = b.place;
+    call(
+        line,
+        text,
+        samples,
+        rk,
+        rn,
+        &mut sk[0..ks],
+        &mut sn[0..ns],
+        &mut hk[0..kh],
+        &mut hn[0..nh],
+        place,
+    )
+}
+
+// A call on the lent words.
+fn call_on(
+    line: &[u8],
+    text: &[u8],
+    samples: &[u8],
+    b: Bench,
+    kinds: &mut [u8],
+    numbers: &mut [u32],
+) -> Outcome {
+    let mut rk = [0u8; 8];
+    let mut rn = [0u32; 8];
+    let mut sk = [0u8; 260];
+    let mut sn = [0u32; 260];
+    let mut hk = [0u8; 2052];
+    let mut hn = [0u32; 2052];
+    take_kinds(kinds, 0, &mut rk);
+    take_numbers(numbers, 0, &mut rn);
+    take_kinds(kinds, STACK, &mut sk);
+    take_numbers(numbers, STACK, &mut sn);
+    take_kinds(kinds, HEAP, &mut hk);
+    take_numbers(numbers, HEAP, &mut hn);
+    let out = call_lent(
+        line,
+        text,
+        samples,
+        b,
+        &mut rk,
+        &mut rn,
+        &mut sk,
+        &mut sn,
+        &mut hk,
+        &mut hn,
+    );
+    give_kinds(kinds, 0, &rk);
+    give_numbers(numbers, 0, &rn);
+    give_kinds(kinds, STACK, &sk);
+    give_numbers(numbers, STACK, &sn);
+    give_kinds(kinds, HEAP, &hk);
+    give_numbers(numbers, HEAP, &hn);
+    out
+}
+
 // After a call that is answered as the line says, or not.
-fn called(line: &[u8], b: Bench, answer: outcome::Answer, place: Place) -> Bench {
+fn called(line: &[u8], b: Bench, answer: exec_outcome::Answer, place: Place) -> Bench {
     let agrees = is_stop(line, answer);
     let mut next = b;
     next.calls = one_more(b.calls);
@@ -538,39 +657,19 @@ fn is_call(line: &[u8]) -> bool {
     letter == b'n'
 }
 
-// `g budget` and an answer: start; `n budget` and an answer: continue. As many words of the stack and the heap as are lent.
+// `g budget` and an answer: start; `n budget` and an answer: continue.
 fn try_call(
     line: &[u8],
     text: &[u8],
     samples: &[u8],
     b: Bench,
-    rk: &mut [u8],
-    rn: &mut [u32],
-    sk: &mut [u8],
-    sn: &mut [u32],
-    hk: &mut [u8],
-    hn: &mut [u32],
+    kinds: &mut [u8],
+    numbers: &mut [u32],
 ) -> Bench {
     if !is_call(line) {
         return b;
     }
-    let ks = least(b.stack, sk.len());
-    let ns = least(b.stack, sn.len());
-    let kh = least(b.heap, hk.len());
-    let nh = least(b.heap, hn.len());
-    let place = b.place;
-    let out = call(
-        line,
-        text,
-        samples,
-        rk,
-        rn,
-        &mut sk[0..ks],
-        &mut sn[0..ns],
-        &mut hk[0..kh],
-        &mut hn[0..nh],
-        place,
-    );
+    let out = call_on(line, text, samples, b, kinds, numbers);
     let answer = out.answer;
     called(line, b, answer, out.place)
 }
@@ -586,39 +685,21 @@ fn is_place(a: Place, b: Place) -> bool {
 }
 
 // `q`: the whole lent state is the wanted one.
-fn compare(
-    line: &[u8],
-    b: Bench,
-    rk: &[u8],
-    rn: &[u32],
-    sk: &[u8],
-    sn: &[u32],
-    hk: &[u8],
-    hn: &[u32],
-    wk: &[u8],
-    wn: &[u32],
-) -> Bench {
+fn compare(line: &[u8], b: Bench, kinds: &[u8], numbers: &[u32], wk: &[u8], wn: &[u32]) -> Bench {
     if byte(line, 0) != b'q' {
         return b;
     }
-    let registers = are_words(rk, rn, wk, wn);
-    let stack = are_words(sk, sn, part(wk, STACK, HEAP), words(wn, STACK, HEAP));
-    let heap = are_words(hk, hn, part(wk, HEAP, WORDS), words(wn, HEAP, WORDS));
-    compared(b, registers, stack, heap)
+    compared(b, are_words(kinds, numbers, wk, wn))
 }
 
 // After the lent state was compared: its words are as wanted, or not.
-fn compared(b: Bench, registers: bool, stack: bool, heap: bool) -> Bench {
+fn compared(b: Bench, words: bool) -> Bench {
     let mut next = b;
     next.states = one_more(b.states);
     if !is_place(b.place, b.wanted) {
         next.differences = one_more(b.differences);
-    } else if !registers {
-        next.differences = one_more(b.differences);
-    } else if !stack {
-        next.differences = one_more(b.differences);
     } else {
-        next.differences = more_unless(b.differences, heap);
+        next.differences = more_unless(b.differences, words);
     }
     next
 }
@@ -646,12 +727,8 @@ fn try_at(
     at: usize,
     b: Bench,
     text: &mut [u8],
-    rk: &mut [u8],
-    rn: &mut [u32],
-    sk: &mut [u8],
-    sn: &mut [u32],
-    hk: &mut [u8],
-    hn: &mut [u32],
+    kinds: &mut [u8],
+    numbers: &mut [u32],
     wk: &mut [u8],
     wn: &mut [u32],
 ) -> Bench
@@ -659,24 +736,11 @@ fn try_at(
 {
     let line = line_at(s, at);
     let a = text_line(s, at, b, text);
-    poke(line, 0, rk, rn);
-    poke(line, 1, sk, sn);
-    poke(line, 2, hk, hn);
+    poke(line, kinds, numbers);
     want(line, wk, wn);
     let samples = part(s, a.samples, a.samples_end);
-    let c = try_call(
-        line,
-        part(text, 0, a.text),
-        samples,
-        a,
-        rk,
-        rn,
-        sk,
-        sn,
-        hk,
-        hn,
-    );
-    let next = compare(line, c, rk, rn, sk, sn, hk, hn, wk, wn);
+    let c = try_call(line, part(text, 0, a.text), samples, a, kinds, numbers);
+    let next = compare(line, c, kinds, numbers, wk, wn);
     report(b.differences, next.differences, line_at(s, next.name));
     next
 }
@@ -686,19 +750,15 @@ fn try_cases(
     s: &[u8],
     start: Bench,
     text: &mut [u8],
-    rk: &mut [u8],
-    rn: &mut [u32],
-    sk: &mut [u8],
-    sn: &mut [u32],
-    hk: &mut [u8],
-    hn: &mut [u32],
+    kinds: &mut [u8],
+    numbers: &mut [u32],
     wk: &mut [u8],
     wn: &mut [u32],
 ) -> Bench {
     let mut b = start;
     let mut at = 0;
     while at < s.len() {
-        b = try_at(s, at, b, text, rk, rn, sk, sn, hk, hn, wk, wn);
+        b = try_at(s, at, b, text, kinds, numbers, wk, wn);
         at = next_line(s, at);
     }
     b
@@ -707,27 +767,11 @@ fn try_cases(
 // The cases of bytes read from a file.
 fn try_bytes(s: &[u8], b: Bench) -> Bench {
     let mut text = [0u8; 66000];
-    let mut rk = [0u8; 8];
-    let mut rn = [0u32; 8];
-    let mut sk = [0u8; 260];
-    let mut sn = [0u32; 260];
-    let mut hk = [0u8; 2052];
-    let mut hn = [0u32; 2052];
+    let mut kinds = [0u8; WORDS];
+    let mut numbers = [0u32; WORDS];
     let mut wk = [0u8; WORDS];
     let mut wn = [0u32; WORDS];
-    try_cases(
-        s,
-        b,
-        &mut text,
-        &mut rk,
-        &mut rn,
-        &mut sk,
-        &mut sn,
-        &mut hk,
-        &mut hn,
-        &mut wk,
-        &mut wn,
-    )
+    try_cases(s, b, &mut text, &mut kinds, &mut numbers, &mut wk, &mut wn)
 }
 
 // The bytes of the file at the start of buf, and how many there are: none where it cannot be opened.

@@ -1,40 +1,13 @@
 // Starting and continuing a run, from a program's text, its samples' text and lent memory. Promised, on every input: the answer and the
 // whole lent state, one equation with `starting` and one with `continuing` of crate exec. A refusal changes nothing that is lent.
-// A text of at most 2,048 bytes is tried in small tables; one that does not fit them goes to the large ones (crate attempt).
+// A text of at most 2,048 bytes is tried in small tables; one that does not fit them goes to the large ones (module attempt of exec_call).
 // rk and rn are the registers' kinds and numbers, sk and sn the stack's, hk and hn the heap's; `place` says how much is in use.
 ghost use mathlib.Core.Path.{_≡_};
 ghost use Rattle.exec.specs.Run.{starting, continuing};
-ghost use Rattle.machine.specs.Step.{stateOf};
-ghost use Rattle.outcome.specs.Answers.{outcomeIs};
-ghost use Rattle.call.specs.Tries.{called};
-use machine::Place;
-use outcome::Outcome;
-
-// A call with the tables that its text fits.
-fn call(
-    first: bool,
-    text: &[u8],
-    samples: &[u8],
-    budget: usize,
-    rk: &mut [u8],
-    rn: &mut [u32],
-    sk: &mut [u8],
-    sn: &mut [u32],
-    hk: &mut [u8],
-    hn: &mut [u32],
-    place: Place,
-) -> Outcome
-    ensures { λ r. ⌜ outcomeIs r (now (rk .exit)) (now (rn .exit)) (now (sk .exit)) (now (sn .exit)) (now (hk .exit)) (now (hn .exit)) ≡ called first (now (text .entry)) (now (samples .entry)) budget (stateOf (now (rk .entry)) (now (rn .entry)) (now (sk .entry)) (now (sn .entry)) (now (hk .entry)) (now (hn .entry)) place) ⌝ }
-{
-    if 2048 < text.len() {
-        return attempt::large(first, text, samples, budget, rk, rn, sk, sn, hk, hn, place);
-    }
-    let r = attempt::small(first, text, samples, budget, rk, rn, sk, sn, hk, hn, place);
-    if r.fits {
-        return r.outcome;
-    }
-    attempt::large(first, text, samples, budget, rk, rn, sk, sn, hk, hn, place)
-}
+ghost use Rattle.exec_machine.specs.Step.{stateOf};
+ghost use Rattle.exec_outcome.specs.Answers.{outcomeIs};
+use exec_machine::Place;
+use exec_outcome::Outcome;
 
 // Start: the program's faults, then 15, then 16, else at most `budget` steps from the first instruction.
 pub fn start(
@@ -51,7 +24,7 @@ pub fn start(
 ) -> Outcome
     ensures { λ r. ⌜ outcomeIs r (now (rk .exit)) (now (rn .exit)) (now (sk .exit)) (now (sn .exit)) (now (hk .exit)) (now (hn .exit)) ≡ starting (now (text .entry)) (now (samples .entry)) budget (stateOf (now (rk .entry)) (now (rn .entry)) (now (sk .entry)) (now (sn .entry)) (now (hk .entry)) (now (hn .entry)) place) ⌝ }
 {
-    call(true, text, samples, budget, rk, rn, sk, sn, hk, hn, place)
+    exec_call::attempt::call(true, text, samples, budget, rk, rn, sk, sn, hk, hn, place)
 }
 
 // Go on from the lent state: the program's faults, then 16, else at most `budget` steps. No samples are read.
@@ -68,7 +41,7 @@ pub fn resume(
 ) -> Outcome
     ensures { λ r. ⌜ outcomeIs r (now (rk .exit)) (now (rn .exit)) (now (sk .exit)) (now (sn .exit)) (now (hk .exit)) (now (hn .exit)) ≡ continuing (now (text .entry)) budget (stateOf (now (rk .entry)) (now (rn .entry)) (now (sk .entry)) (now (sn .entry)) (now (hk .entry)) (now (hn .entry)) place) ⌝ }
 {
-    call(
+    exec_call::attempt::call(
         false,
         text,
         &text[..0],

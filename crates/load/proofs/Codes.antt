@@ -21,10 +21,10 @@ use Rattle.types.proofs.Equal.{and-inv, none-true, not-false}
 use Rattle.types.proofs.Meaning.{typeIn, type-is, rows-clear}
 use Rattle.tables.specs.Tables.{RowTable, cell, rowAt, rowsIn, OperandTable, instrsFrom, blocksFrom}
 use Rattle.tables.proofs.Steps.{length-rows, row-in}
-use Rattle.scope.proofs.Rows.{row-getD}
+use Rattle.valid_scope.proofs.Rows.{row-getD}
 use Rattle.valid.specs.Program.{Block, Program, blockOf, blocksOf}
 use Rattle.valid.specs.PassThree.{labelType}
-use Rattle.premises.specs.Answers.{Holds}
+use Rattle.valid_context.specs.premises.Answers.{Holds}
 
 -- ---- a block's row
 abbrev pub CodeOk : RowTable → ℕ → ℕ → Type 0

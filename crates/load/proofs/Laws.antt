@@ -19,16 +19,16 @@ use Rattle.tables.proofs.Steps.{length-rows}
 use Rattle.valid.specs.Program.{Program, programOf, programFrom, blocksOf}
 use Rattle.valid.specs.Verdict.{passTwoOf}
 use Rattle.valid.proofs.Clear.{earliest-clear, clear-split}
-use Rattle.refs.specs.declared.Found.{Found}
-use Rattle.refs.specs.Refs.{Rising, refusalOf as foundRefusal}
-use Rattle.refs.proofs.Lines.{entries-rows}
-use Rattle.decode_store.specs.Store.{Store, store, rowTable, operandsOf, Room}
-use Rattle.decode_state.specs.declared.Read.{Read}
-use Rattle.decode.specs.Decoded as decode
-use Rattle.premises.specs.Bounds.{SmallRow, SmallInstr}
-use Rattle.premises.specs.Answers.{Holds}
-use Rattle.premises.proofs.Grammar.{rows-small, instrs-small}
-use Rattle.prepare.specs.Prepared.{Prepared}
+use Rattle.types_pass_two.specs.declared.refs.Found.{Found}
+use Rattle.types_pass_two.specs.refs.Refs.{Rising, refusalOf as foundRefusal}
+use Rattle.types_pass_two.proofs.refs.Lines.{entries-rows}
+use Rattle.text_decode.specs.store.Store.{Store, store, rowTable, operandsOf, Room}
+use Rattle.text_decode.specs.declared.state.Read.{Read}
+use Rattle.text_decode.specs.Decoded as decode
+use Rattle.valid_context.specs.premises.Bounds.{SmallRow, SmallInstr}
+use Rattle.valid_context.specs.premises.Answers.{Holds}
+use Rattle.valid_context.proofs.premises.Grammar.{rows-small, instrs-small}
+use Rattle.load.specs.prepare.Prepared.{Prepared}
 use Rattle.load.specs.declared.Loaded.{Loaded}
 use Rattle.load.specs.Loaded.{Space, SpaceFor, faulty, refusalOf, IsLoaded, LoadIs}
 use Rattle.load.proofs.Codes.{CodeOk, all-codes, holds-is}

@@ -10,14 +10,14 @@ use Rattle.syntax.specs.Fault.{Refusal, Clear, lowestLine, orElse}
 use Rattle.text.specs.PassOne.{passOne, entriesOf, rowsOf, listingsOf}
 use Rattle.types.specs.Rows.{typesOf, isCode, rowsFaults}
 use Rattle.tables.specs.Tables.{cell, rowAt, rowsIn, instrAt, blocksFrom}
-use Rattle.rows.specs.Read.{Counted}
-use Rattle.scope.specs.Scoped.{Scoped}
+use Rattle.types_rows.specs.Read.{Counted}
+use Rattle.valid_scope.specs.Scoped.{Scoped}
 use Rattle.valid.specs.Program.{programOf}
 use Rattle.valid.specs.Verdict.{passTwoOf}
-use Rattle.decode_store.specs.Store.{Store, rowTable, operandsOf, Room}
-use Rattle.decode.specs.Decoded.{OperandsIn}
-use Rattle.premises.specs.Bounds.{SmallRow, SmallInstr}
-use Rattle.premises.specs.Answers.{Holds}
+use Rattle.text_decode.specs.store.Store.{Store, rowTable, operandsOf, Room}
+use Rattle.text_decode.specs.Decoded.{OperandsIn}
+use Rattle.valid_context.specs.premises.Bounds.{SmallRow, SmallInstr}
+use Rattle.valid_context.specs.premises.Answers.{Holds}
 use Rattle.load.specs.declared.Loaded.{Loaded}
 
 -- room for what pass three reads of n rows: two rows more, and the variables of each row

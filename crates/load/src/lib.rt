@@ -1,14 +1,16 @@
-// A text that may be run or typed: decoded into tables (crate decode), passed by passes one and two (crate pass_two), and prepared for
-// pass three (crate prepare). Promised: whether the text fits the tables that are lent, which every text does where they have `Space`.
-// Where it fits, the fault of passes one and two, as crate valid has them, or else that the tables stand for the program of the text, with
-// what these passes have seen of it. Nothing is asked.
-use refs::Found;
+// A text that may be run or typed: decoded into tables (crate text_decode), passed by passes one and two (crate types_pass_two), and
+// prepared for pass three (module prepare). Promised: whether the text fits the tables that are lent, which every text does where they have
+// `Space`. Where it fits, the fault of passes one and two, as crate valid has them, or else that the tables stand for the program of the
+// text, with what these passes have seen of it. Nothing is asked.
+pub mod prepare;
+
+use types_pass_two::refs::Found;
 ghost use mathlib.Core.Path.{_≡_};
 ghost use mathlib.Core.Bool.{true};
 ghost use Prim.Native.Nat.{_*_, _≤_};
 ghost use lib.ListN.{length};
-ghost use Rattle.decode_store.specs.Store.{store};
-ghost use Rattle.decode.specs.Decoded.{Fitting};
+ghost use Rattle.text_decode.specs.store.Store.{store};
+ghost use Rattle.text_decode.specs.Decoded.{Fitting};
 ghost use Rattle.load.specs.Loaded.{Space, SpaceFor, unfitLoad, faulty, LoadIs};
 
 // Whether the text fits the tables; the fault of passes one and two and its line, 0 and 0 for none; then how many rows, blocks and
@@ -77,7 +79,7 @@ pub fn load(
 ) -> Loaded
     ensures { λ r. ⌜ Fitting (Space (store (now (rows .entry)) (now (parts .entry)) (now (operands .entry)) (now (numbers .entry)) (now (args .entry)) (now (instrs .entry)) (now (blocks .entry))) (length (now (uses .entry))) (length (now (tops .entry)))) (r .fits) (LoadIs (now (text .entry)) (store (now (rows .exit)) (now (parts .exit)) (now (operands .exit)) (now (numbers .exit)) (now (args .exit)) (now (instrs .exit)) (now (blocks .exit))) (now (uses .exit)) (now (tops .exit)) r) ⌝ }
 {
-    let r = decode::read_text(text, rows, parts, operands, numbers, args, instrs, blocks);
+    let r = text_decode::read_text(text, rows, parts, operands, numbers, args, instrs, blocks);
     if !r.fits {
         return unfit();
     }
@@ -88,7 +90,7 @@ pub fn load(
     if !has_space(rows, uses, tops, r.rows) {
         return unfit();
     }
-    let f = pass_two::pass_two(
+    let f = types_pass_two::pass_two(
         rows,
         parts,
         r.rows,
@@ -104,7 +106,7 @@ pub fn load(
     if number != 0 {
         return refused(number, f.line);
     }
-    prepare::prepare(rows, parts, r.rows, uses, tops);
+    crate::prepare::prepare(rows, parts, r.rows, uses, tops);
     Loaded {
         fits: true,
         fault: 0,

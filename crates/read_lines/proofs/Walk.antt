@@ -8,10 +8,10 @@ use native.Mathlib.Omega.{arith}
 use lib.ListN.{length, drop, length-drop}
 use lib.Seq.{drop-drop}
 use Rattle.text.specs.Bytes.{sameBytes, linesOf}
-use Rattle.lines.specs.Parts.{lineAt, NextLine}
-use Rattle.lines.proofs.Parts.{one-more, lines-none}
-use Rattle.reader.specs.Reading.{lineFrom, nextFrom}
-use Rattle.reader.proofs.Reading.{next-is, line-there}
+use Rattle.text_lines.specs.Parts.{lineAt, NextLine}
+use Rattle.text_lines.proofs.Parts.{one-more, lines-none}
+use Rattle.text_reader.specs.Reading.{lineFrom, nextFrom}
+use Rattle.text_reader.proofs.Reading.{next-is, line-there}
 use Rattle.read_lines.proofs.Compare.{same-self}
 
 pub record Walked (text : List ℕ) (at n agree : ℕ) : Type 0 where

@@ -39,8 +39,8 @@ fn agreeing(text: &[u8]) -> usize
     let mut n: usize = 0;
     let mut agree = 0;
     while at < text.len() {
-        let line = reader::read(text, &mut at);
-        agree += agreement(line, lines::line(text, n));
+        let line = text_reader::read(text, &mut at);
+        agree += agreement(line, text_lines::line(text, n));
         n += 1;
     }
     agree
@@ -52,7 +52,7 @@ fn count(text: &[u8]) -> usize
 {
     let none = &text[..0];
     let mut places = [none; 16];
-    reader::read_all(text, &mut places)
+    text_reader::read_all(text, &mut places)
 }
 
 fn print(s: &[u8]) {

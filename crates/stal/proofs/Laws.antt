@@ -3,15 +3,15 @@ use Prim.Native.Nat.{ℕ}
 use mathlib.Core.Path.{_≡_, refl, sym, ap, subst, _∙_}
 use mathlib.Core.List.{List, [], _∷_}
 use Rattle.valid.specs.Verdict.{check}
-use Rattle.premises.specs.Answers.{In}
-use Rattle.verdict.specs.Answers.{Said, accept, refuse, saidOf, saidBy, itemsIn, Names, Answers}
-use Rattle.verdict.specs.declared.Answer.{Answer}
-use Rattle.verdict.specs.declared.Answer.the-variants.{Accepted, Refused, Unfit}
+use Rattle.valid_context.specs.premises.Answers.{In}
+use Rattle.valid_verdict.specs.Answers.{Said, accept, refuse, saidOf, saidBy, itemsIn, Names, Answers}
+use Rattle.valid_verdict.specs.declared.Answer.{Answer}
+use Rattle.valid_verdict.specs.declared.Answer.the-variants.{Accepted, Refused, Unfit}
 use Rattle.exec.specs.Run as exec
-use Rattle.machine.specs.Step.{stateOf}
-use Rattle.outcome.specs.declared.Answer as run
-use Rattle.outcome.specs.declared.Outcome.{Outcome}
-use Rattle.outcome.specs.Answers.{answerIs, outcomeIs}
+use Rattle.exec_machine.specs.Step.{stateOf}
+use Rattle.exec_outcome.specs.declared.Answer as run
+use Rattle.exec_outcome.specs.declared.Outcome.{Outcome}
+use Rattle.exec_outcome.specs.Answers.{answerIs, outcomeIs}
 use Rattle.stal_numbers.specs.declared.Verdict.{Verdict}
 use Rattle.stal_numbers.specs.declared.Reply.{Reply}
 use Rattle.stal_numbers.specs.Numbers.{verdict, verdictBy, verdictOf, Last, Tells, replyOf, call, callOf}

@@ -2,7 +2,7 @@
 // Promised, on every input: the numbers and the whole lent state are those of check, `starting` and `continuing`; crate stal_numbers has
 // the number and the values of each case. Nothing is asked. rk and rn are the registers' kinds and numbers, sk and sn the stack's, hk and
 // hn the heap's.
-use machine::Place;
+use exec_machine::Place;
 ghost use mathlib.Core.Path.{_≡_};
 ghost use Rattle.exec.specs.Run.{starting, continuing};
 ghost use Rattle.stal_numbers.specs.Numbers.{verdict, Tells, reply, call, callOf, stateIn};

@@ -2,7 +2,7 @@
 // prints is the answer of `checker::check`.
 use libc::STDIN_FILENO;
 use libc::STDOUT_FILENO;
-use verdict::Answer;
+use valid_verdict::Answer;
 
 fn print(s: &[u8]) {
     io::write_all(STDOUT_FILENO, s);

@@ -1,8 +1,8 @@
 -- From an answer, told by its case, to its numbers.
 use mathlib.Core.Path.{_≡_, sym, ap, _∙_}
-use Rattle.verdict.specs.declared.Answer.{Answer}
-use Rattle.outcome.specs.declared.Answer as run
-use Rattle.outcome.specs.Answers.{answerIs}
+use Rattle.valid_verdict.specs.declared.Answer.{Answer}
+use Rattle.exec_outcome.specs.declared.Answer as run
+use Rattle.exec_outcome.specs.Answers.{answerIs}
 use Rattle.stal_numbers.specs.declared.Verdict.{Verdict}
 use Rattle.stal_numbers.specs.declared.Reply.{Reply}
 use Rattle.stal_numbers.specs.Numbers.{verdictBy, replyOf}

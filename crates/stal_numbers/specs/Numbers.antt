@@ -3,14 +3,14 @@ use Prim.Native.Nat.{ℕ}
 use mathlib.Core.Path.{_≡_}
 use mathlib.Core.List.{List, [], _∷_}
 use Rattle.valid.specs.Verdict.{check}
-use Rattle.premises.specs.Answers.{In}
-use Rattle.verdict.specs.Answers.{Said, accept, refuse, saidOf, itemsIn}
+use Rattle.valid_context.specs.premises.Answers.{In}
+use Rattle.valid_verdict.specs.Answers.{Said, accept, refuse, saidOf, itemsIn}
 use Rattle.exec.specs.Machine.{State}
 use Rattle.exec.specs.Run as exec
 use Rattle.exec.specs.Run.{refused, haltedAfter, pausedAfter, stackFullAfter, heapFullAfter, stuckAfter}
-use Rattle.memory.specs.Lent.{lent}
-use Rattle.verdict.specs.declared.Answer.{Answer}
-use Rattle.verdict.specs.declared.Answer.the-variants.{Accepted, Refused, Unfit}
+use Rattle.exec_words.specs.memory.Lent.{lent}
+use Rattle.valid_verdict.specs.declared.Answer.{Answer}
+use Rattle.valid_verdict.specs.declared.Answer.the-variants.{Accepted, Refused, Unfit}
 use Rattle.stal_numbers.specs.declared.Verdict.{Verdict}
 use Rattle.stal_numbers.specs.declared.Reply.{Reply}
 

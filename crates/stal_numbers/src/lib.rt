@@ -1,8 +1,8 @@
 // The answers of check, start and continue as numbers, for crate stal: a code, and the values that document 01 gives for it.
 // Promised: the numbers that specs/Numbers.antt has for each case. Nothing is asked.
-use outcome::Answer;
+use exec_outcome::Answer;
 ghost use mathlib.Core.Path.{_≡_};
-ghost use Rattle.outcome.specs.Answers.{answerIs};
+ghost use Rattle.exec_outcome.specs.Answers.{answerIs};
 ghost use Rattle.stal_numbers.specs.Numbers.{verdictBy, reply, replyOf};
 
 // Check's answer in numbers: 0, blocks and instructions, or a fault's number, its line and an item.
@@ -51,21 +51,21 @@ pub fn reply_of(a: Answer) -> Reply
 }
 
 // The numbers of an answer to check.
-pub fn verdict_of(a: verdict::Answer) -> Verdict
+pub fn verdict_of(a: valid_verdict::Answer) -> Verdict
     ensures { λ r. ⌜ r ≡ verdictBy a ⌝ }
 {
     match a {
-        verdict::Answer::Accepted(blocks, instrs) => Verdict {
+        valid_verdict::Answer::Accepted(blocks, instrs) => Verdict {
             code: 0,
             first: blocks,
             second: instrs,
         },
-        verdict::Answer::Refused(number, line) => Verdict {
+        valid_verdict::Answer::Refused(number, line) => Verdict {
             code: number,
             first: line,
             second: 100,
         },
-        verdict::Answer::Unfit(line, item) => Verdict {
+        valid_verdict::Answer::Unfit(line, item) => Verdict {
             code: 10,
             first: line,
             second: item,

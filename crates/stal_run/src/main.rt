@@ -1,8 +1,8 @@
 // The run program: reads program.txt and samples.txt from the current folder, starts with a budget of 1,000,000 and prints how the run
 // stopped, or the refusal. A file that cannot be opened counts as empty. What it prints is the answer of `execute::start`.
+use exec_machine::Place;
+use exec_outcome::Answer;
 use libc::STDOUT_FILENO;
-use machine::Place;
-use outcome::Answer;
 ghost use Rattle.io.specs.Counts.{Counts};
 
 // The bytes of the file at the start of buf, and how many there are: none where it cannot be opened.
@@ -52,16 +52,16 @@ fn print_integer(n: u32) {
 
 // A word: its kind and its number.
 fn print_word(kind: u8, number: u32) {
-    if kind == memory::INT {
+    if kind == exec_words::memory::INT {
         print(b",int,");
         print_integer(number);
         return;
     }
-    if kind == memory::CODE {
+    if kind == exec_words::memory::CODE {
         print(b",code,");
-    } else if kind == memory::TUPLE {
+    } else if kind == exec_words::memory::TUPLE {
         print(b",tuple,");
-    } else if kind == memory::HEIGHT {
+    } else if kind == exec_words::memory::HEIGHT {
         print(b",height,");
     } else {
         print(b",junk,");

@@ -3,6 +3,15 @@ use borrow.Author.Needs.{needs}
 use Rattle.cases.proofs.try_at.Statement.{statement}
 use Rattle.cases.proofs.try_at.Tie as tie
 
+abbrev want-of : tie.After-try-call → tie.After-want
+want-of t = search
+
+abbrev poke-of : tie.After-want → tie.After-poke
+poke-of w = search
+
+abbrev text-of : tie.After-poke → tie.After-text-line
+text-of p = search
+
 line-at-requires : tie.Need-line-at-requires
 line-at-requires c κs = search needs
 
@@ -11,12 +20,6 @@ text-line-requires c κs = search needs
 
 poke-requires : tie.Need-poke-requires
 poke-requires c κs = search needs
-
-poke-requires-2 : tie.Need-poke-requires-2
-poke-requires-2 c κs = search needs
-
-poke-requires-3 : tie.Need-poke-requires-3
-poke-requires-3 c κs = search needs
 
 want-requires : tie.Need-want-requires
 want-requires c κs = search needs
@@ -40,46 +43,19 @@ report-requires : tie.Need-report-requires
 report-requires c κs = search needs
 
 same-length : tie.Need-same-length
-same-length c =
-    c .before .before .before .before .before .before .before .before .before .before .before .before .before .before .before .before .before .before .before .before .before .before .before .before .before .before .before .before .before .before .before .before .before .before .before .before .before .before .before .before .before .before .before .before .before .before .before .before .before .before .before .before .before .before .before .before .before .before .before .before .before .before .before .text-line .kept .1 .1 .1 .0
+same-length c = let t : tie.After-try-call = search in text-of (poke-of (want-of t)) .text-line .kept .1 .1 .1 .0
 
 same-length-2 : tie.Need-same-length-2
-same-length-2 c =
-    c .before .before .before .before .before .before .before .before .before .before .before .before .before .before .before .before .before .before .before .before .before .before .before .try-call .kept .1 .1 .1 .1 .0 ∙
-    c .before .before .before .before .before .before .before .before .before .before .before .before .before .before .before .before .before .before .before .before .before .before .before .before .before .before .before .before .before .before .before .before .before .before .before .before .before .before .before .before .before .before .before .before .before .before .before .before .before .before .before .before .before .before .before .before .before .before .poke .kept .1 .1 .0
+same-length-2 c = let t : tie.After-try-call = search in t .try-call .kept .1 .1 .1 .1 .0 ∙ poke-of (want-of t) .poke .kept .1 .0
 
 same-length-3 : tie.Need-same-length-3
-same-length-3 c =
-    c .before .before .before .before .before .before .before .before .before .before .before .before .before .before .before .before .before .before .before .before .before .before .before .try-call .kept .1 .1 .1 .1 .1 .0 ∙
-    c .before .before .before .before .before .before .before .before .before .before .before .before .before .before .before .before .before .before .before .before .before .before .before .before .before .before .before .before .before .before .before .before .before .before .before .before .before .before .before .before .before .before .before .before .before .before .before .before .before .before .before .before .before .before .before .before .before .before .poke .kept .1 .1 .1 .0
+same-length-3 c = let t : tie.After-try-call = search in t .try-call .kept .1 .1 .1 .1 .1 .0 ∙ poke-of (want-of t) .poke .kept .1 .1 .0
 
 same-length-4 : tie.Need-same-length-4
-same-length-4 c =
-    c .before .before .before .before .before .before .before .before .before .before .before .before .before .before .before .before .before .before .before .before .before .before .before .try-call .kept .1 .1 .1 .1 .1 .1 .0 ∙
-    c .before .before .before .before .before .before .before .before .before .before .before .before .before .before .before .before .before .before .before .before .before .before .before .before .before .before .before .before .before .before .before .before .before .before .before .before .before .before .before .before .before .before .before .before .before .before .before .before .before .before .before .poke2 .kept .1 .1 .0
+same-length-4 c = let t : tie.After-try-call = search in want-of t .want .kept .1 .0
 
 same-length-5 : tie.Need-same-length-5
-same-length-5 c =
-    c .before .before .before .before .before .before .before .before .before .before .before .before .before .before .before .before .before .before .before .before .before .before .before .try-call .kept .1 .1 .1 .1 .1 .1 .1 .0 ∙
-    c .before .before .before .before .before .before .before .before .before .before .before .before .before .before .before .before .before .before .before .before .before .before .before .before .before .before .before .before .before .before .before .before .before .before .before .before .before .before .before .before .before .before .before .before .before .before .before .before .before .before .before .poke2 .kept .1 .1 .1 .0
-
-same-length-6 : tie.Need-same-length-6
-same-length-6 c =
-    c .before .before .before .before .before .before .before .before .before .before .before .before .before .before .before .before .before .before .before .before .before .before .before .try-call .kept .1 .1 .1 .1 .1 .1 .1 .1 .0 ∙
-    c .before .before .before .before .before .before .before .before .before .before .before .before .before .before .before .before .before .before .before .before .before .before .before .before .before .before .before .before .before .before .before .before .before .before .before .before .before .before .before .before .before .before .before .before .poke3 .kept .1 .1 .0
-
-same-length-7 : tie.Need-same-length-7
-same-length-7 c =
-    c .before .before .before .before .before .before .before .before .before .before .before .before .before .before .before .before .before .before .before .before .before .before .before .try-call .kept .1 .1 .1 .1 .1 .1 .1 .1 .1 .0 ∙
-    c .before .before .before .before .before .before .before .before .before .before .before .before .before .before .before .before .before .before .before .before .before .before .before .before .before .before .before .before .before .before .before .before .before .before .before .before .before .before .before .before .before .before .before .before .poke3 .kept .1 .1 .1 .0
-
-same-length-8 : tie.Need-same-length-8
-same-length-8 c =
-    c .before .before .before .before .before .before .before .before .before .before .before .before .before .before .before .before .before .before .before .before .before .before .before .before .before .before .before .before .before .before .before .before .before .before .before .before .before .want .kept .1 .0
-
-same-length-9 : tie.Need-same-length-9
-same-length-9 c =
-    c .before .before .before .before .before .before .before .before .before .before .before .before .before .before .before .before .before .before .before .before .before .before .before .before .before .before .before .before .before .before .before .before .before .before .before .before .before .want .kept .1 .1 .0
+same-length-5 c = let t : tie.After-try-call = search in want-of t .want .kept .1 .1 .0
 
 returns : tie.Need-returns
 returns c = search needs
@@ -91,8 +67,6 @@ try-at-spec =
     line-at-requires
     text-line-requires
     poke-requires
-    poke-requires-2
-    poke-requires-3
     want-requires
     part-requires
     part-requires-2
@@ -105,8 +79,4 @@ try-at-spec =
     same-length-3
     same-length-4
     same-length-5
-    same-length-6
-    same-length-7
-    same-length-8
-    same-length-9
     returns)

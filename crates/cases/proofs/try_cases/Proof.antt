@@ -6,10 +6,16 @@ use Rattle.cases.proofs.try_cases.Statement.{statement}
 use Rattle.cases.proofs.try_cases.Tie as tie
 
 abbrev Inv-loop : tie.InvT-loop
-Inv-loop s text₀ rk₀ rn₀ sk₀ sn₀ hk₀ hn₀ wk₀ wn₀ b₀ at₀ text rk rn sk sn hk hn wk wn b at = (at ≤ length s) × (length text ≡ length text₀) × (length rk ≡ length rk₀) × (length rn ≡ length rn₀) × (length sk ≡ length sk₀) × (length sn ≡ length sn₀) × (length hk ≡ length hk₀) × (length hn ≡ length hn₀) × (length wk ≡ length wk₀) × (length wn ≡ length wn₀)
+Inv-loop s text₀ kinds₀ numbers₀ wk₀ wn₀ b₀ at₀ text kinds numbers wk wn b at =
+    (at ≤ length s)
+    × (length text ≡ length text₀)
+    × (length kinds ≡ length kinds₀)
+    × (length numbers ≡ length numbers₀)
+    × (length wk ≡ length wk₀)
+    × (length wn ≡ length wn₀)
 
 abbrev μ-loop : tie.MeasureT-loop
-μ-loop s text₀ rk₀ rn₀ sk₀ sn₀ hk₀ hn₀ wk₀ wn₀ b₀ at₀ text rk rn sk sn hk hn wk wn b at = length s - at
+μ-loop s text₀ kinds₀ numbers₀ wk₀ wn₀ b₀ at₀ text kinds numbers wk wn b at = length s - at
 
 loop-holds : tie.Need-loop-holds Inv-loop μ-loop
 loop-holds c = search needs
@@ -25,9 +31,10 @@ loop-less c = search needs
 
 loop-again : tie.Need-loop-again Inv-loop μ-loop
 loop-again c =
-    let k = c .before .before .before .before .before .before .before .before .before .before .before .before .before .before .before .before .before .before .before .try-at .kept in
-    let i = c .before .before .before .before .before .before .before .before .before .before .before .before .before .before .before .before .before .before .before .before .before .before .before .before .before .before .before .before .before .before .loop .inv in
-    (c .next-line .ensures .1, k .1 .1 .1 .0 ∙ i .1, k .1 .1 .1 .1 .0 ∙ i .2, k .1 .1 .1 .1 .1 .0 ∙ i .3, k .1 .1 .1 .1 .1 .1 .0 ∙ i .4, k .1 .1 .1 .1 .1 .1 .1 .0 ∙ i .5, k .1 .1 .1 .1 .1 .1 .1 .1 .0 ∙ i .6, k .1 .1 .1 .1 .1 .1 .1 .1 .1 .0 ∙ i .7, k .1 .1 .1 .1 .1 .1 .1 .1 .1 .1 .0 ∙ i .8, k .1 .1 .1 .1 .1 .1 .1 .1 .1 .1 .1 .0 ∙ i .9)
+    let k : tie.After-try-at Inv-loop μ-loop = search in
+    let l : tie.At-loop Inv-loop μ-loop = search in
+    let same = k .try-at .kept .1 .1 .1 in
+    (c .next-line .ensures .1, same .0 ∙ l .loop .inv .1, same .1 .0 ∙ l .loop .inv .2, same .1 .1 .0 ∙ l .loop .inv .3, same .1 .1 .1 .0 ∙ l .loop .inv .4, same .1 .1 .1 .1 .0 ∙ l .loop .inv .5)
 
 same-length : tie.Need-same-length Inv-loop μ-loop
 same-length c = search needs
@@ -43,18 +50,6 @@ same-length-4 c = search needs
 
 same-length-5 : tie.Need-same-length-5 Inv-loop μ-loop
 same-length-5 c = search needs
-
-same-length-6 : tie.Need-same-length-6 Inv-loop μ-loop
-same-length-6 c = search needs
-
-same-length-7 : tie.Need-same-length-7 Inv-loop μ-loop
-same-length-7 c = search needs
-
-same-length-8 : tie.Need-same-length-8 Inv-loop μ-loop
-same-length-8 c = search needs
-
-same-length-9 : tie.Need-same-length-9 Inv-loop μ-loop
-same-length-9 c = search needs
 
 returns : tie.Need-returns Inv-loop μ-loop
 returns c = search needs
@@ -75,8 +70,4 @@ try-cases-spec =
     same-length-3
     same-length-4
     same-length-5
-    same-length-6
-    same-length-7
-    same-length-8
-    same-length-9
     returns)

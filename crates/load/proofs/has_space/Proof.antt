@@ -1,6 +1,6 @@
 use native.Mathlib.Omega.{arith}
 use lib.ListN.{length}
-use Rattle.decode_state.proofs.AnswerLaws.{refuted, decided}
+use Rattle.text_decode.proofs.state.AnswerLaws.{refuted, decided}
 use borrow.Author.Needs.{needs}
 use Rattle.load.proofs.has_space.Statement.{statement}
 use Rattle.load.proofs.has_space.Tie as tie

@@ -1,9 +1,9 @@
 use mathlib.Core.Path.{refl, ap, _∙_}
 use lib.ListN.{length}
 use borrow.Author.Tests.{not-false}
-use Rattle.decode_store.specs.Store.{store}
+use Rattle.text_decode.specs.store.Store.{store}
 use Rattle.load.proofs.Laws.{space-for, space-still, found-one, one-none, found-two, rows-seen, rows-small-in, all-loaded, few-ok}
-use Rattle.decode.proofs.AnswerLaws.{fits, fits-not, failed}
+use Rattle.text_decode.proofs.AnswerLaws.{fits, fits-not, failed}
 use Rattle.load.specs.declared.Loaded.{Loaded}
 use borrow.Author.Needs.{needs}
 use Rattle.load.proofs.load.Statement.{statement}

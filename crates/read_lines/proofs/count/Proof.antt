@@ -2,7 +2,7 @@
 -- Assumes nothing.
 use borrow.Author.Needs.{needs}
 use mathlib.Core.Path.{_∙_}
-use Rattle.reader.proofs.Reading.{all-long}
+use Rattle.text_reader.proofs.Reading.{all-long}
 use Rattle.read_lines.proofs.count.Statement.{statement}
 use Rattle.read_lines.proofs.count.Tie as tie
 

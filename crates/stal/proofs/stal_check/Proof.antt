@@ -7,15 +7,12 @@ use Rattle.stal.proofs.stal_check.Lts as lts
 use Rattle.checker.proofs.check.Reads as check-reads
 use Rattle.stal_numbers.proofs.verdict_of.Reads as verdict-of-reads
 
--- src/lib.rt:83:27
 check-requires : tie.Need-check-requires
 check-requires c κs = search needs
 
--- src/lib.rt:83:9
 verdict-of-requires : tie.Need-verdict-of-requires
 verdict-of-requires c κs = search needs
 
--- src/lib.rt:79:1
 returns : tie.Need-returns
 returns c = tells _ _ _ ((c .before .check) .ensures) ((c .verdict-of) .ensures)
 

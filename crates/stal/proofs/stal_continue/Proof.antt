@@ -7,39 +7,30 @@ use Rattle.stal.proofs.stal_continue.Lts as lts
 use Rattle.execute.proofs.resume.Reads as resume-reads
 use Rattle.stal_numbers.proofs.reply_of.Reads as reply-of-reads
 
--- src/lib.rt:153:9
 resume-requires : tie.Need-resume-requires
 resume-requires c κs = search needs
 
--- src/lib.rt:159:9
 reply-of-requires : tie.Need-reply-of-requires
 reply-of-requires c κs = search needs
 
--- src/lib.rt:129:1
 same-length : tie.Need-same-length
 same-length c = search needs
 
--- src/lib.rt:129:1
 same-length-2 : tie.Need-same-length-2
 same-length-2 c = search needs
 
--- src/lib.rt:129:1
 same-length-3 : tie.Need-same-length-3
 same-length-3 c = search needs
 
--- src/lib.rt:129:1
 same-length-4 : tie.Need-same-length-4
 same-length-4 c = search needs
 
--- src/lib.rt:129:1
 same-length-5 : tie.Need-same-length-5
 same-length-5 c = search needs
 
--- src/lib.rt:129:1
 same-length-6 : tie.Need-same-length-6
 same-length-6 c = search needs
 
--- src/lib.rt:129:1
 returns : tie.Need-returns
 returns c = called ((c .before .before .before .before .before .before .before .before .before .before .before .before .before .before .resume) .result) ((c .reply-of) .result) _ _ _ _ _ _ _ ((c .before .before .before .before .before .before .before .before .before .before .before .before .before .before .resume) .ensures) ((c .reply-of) .ensures)
 

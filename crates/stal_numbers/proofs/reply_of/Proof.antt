@@ -8,76 +8,59 @@ use Rattle.stal_numbers.proofs.reply_of.Reads as reads
 use Rattle.stal_numbers.proofs.reply_of.Lts as lts
 use Rattle.stal_numbers.proofs.stopped.Reads as stopped-reads
 
--- src/lib.rt:42:25
 enum-known-a : tie.Need-enum-known-a
 enum-known-a c = search needs
 
--- src/lib.rt:42:42
 stopped-requires : tie.Need-stopped-requires
 stopped-requires c κs = search needs
 
--- src/lib.rt:43:24
 enum-known-a-2 : tie.Need-enum-known-a-2
 enum-known-a-2 c = search needs
 
--- src/lib.rt:49:24
 enum-known-a-3 : tie.Need-enum-known-a-3
 enum-known-a-3 c = search needs
 
--- src/lib.rt:49:34
 stopped-requires-2 : tie.Need-stopped-requires-2
 stopped-requires-2 c κs = search needs
 
--- src/lib.rt:50:27
 enum-known-a-4 : tie.Need-enum-known-a-4
 enum-known-a-4 c = search needs
 
--- src/lib.rt:50:37
 stopped-requires-3 : tie.Need-stopped-requires-3
 stopped-requires-3 c κs = search needs
 
--- src/lib.rt:51:26
 enum-known-a-5 : tie.Need-enum-known-a-5
 enum-known-a-5 c = search needs
 
--- src/lib.rt:51:36
 stopped-requires-4 : tie.Need-stopped-requires-4
 stopped-requires-4 c κs = search needs
 
--- src/lib.rt:52:23
 enum-known-a-6 : tie.Need-enum-known-a-6
 enum-known-a-6 c = search needs
 
--- src/lib.rt:52:33
 stopped-requires-5 : tie.Need-stopped-requires-5
 stopped-requires-5 c κs = search needs
 
--- src/lib.rt:38:1
 returns : tie.Need-returns
 unfolding replyOf
 returns c = by-reply ((c .before .before .a) .given .1) ((c .stopped) .ensures)
 
--- src/lib.rt:38:1
 returns-2 : tie.Need-returns-2
 unfolding replyOf
 returns-2 c = by-reply ((c .before .a2) .given .1) refl
 
--- src/lib.rt:38:1
 returns-3 : tie.Need-returns-3
 unfolding replyOf
 returns-3 c = by-reply ((c .before .before .a3) .given .1) ((c .stopped2) .ensures)
 
--- src/lib.rt:38:1
 returns-4 : tie.Need-returns-4
 unfolding replyOf
 returns-4 c = by-reply ((c .before .before .a4) .given .1) ((c .stopped3) .ensures)
 
--- src/lib.rt:38:1
 returns-5 : tie.Need-returns-5
 unfolding replyOf
 returns-5 c = by-reply ((c .before .before .a5) .given .1) ((c .stopped4) .ensures)
 
--- src/lib.rt:38:1
 returns-6 : tie.Need-returns-6
 unfolding replyOf
 returns-6 c = by-reply ((c .before .before .a6) .given .1) ((c .stopped5) .ensures)

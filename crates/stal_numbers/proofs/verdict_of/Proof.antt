@@ -6,27 +6,21 @@ use Rattle.stal_numbers.proofs.verdict_of.Tie as tie
 use Rattle.stal_numbers.proofs.verdict_of.Reads as reads
 use Rattle.stal_numbers.proofs.verdict_of.Lts as lts
 
--- src/lib.rt:60:35
 enum-known-a : tie.Need-enum-known-a
 enum-known-a c = search needs
 
--- src/lib.rt:65:34
 enum-known-a-2 : tie.Need-enum-known-a-2
 enum-known-a-2 c = search needs
 
--- src/lib.rt:70:32
 enum-known-a-3 : tie.Need-enum-known-a-3
 enum-known-a-3 c = search needs
 
--- src/lib.rt:56:1
 returns : tie.Need-returns
 returns c = by-verdict ((c .before .a) .given .1) refl
 
--- src/lib.rt:56:1
 returns-2 : tie.Need-returns-2
 returns-2 c = by-verdict ((c .before .a2) .given .1) refl
 
--- src/lib.rt:56:1
 returns-3 : tie.Need-returns-3
 returns-3 c = by-verdict ((c .before .a3) .given .1) refl
 

@@ -1,2 +1,0 @@
-pub mod Context
-pub mod Told

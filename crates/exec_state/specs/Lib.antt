@@ -1,0 +1,2 @@
+pub mod samples
+pub mod good_form

@@ -1,0 +1,30 @@
+-- Lent slices as the memory of crate exec.
+use Prim.Native.Nat.{ℕ, _+_, _*_, _<_, _≤_}
+use mathlib.Core.Path.{_≡_}
+use mathlib.Core.List.{List, [], _∷_, map}
+use lib.ListN.{length, getD}
+use Rattle.exec.specs.Machine.{Word, Memory, integer, wordOf}
+use Rattle.tables.specs.Tables.{OperandTable, operandsAt}
+use Rattle.exec_words.specs.declared.memory.Word.{Word as Pair}
+
+-- a word of the code, as the machine's
+abbrev pub wordIs : Pair → Word
+wordIs w = record { kind = w .kind; number = w .number }
+
+-- kinds beside numbers
+abbrev pub lent : List ℕ → List ℕ → Memory
+lent ks ns = record { kinds = ks; numbers = ns }
+
+-- the operand table without its type arguments, which do nothing at run time
+abbrev pub operandTable : List ℕ → List ℕ → OperandTable
+operandTable os ns = record { operands = os; numbers = ns; args = [] }
+
+-- a tuple's words: its length, then those of n operands from v on
+unfoldable pub tupleOf : OperandTable → Memory → ℕ → ℕ → List Word
+tupleOf ω R v n = integer n ∷ map (wordOf R) (operandsAt ω v n)
+
+-- n operands from v on stand in the tables, and those that are registers are below 8
+pub record Sourced (os bs : List ℕ) (v n : ℕ) : Type 0 where
+  pub bases : v + n ≤ length bs
+  pub operands : 4 * (v + n) ≤ length os
+  pub low : (k : ℕ) → k < n → getD os (4 * (v + k)) 0 ≡ 0 → getD bs (v + k) 0 < 8

@@ -1,2 +1,0 @@
-pub mod Rename
-pub mod Laws

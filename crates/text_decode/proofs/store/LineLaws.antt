@@ -1,0 +1,284 @@
+-- Laws of one line: what its fields say and what is stored of them make what the tables then say.
+-- Assumes nothing.
+use mathlib.Core.Path.{_≡_, refl, ap, ap₂, sym, _∙_}
+use mathlib.Core.Bool.{Bool, true, false, cond}
+use mathlib.Core.List.{List, [], _∷_}
+use mathlib.Core.Option.{none, some}
+use Prim.Native.Nat.{ℕ, _+_, _-_, _*_, _<_, _≤_, zero-le}
+use native.Mathlib.Omega.{arith}
+use native.Mathlib.Nat.{le-refl}
+use lib.Dec.{eqb, ltb, leb, lit<}
+use lib.ListN.{getD, take}
+use lib.Seq.{sets}
+use borrow.Author.Tests.{lt-ltb, le-ltb, ltb-true, ltb-false, eq-eqb, ne-eqb, eqb-true, eqb-false, le-leb, lt-leb}
+use Rattle.syntax.specs.Syntax
+use Rattle.syntax.specs.Syntax.{Operand, Instr, Entry, row, block, instr}
+use Rattle.text.specs.Bytes.{fieldsOf}
+use Rattle.text.specs.Grammar.{forms, entryOf}
+use Rattle.tables.specs.Tables.{cell, rowFrom, rowAt, OperandTable, operandsAt, instrAt}
+use Rattle.tables.proofs.Spans.{same-less, same-at, same-sets, sets-at}
+use Rattle.text_fields.specs.names.Names.{formAt}
+use Rattle.text_decode.specs.line.Forms.{formCell, fewest, instrWith, entryWith}
+use Rattle.text_decode.specs.line.Answers.{SameOperands, operandTable, FormIs}
+use Rattle.text_decode.specs.declared.line.Said.{Said}
+use Rattle.text_decode.proofs.line.OperandLaws.{same-fewer}
+use Rattle.text_decode.specs.store.Store.{Store, store, rowTable, operandsOf, RoomFor, Room, Few, Same}
+use Rattle.text_decode.specs.store.Lines.{usedAfter, endsBlock, Listed, LineIs, Stored}
+use Rattle.text_decode.specs.declared.store.Used.{Used}
+use Rattle.text_decode.specs.declared.store.Line.{Line}
+use Rattle.text_decode.specs.declared.store.Line.the-variants.{NoForm, Row, Block, Instruction, Last}
+use Rattle.text_decode.proofs.store.EntryLaws.{unnamed, last-is, instr-is}
+
+pub same-refl : (u : Used) (σ : Store) → Same u σ σ
+same-refl u σ = record {
+  rows = refl;
+  parts = refl;
+  operands = record { kinds = refl; numbers = refl; args = refl };
+  instrs = refl;
+  blocks = refl;
+}
+
+-- tables with room for every text have room for one line more
+pub room-for : (u : Used) (σ : Store) → Room σ → Few u → RoomFor u σ
+room-for u σ r f = record {
+  rows = omega (arith, r .rows, f .rows);
+  parts = omega (arith, r .parts, f .rows);
+  operands = record {
+    kinds = omega (arith, r .operands, f .operands, f .instrs);
+    bases = omega (arith, r .numbers, f .operands, f .instrs);
+    rows = omega (arith, r .args, f .operands, f .instrs);
+  };
+  instrs = omega (arith, r .instrs, f .instrs);
+  blocks = omega (arith, r .blocks, f .blocks);
+}
+
+-- a store that changes what is past those in use
+grown-instr : (u : Used) (n : ℕ) (σ π : Store) → Same (usedAfter u (Instruction n)) σ π → Same u σ π
+grown-instr u n σ π s = record {
+  rows = s .rows;
+  parts = s .parts;
+  operands = same-fewer (operandsOf σ) (operandsOf π) (u .operands) (u .operands + n) (omega arith) (s .operands);
+  instrs = same-less (8 * u .instrs) (8 * (u .instrs + 1)) (σ .instrs) (π .instrs) (omega arith) (s .instrs);
+  blocks = s .blocks;
+}
+
+pub grown : (u : Used) (l : Line) (σ π : Store) → Same (usedAfter u l) σ π → Same u σ π
+grown u NoForm σ π s = s
+grown u Row σ π s = record {
+  rows = same-less (4 * u .rows) (4 * (u .rows + 1)) (σ .rows) (π .rows) (omega arith) (s .rows);
+  parts = same-less (17 * u .rows) (17 * (u .rows + 1)) (σ .parts) (π .parts) (omega arith) (s .parts);
+  operands = s .operands;
+  instrs = s .instrs;
+  blocks = s .blocks;
+}
+grown u Block σ π s = record {
+  rows = s .rows;
+  parts = s .parts;
+  operands = s .operands;
+  instrs = s .instrs;
+  blocks = same-less (2 * u .blocks) (2 * (u .blocks + 1)) (σ .blocks) (π .blocks) (omega arith) (s .blocks);
+}
+grown u (Instruction n) σ π s = grown-instr u n σ π s
+grown u (Last n) σ π s = grown-instr u n σ π s
+
+-- ---- the entry of a form, by its place
+module _ (code a b c d : ℕ) (ps : List ℕ) (vs : List Operand) where
+  row-entry : code < 10 → entryWith code a b c d ps vs ≡ row (rowFrom ps code a b)
+  unfolding entryWith
+  row-entry h = simp (lt-ltb code 10 h)
+
+  block-entry : code ≡ 10 → entryWith code a b c d ps vs ≡ block a
+  unfolding entryWith
+  block-entry h = let n : 10 ≤ code = omega arith in simp (le-ltb code 10 n, eq-eqb code 10 h)
+
+  instr-entry : 10 < code → entryWith code a b c d ps vs ≡ instr (instrWith (code - 11) a b c d vs)
+  unfolding entryWith
+  instr-entry h =
+      let n : 10 ≤ code = omega arith in
+      let m : eqb code 10 ≡ false = ne-eqb code 10 (λ w. omega arith) in
+      simp (le-ltb code 10 n, m)
+
+-- ---- a line of no form
+module _ (line : List ℕ) (u : Used) (σ : Store) (code : ℕ) (fs : List (List ℕ)) (is : entryOf (fieldsOf line) ≡ formAt forms code fs) where
+  -- whatever was written past what is in use
+  pub line-none : (π : Store) → Same u π σ → formAt forms code fs ≡ none → LineIs line u σ π NoForm
+  line-none π k e =
+      let q : entryOf (fieldsOf line) ≡ none = is ∙ e in
+      record {
+        kept = k;
+        few = zero-le;
+        said = λ ρ s. sym q;
+        last = sym (ap endsBlock q);
+        starts = λ w. let z : _≡_ {A = ℕ} 0 1 = cc in absurd (omega arith);
+        listed = tt;
+      }
+
+  pub line-unnamed : 34 ≤ code → LineIs line u σ σ NoForm
+  line-unnamed h = line-none σ (same-refl u σ) (unnamed code fs h)
+
+  module _ (parts′ operands′ numbers′ args′ : List ℕ) (s : Said) (form : FormIs code fs (17 * u .rows) (u .operands) (σ .parts) parts′ (operandsOf σ) (operandTable operands′ numbers′ args′) s) where
+    same-operands : SameOperands (u .operands + s .count) (operandTable operands′ numbers′ args′) (operandTable operands′ numbers′ args′)
+    same-operands = record { kinds = refl; numbers = refl; args = refl }
+
+    pub line-bad : s .ok ≡ false → LineIs line u σ (store (σ .rows) parts′ operands′ numbers′ args′ (σ .instrs) (σ .blocks)) NoForm
+    line-bad e =
+        line-none (store (σ .rows) parts′ operands′ numbers′ args′ (σ .instrs) (σ .blocks))
+        (record { rows = refl; parts = form .kept-parts; operands = form .kept-operands; instrs = refl; blocks = refl })
+        (sym (form .says parts′ (operandTable operands′ numbers′ args′) refl same-operands) ∙ simp e)
+
+    module _ (ok : s .ok ≡ true) (room : RoomFor u σ) where
+      -- the entry, whatever the parts and operands past those in use
+      entry-by : (ps : List ℕ) (ω : OperandTable) → take (17 * u .rows + 17) ps ≡ take (17 * u .rows + 17) parts′ → SameOperands (u .operands + s .count) ω (operandTable operands′ numbers′ args′) → some (entryWith code (s .a) (s .b) (s .c) (s .d) ps (operandsAt ω (u .operands) (s .count))) ≡ entryOf (fieldsOf line)
+      entry-by ps ω p o = simp ok at (form .says ps ω p o) ∙ sym is
+
+      good-row : code < 10 → LineIs line u σ (store (sets (σ .rows) (4 * u .rows) (code ∷ s .a ∷ s .b ∷ [])) parts′ operands′ numbers′ args′ (σ .instrs) (σ .blocks)) Row
+      unfolding rowAt
+      good-row h = record {
+        kept = record {
+          rows = same-sets (4 * u .rows) (σ .rows) (4 * u .rows) (code ∷ s .a ∷ s .b ∷ []) (le-refl (4 * u .rows));
+          parts = form .kept-parts;
+          operands = form .kept-operands;
+          instrs = refl;
+          blocks = refl;
+        };
+        few = zero-le;
+        said = row-said;
+        last = ap endsBlock (row-said σ′ (same-refl (usedAfter u Row) σ′));
+        starts = λ w. let z : _≡_ {A = ℕ} 0 1 = cc in absurd (omega arith);
+        listed = tt;
+      }
+        where
+          σ′ : Store
+          σ′ = store (sets (σ .rows) (4 * u .rows) (code ∷ s .a ∷ s .b ∷ [])) parts′ operands′ numbers′ args′ (σ .instrs) (σ .blocks)
+
+          cells : (ρ : Store) → Same (usedAfter u Row) ρ σ′ → (k : ℕ) → k < 3 → cell 4 (ρ .rows) (u .rows) k ≡ getD (code ∷ s .a ∷ s .b ∷ []) k 0
+          cells ρ t k l =
+              same-at (4 * (u .rows + 1)) (ρ .rows) (σ′ .rows) (4 * u .rows + k) (omega arith) (t .rows)
+              ∙ sets-at (σ .rows) (4 * u .rows) (code ∷ s .a ∷ s .b ∷ []) k (omega (arith, room .rows)) l
+
+          row-said : (ρ : Store) → Same (usedAfter u Row) ρ σ′ → some (row (rowAt (rowTable ρ) (u .rows))) ≡ entryOf (fieldsOf line)
+          row-said ρ t =
+              let is-row : rowAt (rowTable ρ) (u .rows) ≡ rowFrom (ρ .parts) code (s .a) (s .b) = simp (cells ρ t 0 (lit< tt), cells ρ t 1 (lit< tt), cells ρ t 2 (lit< tt)) in
+              let p : take (17 * u .rows + 17) (ρ .parts) ≡ take (17 * u .rows + 17) parts′ = same-less (17 * u .rows + 17) (17 * (u .rows + 1)) (ρ .parts) parts′ (omega arith) (t .parts) in
+              ap (λ (x : Syntax.Row). some (row x)) is-row
+              ∙ ap some (sym (row-entry code (s .a) (s .b) (s .c) (s .d) (ρ .parts) (operandsAt (operandTable operands′ numbers′ args′) (u .operands) (s .count)) h))
+              ∙ entry-by (ρ .parts) (operandTable operands′ numbers′ args′) p same-operands
+
+      good-block : code ≡ 10 → LineIs line u σ (store (σ .rows) parts′ operands′ numbers′ args′ (σ .instrs) (sets (σ .blocks) (2 * u .blocks) (s .a ∷ u .instrs ∷ []))) Block
+      good-block h = record {
+        kept = record {
+          rows = refl;
+          parts = form .kept-parts;
+          operands = form .kept-operands;
+          instrs = refl;
+          blocks = same-sets (2 * u .blocks) (σ .blocks) (2 * u .blocks) (s .a ∷ u .instrs ∷ []) (le-refl (2 * u .blocks));
+        };
+        few = zero-le;
+        said = block-said;
+        last = ap endsBlock (block-said σ′ (same-refl (usedAfter u Block) σ′));
+        starts = λ w. sets-at (σ .blocks) (2 * u .blocks) (s .a ∷ u .instrs ∷ []) 1 (omega (arith, room .blocks)) (lit< tt);
+        listed = tt;
+      }
+        where
+          σ′ : Store
+          σ′ = store (σ .rows) parts′ operands′ numbers′ args′ (σ .instrs) (sets (σ .blocks) (2 * u .blocks) (s .a ∷ u .instrs ∷ []))
+
+          block-said : (ρ : Store) → Same (usedAfter u Block) ρ σ′ → some (block (cell 2 (ρ .blocks) (u .blocks) 0)) ≡ entryOf (fieldsOf line)
+          block-said ρ t =
+              let c : cell 2 (ρ .blocks) (u .blocks) 0 ≡ s .a = same-at (2 * (u .blocks + 1)) (ρ .blocks) (σ′ .blocks) (2 * u .blocks + 0) (omega arith) (t .blocks) ∙ sets-at (σ .blocks) (2 * u .blocks) (s .a ∷ u .instrs ∷ []) 0 (omega (arith, room .blocks)) (lit< tt) in
+              ap (λ (x : ℕ). some (block x)) c
+              ∙ ap some (sym (block-entry code (s .a) (s .b) (s .c) (s .d) parts′ (operandsAt (operandTable operands′ numbers′ args′) (u .operands) (s .count)) h))
+              ∙ entry-by parts′ (operandTable operands′ numbers′ args′) refl same-operands
+
+      module _ (h : 10 < code) (k : code < 34) where
+        abbrev with-instr : Store
+        with-instr = store (σ .rows) parts′ operands′ numbers′ args′ (sets (σ .instrs) (8 * u .instrs) ((code - 11) ∷ s .a ∷ s .b ∷ s .c ∷ s .d ∷ u .operands ∷ s .count ∷ [])) (σ .blocks)
+
+        instr-cells : (ρ : Store) → Same (usedAfter u (Instruction (s .count))) ρ with-instr → (i : ℕ) → i < 7 → cell 8 (ρ .instrs) (u .instrs) i ≡ getD ((code - 11) ∷ s .a ∷ s .b ∷ s .c ∷ s .d ∷ u .operands ∷ s .count ∷ []) i 0
+        instr-cells ρ t i l =
+            same-at (8 * (u .instrs + 1)) (ρ .instrs) (with-instr .instrs) (8 * u .instrs + i) (omega arith) (t .instrs)
+            ∙ sets-at (σ .instrs) (8 * u .instrs) ((code - 11) ∷ s .a ∷ s .b ∷ s .c ∷ s .d ∷ u .operands ∷ s .count ∷ []) i (omega (arith, room .instrs)) l
+
+        instr-said : (ρ : Store) → Same (usedAfter u (Instruction (s .count))) ρ with-instr → some (instr (instrAt (ρ .instrs) (operandsOf ρ) (u .instrs))) ≡ entryOf (fieldsOf line)
+        unfolding instrAt
+        instr-said ρ t =
+            let back : (code - 11) + 11 ≡ code = omega arith in
+            let enough : fewest (formCell ((code - 11) + 11) 4) ≤ s .count = omega (arith, form .enough ok, ap (λ (j : ℕ). fewest (formCell j 4)) back) in
+            let at : (i : ℕ) → i < 7 → cell 8 (ρ .instrs) (u .instrs) i ≡ getD ((code - 11) ∷ s .a ∷ s .b ∷ s .c ∷ s .d ∷ u .operands ∷ s .count ∷ []) i 0 = instr-cells ρ t in
+            let is-instr : instrAt (ρ .instrs) (operandsOf ρ) (u .instrs) ≡ instrWith (code - 11) (s .a) (s .b) (s .c) (s .d) (operandsAt (operandsOf ρ) (u .operands) (s .count)) = simp (at 0 (lit< tt), at 1 (lit< tt), at 2 (lit< tt), at 3 (lit< tt), at 4 (lit< tt), at 5 (lit< tt), at 6 (lit< tt)) (instr-is (s .a) (s .b) (s .c) (s .d) (operandsOf ρ) (u .operands) (code - 11) (s .count) (omega arith) enough) in
+            ap (λ (x : Instr). some (instr x)) is-instr
+            ∙ ap some (sym (instr-entry code (s .a) (s .b) (s .c) (s .d) parts′ (operandsAt (operandsOf ρ) (u .operands) (s .count)) h))
+            ∙ entry-by parts′ (operandsOf ρ) refl (t .operands)
+
+        last-flag : endsBlock (entryOf (fieldsOf line)) ≡ leb 21 (code - 11)
+        last-flag =
+            let vs : List Operand = operandsAt (operandTable operands′ numbers′ args′) (u .operands) (s .count) in
+            ap endsBlock (sym (entry-by parts′ (operandTable operands′ numbers′ args′) refl same-operands))
+            ∙ ap (λ (e : Entry). endsBlock (some e)) (instr-entry code (s .a) (s .b) (s .c) (s .d) parts′ vs h)
+            ∙ last-is (s .a) (s .b) (s .c) (s .d) (code - 11) vs (omega arith)
+
+        instr-kept : Same u with-instr σ
+        instr-kept = record {
+          rows = refl;
+          parts = form .kept-parts;
+          operands = form .kept-operands;
+          instrs = same-sets (8 * u .instrs) (σ .instrs) (8 * u .instrs) ((code - 11) ∷ s .a ∷ s .b ∷ s .c ∷ s .d ∷ u .operands ∷ s .count ∷ []) (le-refl (8 * u .instrs));
+          blocks = refl;
+        }
+
+        instr-listed : Listed u with-instr (Instruction (s .count))
+        instr-listed =
+            let at : (i : ℕ) → i < 7 → cell 8 (with-instr .instrs) (u .instrs) i ≡ getD ((code - 11) ∷ s .a ∷ s .b ∷ s .c ∷ s .d ∷ u .operands ∷ s .count ∷ []) i 0 = instr-cells with-instr (same-refl (usedAfter u (Instruction (s .count))) with-instr) in
+            ap₂ (λ (a b : ℕ). a + b) (at 5 (lit< tt)) (at 6 (lit< tt))
+
+        good-inside : code < 32 → LineIs line u σ with-instr (Instruction (s .count))
+        good-inside m = record {
+          kept = instr-kept;
+          few = form .few;
+          said = instr-said;
+          last = sym (last-flag ∙ lt-leb 21 (code - 11) (omega arith));
+          starts = λ w. let z : _≡_ {A = ℕ} 0 1 = cc in absurd (omega arith);
+          listed = instr-listed;
+        }
+
+        good-last : 32 ≤ code → LineIs line u σ with-instr (Last (s .count))
+        good-last m = record {
+          kept = instr-kept;
+          few = form .few;
+          said = instr-said;
+          last = sym (last-flag ∙ le-leb 21 (code - 11) (omega arith));
+          starts = λ w. let z : _≡_ {A = ℕ} 0 1 = cc in absurd (omega arith);
+          listed = instr-listed;
+        }
+
+      pub line-good : (rows′ instrs′ blocks′ : List ℕ) (l : Line) → code < 34 → Stored code s u (σ .rows) (σ .instrs) (σ .blocks) rows′ instrs′ blocks′ l → LineIs line u σ (store rows′ parts′ operands′ numbers′ args′ instrs′ blocks′) l
+      line-good rows′ instrs′ blocks′ l k t = go (ltb code 10) (eqb code 10) (ltb code 32) refl refl refl
+        where
+          inside : (h : 10 < code) (z : Bool) → ltb code 32 ≡ z → l ≡ cond z (Instruction (s .count)) (Last (s .count)) → LineIs line u σ (with-instr h k) l
+          inside h true g d = rw d (good-inside h k (ltb-true code 32 g))
+          inside h false g d = rw d (good-last h k (ltb-false code 32 g))
+
+          go : (x y z : Bool) → ltb code 10 ≡ x → eqb code 10 ≡ y → ltb code 32 ≡ z → LineIs line u σ (store rows′ parts′ operands′ numbers′ args′ instrs′ blocks′) l
+          go true y z e f g =
+              let h : code < 10 = ltb-true code 10 e in
+              let n : eqb code 10 ≡ false = ne-eqb code 10 (λ w. omega arith) in
+              let m : ltb 10 code ≡ false = le-ltb 10 code (omega arith) in
+              let a : rows′ ≡ sets (σ .rows) (4 * u .rows) (code ∷ s .a ∷ s .b ∷ []) = t .row ∙ simp e in
+              let b : instrs′ ≡ σ .instrs = t .instr ∙ simp m in
+              let c : blocks′ ≡ σ .blocks = t .block ∙ simp n in
+              let d : l ≡ Row = t .line ∙ simp e in
+              rw (a, b, c, d) (good-row h)
+          go false true z e f g =
+              let h : code ≡ 10 = eqb-true code 10 f in
+              let m : ltb 10 code ≡ false = le-ltb 10 code (omega arith) in
+              let a : rows′ ≡ σ .rows = t .row ∙ simp e in
+              let b : instrs′ ≡ σ .instrs = t .instr ∙ simp m in
+              let c : blocks′ ≡ sets (σ .blocks) (2 * u .blocks) (s .a ∷ u .instrs ∷ []) = t .block ∙ simp f in
+              let d : l ≡ Block = t .line ∙ simp (e, f) in
+              rw (a, b, c, d) (good-block h)
+          go false false z e f g =
+              let h : 10 < code = let w = ltb-false code 10 e in let q = eqb-false code 10 f in omega arith in
+              let a : rows′ ≡ σ .rows = t .row ∙ simp e in
+              let b : instrs′ ≡ sets (σ .instrs) (8 * u .instrs) ((code - 11) ∷ s .a ∷ s .b ∷ s .c ∷ s .d ∷ u .operands ∷ s .count ∷ []) = t .instr ∙ simp (lt-ltb 10 code h) in
+              let c : blocks′ ≡ σ .blocks = t .block ∙ simp f in
+              rw (a, b, c) (inside h z g (t .line ∙ simp (e, f, g)))

@@ -1,0 +1,108 @@
+-- Laws of what is stored of a line, and of the fields behind its first.
+-- Assumes nothing.
+use mathlib.Core.Path.{_≡_, refl, ap, _∙_, subst}
+use mathlib.Core.Bool.{Bool, true, false}
+use mathlib.Core.List.{List, [], _∷_}
+use Prim.Native.Nat.{ℕ, _+_, _-_, _*_, _<_, _≤_}
+use native.Mathlib.Omega.{arith}
+use lib.Dec.{eqb, ltb}
+use lib.ListN.{length, take, drop, length-drop}
+use lib.Seq.{sets, take-all, drop-drop}
+use borrow.Author.Tests.{ltb-true, ltb-false, lt-ltb, le-ltb, le-leb, lt-leb, eq-eqb, ne-eqb}
+use Rattle.text.specs.Bytes.{fieldsOf}
+use Rattle.tables.specs.Tables.{OperandTable}
+use Rattle.text_lines.specs.Parts.{lineIn, StopAt}
+use Rattle.text_lines.proofs.InLine.{line-from, stop-from}
+use Rattle.text_decode.specs.line.Fields.{fieldsFrom}
+use Rattle.text_decode.specs.line.Answers.{AtEnd, FormIs}
+use Rattle.text_decode.specs.declared.line.Said.{Said}
+use Rattle.text_decode.specs.store.Store.{Store}
+use Rattle.text_decode.specs.store.Lines.{lineOf, noLine, LineIs, LineEnds, Stored}
+use Rattle.text_decode.specs.declared.store.Used.{Used}
+use Rattle.text_decode.specs.declared.store.Line.{Line}
+use Rattle.text_decode.specs.declared.store.LineRead.{LineRead}
+use Rattle.text_decode.specs.declared.store.Line.the-variants.{NoForm, Row, Block, Instruction, Last}
+
+module _ (code : ℕ) (s : Said) (u : Used) (rows instrs blocks : List ℕ) where
+  pub stored-row : code < 10 → (rows′ : List ℕ) → rows′ ≡ sets rows (4 * u .rows) (code ∷ s .a ∷ s .b ∷ []) → Stored code s u rows instrs blocks rows′ instrs blocks Row
+  stored-row h rows′ e =
+      let n : eqb code 10 ≡ false = ne-eqb code 10 (λ w. omega arith) in
+      let m : ltb 10 code ≡ false = le-ltb 10 code (omega arith) in
+      record {
+        row = e ∙ simp (lt-ltb code 10 h);
+        instr = simp m;
+        block = simp n;
+        line = simp (lt-ltb code 10 h);
+      }
+
+  pub stored-block : code ≡ 10 → (blocks′ : List ℕ) → blocks′ ≡ sets blocks (2 * u .blocks) (s .a ∷ u .instrs ∷ []) → Stored code s u rows instrs blocks rows instrs blocks′ Block
+  stored-block h blocks′ e =
+      let n : ltb code 10 ≡ false = le-ltb code 10 (omega arith) in
+      let m : ltb 10 code ≡ false = le-ltb 10 code (omega arith) in
+      record {
+        row = simp n;
+        instr = simp m;
+        block = e ∙ simp (eq-eqb code 10 h);
+        line = simp (n, eq-eqb code 10 h);
+      }
+
+  module _ (h : 10 ≤ code) (q : code ≡ 10 → ⊥) (instrs′ : List ℕ) (e : instrs′ ≡ sets instrs (8 * u .instrs) ((code - 11) ∷ s .a ∷ s .b ∷ s .c ∷ s .d ∷ u .operands ∷ s .count ∷ [])) where
+    stored-instr : (l : Line) → l ≡ lineOf code (s .count) → Stored code s u rows instrs blocks rows instrs′ blocks l
+    stored-instr l w =
+        let m : ltb 10 code ≡ true = lt-ltb 10 code (omega arith) in
+        record {
+          row = simp (le-ltb code 10 h);
+          instr = e ∙ simp m;
+          block = simp (ne-eqb code 10 q);
+          line = w;
+        }
+
+    pub stored-inside : code < 32 → Stored code s u rows instrs blocks rows instrs′ blocks (Instruction (s .count))
+    stored-inside k = stored-instr (Instruction (s .count)) (simp (le-ltb code 10 h, ne-eqb code 10 q, lt-ltb code 32 k))
+
+    pub stored-last : 32 ≤ code → Stored code s u rows instrs blocks rows instrs′ blocks (Last (s .count))
+    stored-last k = stored-instr (Last (s .count)) (simp (le-ltb code 10 h, ne-eqb code 10 q, le-ltb code 32 k))
+
+-- ---- the rest of a line, as a part that starts in its middle
+pub part-from : (l : List ℕ) (a : ℕ) → take (length l - a) (drop a l) ≡ drop a l
+part-from l a = let q : length (drop a l) ≤ length l - a = omega (arith, length-drop a l) in take-all (length l - a) (drop a l) q
+
+fields-from : (line : List ℕ) (f : ℕ) → fieldsFrom (drop f line) (0 + 1) ≡ fieldsFrom line (f + 1)
+unfolding fieldsFrom
+fields-from line f = go (ltb f (length line)) refl
+  where
+    go : (t : Bool) → ltb f (length line) ≡ t → fieldsFrom (drop f line) (0 + 1) ≡ fieldsFrom line (f + 1)
+    go true e =
+        let h : f < length line = ltb-true f (length line) e in
+        let p : 0 + 1 ≤ length (drop f line) = omega (arith, length-drop f line) in
+        let q : f + 1 ≤ length line = omega arith in
+        simp (le-leb (0 + 1) (length (drop f line)) p, le-leb (f + 1) (length line) q) (ap fieldsOf (drop-drop 1 f line))
+    go false e =
+        let h : length line ≤ f = ltb-false f (length line) e in
+        let p : length (drop f line) < 0 + 1 = omega (arith, length-drop f line) in
+        let q : length line < f + 1 = omega arith in
+        simp (lt-leb (0 + 1) (length (drop f line)) p, lt-leb (f + 1) (length line) q)
+
+module _ (s : List ℕ) (f : ℕ) (p : StopAt s f) where
+  pub rest-stop : StopAt (take (length s - f) (drop f s)) 0
+  rest-stop = rw (part-from s f) (stop-from s f p)
+
+  rest-line : lineIn (take (length s - f) (drop f s)) ≡ drop f (lineIn s)
+  rest-line = ap lineIn (part-from s f) ∙ line-from s f (p .place .within)
+
+  pub rest-fields : fieldsFrom (lineIn (take (length s - f) (drop f s))) (0 + 1) ≡ fieldsFrom (lineIn s) (f + 1)
+  rest-fields = ap (λ (l : List ℕ). fieldsFrom l (0 + 1)) rest-line ∙ fields-from (lineIn s) f
+
+  pub rest-end : (ok : Bool) (n : ℕ) → AtEnd (take (length s - f) (drop f s)) ok n → AtEnd s ok (f + n)
+  rest-end ok n g t =
+      let e = g t in
+      let m : length (lineIn (take (length s - f) (drop f s))) ≡ length (lineIn s) - f = ap length rest-line ∙ length-drop f (lineIn s) in
+      omega (arith, p .place .within)
+
+-- the same fields say the same
+pub form-as : (code p v : ℕ) (parts parts′ : List ℕ) (ω ω′ : OperandTable) (s : Said) {fs gs : List (List ℕ)} → fs ≡ gs → FormIs code fs p v parts parts′ ω ω′ s → FormIs code gs p v parts parts′ ω ω′ s
+form-as code p v parts parts′ ω ω′ s e h = subst (λ (xs : List (List ℕ)). FormIs code xs p v parts parts′ ω ω′ s) e h
+
+-- ---- a line of no form ends nowhere
+pub no-line-is : (text line : List ℕ) (u : Used) (σ π : Store) (r : LineRead) → r ≡ noLine → LineIs line u σ π NoForm → LineIs line u σ π (r .line) × LineEnds text r
+no-line-is text line u σ π r e g = rw e (g, λ h. absurd (h refl))

@@ -1,0 +1,4 @@
+pub mod Decoded
+pub mod line
+pub mod store
+pub mod state

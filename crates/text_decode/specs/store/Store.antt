@@ -1,0 +1,65 @@
+-- The tables of a decoded text, and how much of them is in use.
+use Prim.Native.Nat.{ℕ, _+_, _*_, _≤_}
+use mathlib.Core.Path.{_≡_}
+use mathlib.Core.List.{List}
+use lib.ListN.{length, take}
+use Rattle.tables.specs.Tables.{RowTable, OperandTable}
+use Rattle.text_decode.specs.line.Answers.{OperandRoom, SameOperands}
+use Rattle.text_decode.specs.declared.store.Used.{Used}
+
+-- all tables of a decoded text
+pub record Store : Type 0 where
+  pub rows : List ℕ
+  pub parts : List ℕ
+  pub operands : List ℕ
+  pub numbers : List ℕ
+  pub args : List ℕ
+  pub instrs : List ℕ
+  pub blocks : List ℕ
+
+-- the tables, as the functions are lent them
+abbrev pub store : List ℕ → List ℕ → List ℕ → List ℕ → List ℕ → List ℕ → List ℕ → Store
+store rows parts operands numbers args instrs blocks =
+    record { rows = rows; parts = parts; operands = operands; numbers = numbers; args = args; instrs = instrs; blocks = blocks }
+
+-- its rows and their parts
+abbrev pub rowTable : Store → RowTable
+rowTable σ = record { rows = σ .rows; parts = σ .parts }
+
+-- its operands, their numbers and their arguments
+abbrev pub operandsOf : Store → OperandTable
+operandsOf σ = record { operands = σ .operands; numbers = σ .numbers; args = σ .args }
+
+-- Room for one line more behind what is in use. Row r's parts stand from 17 r on, and an instruction has at most 16 operands.
+pub record RoomFor (u : Used) (σ : Store) : Type 0 where
+  pub rows : 4 * (u .rows + 1) ≤ length (σ .rows)
+  pub parts : 17 * (u .rows + 1) ≤ length (σ .parts)
+  pub operands : OperandRoom (u .operands + 16) (length (σ .operands)) (length (σ .numbers)) (length (σ .args))
+  pub instrs : 8 * (u .instrs + 1) ≤ length (σ .instrs)
+  pub blocks : 2 * (u .blocks + 1) ≤ length (σ .blocks)
+
+-- Room for one row, one block and one instruction more than document 01 allows: a line is read before its place is looked at. So every
+-- text has room.
+pub record Room (σ : Store) : Type 0 where
+  pub rows : 4 * 513 ≤ length (σ .rows)
+  pub parts : 17 * 513 ≤ length (σ .parts)
+  pub operands : 4 * 16400 ≤ length (σ .operands)
+  pub numbers : 16400 ≤ length (σ .numbers)
+  pub args : 8 * 16400 ≤ length (σ .args)
+  pub instrs : 8 * 1025 ≤ length (σ .instrs)
+  pub blocks : 2 * 65 ≤ length (σ .blocks)
+
+-- "At most 512 rows, 64 blocks, 1,024 instructions."
+pub record Few (u : Used) : Type 0 where
+  pub rows : u .rows ≤ 512
+  pub blocks : u .blocks ≤ 64
+  pub instrs : u .instrs ≤ 1024
+  pub operands : u .operands ≤ 16 * u .instrs
+
+-- the entries in use are the same
+pub record Same (u : Used) (σ π : Store) : Type 0 where
+  pub rows : take (4 * u .rows) (σ .rows) ≡ take (4 * u .rows) (π .rows)
+  pub parts : take (17 * u .rows) (σ .parts) ≡ take (17 * u .rows) (π .parts)
+  pub operands : SameOperands (u .operands) (operandsOf σ) (operandsOf π)
+  pub instrs : take (8 * u .instrs) (σ .instrs) ≡ take (8 * u .instrs) (π .instrs)
+  pub blocks : take (2 * u .blocks) (σ .blocks) ≡ take (2 * u .blocks) (π .blocks)

@@ -1,0 +1,190 @@
+// What decoding a text keeps from line to line, and how it ends: the place of a line among type lines and blocks, what is in use of the
+// tables and whether they have room for one line more, the fault of a line, and the answers. Promises: a line out of order is fault 2 and
+// one too many fault 3, as pass one of document 01 says (`lineFault` of specs/state/State.antt, which this crate equates with it). Asks:
+// that what is in use is not more than a text can have.
+ghost use mathlib.Core.Path.{_≡_};
+ghost use mathlib.Core.Bool.{true};
+ghost use Prim.Native.Nat.{_≤_};
+ghost use Rattle.text_decode.specs.store.Store.{store, RoomFor, Few};
+ghost use Rattle.text_decode.specs.store.Lines.{operandCount, usedAfter};
+ghost use Rattle.text_decode.specs.state.State.{faultOf, lineFault, placeBehind, noneUsed, unfitRead, faultyRead, lastRead};
+use crate::store::Line;
+use crate::store::Used;
+
+// Whether the text fits the tables; the fault of pass one and its line, 0 and 0 for none; then how many rows, blocks and instructions
+// there are.
+pub struct Read {
+    pub fits: bool,
+    pub fault: u8,
+    pub line: usize,
+    pub rows: usize,
+    pub blocks: usize,
+    pub instrs: usize,
+}
+
+// Out of order comes before too many.
+fn fault_of(in_order: bool, full: bool) -> u8
+    ensures { λ r. ⌜ r ≡ faultOf in_order full ⌝ }
+{
+    if !in_order {
+        return 2;
+    }
+    if full {
+        return 3;
+    }
+    0
+}
+
+// A line's fault, 0 for none. The place: 0 among the type lines, 1 in a block that has not ended, 2 behind one that has.
+pub(crate) fn line_fault(l: Line, place: u8, u: Used) -> u8
+    ensures { λ r. ⌜ r ≡ lineFault l place u ⌝ }
+{
+    match l {
+        Line::NoForm => 1,
+        Line::Row => fault_of(place == 0, 512 <= u.rows),
+        Line::Block => fault_of(place != 1, 64 <= u.blocks),
+        Line::Instruction(_) => fault_of(place == 1, 1024 <= u.instrs),
+        Line::Last(_) => fault_of(place == 1, 1024 <= u.instrs),
+    }
+}
+
+// The place behind the line.
+pub(crate) fn place_behind(l: Line, place: u8) -> u8
+    ensures { λ r. ⌜ r ≡ placeBehind l place ⌝ }
+{
+    match l {
+        Line::NoForm => place,
+        Line::Row => 0,
+        Line::Block => 1,
+        Line::Instruction(_) => 1,
+        Line::Last(_) => 2,
+    }
+}
+
+fn with_instr(u: Used, n: usize) -> Used
+    requires { ⌜ Few u × (n ≤ 16) ⌝ }
+    ensures { λ r. ⌜ r ≡ usedAfter u (Line.Instruction n) ⌝ }
+{
+    Used {
+        rows: u.rows,
+        blocks: u.blocks,
+        instrs: u.instrs + 1,
+        operands: u.operands + n,
+    }
+}
+
+// What is in use behind the line.
+pub(crate) fn used_after(u: Used, l: Line) -> Used
+    requires { ⌜ Few u × (operandCount l ≤ 16) ⌝ }
+    ensures { λ r. ⌜ r ≡ usedAfter u l ⌝ }
+{
+    match l {
+        Line::NoForm => u,
+        Line::Row => Used {
+            rows: u.rows + 1,
+            blocks: u.blocks,
+            instrs: u.instrs,
+            operands: u.operands,
+        },
+        Line::Block => Used {
+            rows: u.rows,
+            blocks: u.blocks + 1,
+            instrs: u.instrs,
+            operands: u.operands,
+        },
+        Line::Instruction(n) => with_instr(u, n),
+        Line::Last(n) => with_instr(u, n),
+    }
+}
+
+// The answer where the text does not fit the tables.
+pub(crate) fn unfit() -> Read
+    ensures { λ r. ⌜ r ≡ unfitRead ⌝ }
+{
+    Read {
+        fits: false,
+        fault: 0,
+        line: 0,
+        rows: 0,
+        blocks: 0,
+        instrs: 0,
+    }
+}
+
+// The answer that names a fault and its line.
+pub(crate) fn faulty(fault: u8, line: usize) -> Read
+    ensures { λ r. ⌜ r ≡ faultyRead fault line ⌝ }
+{
+    Read {
+        fits: true,
+        fault,
+        line,
+        rows: 0,
+        blocks: 0,
+        instrs: 0,
+    }
+}
+
+// What is read at the end of the text: a block that has not ended is a fault one line further on.
+pub(crate) fn end_of_text(place: u8, line: usize, u: Used) -> Read
+    ensures { λ r. ⌜ r ≡ lastRead place line u ⌝ }
+{
+    if place == 1 {
+        return faulty(2, line);
+    }
+    Read {
+        fits: true,
+        fault: 0,
+        line: 0,
+        rows: u.rows,
+        blocks: u.blocks,
+        instrs: u.instrs,
+    }
+}
+
+// Nothing is in use.
+pub(crate) fn unused() -> Used
+    ensures { λ r. ⌜ r ≡ noneUsed ⌝ }
+{
+    Used {
+        rows: 0,
+        blocks: 0,
+        instrs: 0,
+        operands: 0,
+    }
+}
+
+// Whether the tables have room for one line more behind what is in use.
+pub(crate) fn has_room(
+    rows: &[u16],
+    parts: &[u16],
+    operands: &[u16],
+    numbers: &[u32],
+    args: &[u16],
+    instrs: &[u16],
+    blocks: &[u16],
+    u: Used,
+) -> bool
+    requires { ⌜ Few u ⌝ }
+    ensures { λ r. ⌜ (r ≡ true → RoomFor u (store (now (rows .entry)) (now (parts .entry)) (now (operands .entry)) (now (numbers .entry)) (now (args .entry)) (now (instrs .entry)) (now (blocks .entry)))) × (RoomFor u (store (now (rows .entry)) (now (parts .entry)) (now (operands .entry)) (now (numbers .entry)) (now (args .entry)) (now (instrs .entry)) (now (blocks .entry))) → r ≡ true) ⌝ }
+{
+    if rows.len() < 4 * (u.rows + 1) {
+        return false;
+    }
+    if parts.len() < 17 * (u.rows + 1) {
+        return false;
+    }
+    if operands.len() < 4 * (u.operands + 16) {
+        return false;
+    }
+    if numbers.len() < u.operands + 16 {
+        return false;
+    }
+    if args.len() < 8 * (u.operands + 16) {
+        return false;
+    }
+    if instrs.len() < 8 * (u.instrs + 1) {
+        return false;
+    }
+    2 * (u.blocks + 1) <= blocks.len()
+}

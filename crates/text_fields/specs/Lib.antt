@@ -1,0 +1,5 @@
+pub mod Answers
+pub mod Pieces
+pub mod numbers
+pub mod names
+pub mod plain_operands

@@ -1,0 +1,176 @@
+use borrow.Author.Needs.{needs}
+use native.Mathlib.Omega.{arith}
+use Rattle.types_equal.proofs.value_pairs.Letters.{letters-end, letters-short, letters-on, letters-off}
+use Prim.Native.Nat.{ℕ, _<_}
+use borrow.Fn.Kinds.{In}
+use borrow.Fn.PlainCycle.{Measures, is, falls, and}
+use Rattle.types_equal.proofs.value_pairs.same_letters.Reads as same-letters
+use Rattle.types_equal.proofs.value_pairs.same_letters.Kinds as same-letters-kinds
+use Rattle.types_equal.proofs.value_pairs.+same_letters.Lts-same_letters as same-letters-lts
+use Rattle.types_equal.proofs.value_pairs.same_letter.Reads as same-letter-reads
+use Rattle.types_rows.proofs.at.Reads as at-reads
+use Rattle.types_equal.proofs.value_pairs.+same_letters.{statement}
+use Rattle.types_equal.proofs.value_pairs.+same_letters.Tie.{close}
+
+abbrev μ-same-letters : Measures 1 same-letters-kinds.ps ℕ
+μ-same-letters κs a = a .1 .1 .0
+
+abbrev same-letters-at : ℕ → In 1 same-letters-kinds.ps
+same-letters-at t =
+    and 1 same-letters-kinds.ps (is 1 same-letters-kinds.ps μ-same-letters t) same-letters.Pre
+
+abbrev same-letters-below : ℕ → In 1 same-letters-kinds.ps
+same-letters-below t =
+    and
+    1
+    same-letters-kinds.ps
+    (falls 1 same-letters-kinds.ps _<_ μ-same-letters t)
+    same-letters.Pre
+
+same-letters-returns : (t : ℕ) → same-letters-lts.Need-returns (
+  at-reads.Asked,
+  at-reads.Learnt,
+  same-letter-reads.Asked,
+  same-letter-reads.Learnt,
+  same-letters-below t,
+  same-letters.Post,
+) (same-letters-at t) same-letters.Post
+same-letters-returns t c = letters-end ((c .before .before .args) .parts .now) ((c .before .before .args) .p) ((c .before .before .args) .q) ((c .before .before .args) .a) ((c .before .before .args) .b) ((c .if1) .taken)
+
+same-letters-returns-2 : (t : ℕ) → same-letters-lts.Need-returns-2 (
+  at-reads.Asked,
+  at-reads.Learnt,
+  same-letter-reads.Asked,
+  same-letter-reads.Learnt,
+  same-letters-below t,
+  same-letters.Post,
+) (same-letters-at t) same-letters.Post
+same-letters-returns-2 t c = letters-short ((c .before .before .before .args) .parts .now) ((c .before .before .before .args) .p) ((c .before .before .before .args) .q) ((c .before .before .before .args) .a) ((c .before .before .before .args) .b) ((c .before .if1) .left) ((c .if2) .taken)
+
+same-letters-at-requires : (t : ℕ) → same-letters-lts.Need-at-requires (
+  at-reads.Asked,
+  at-reads.Learnt,
+  same-letter-reads.Asked,
+  same-letter-reads.Learnt,
+  same-letters-below t,
+  same-letters.Post,
+) (same-letters-at t) same-letters.Post
+same-letters-at-requires t c κs = search needs
+
+same-letters-at-requires-2 : (t : ℕ) → same-letters-lts.Need-at-requires-2 (
+  at-reads.Asked,
+  at-reads.Learnt,
+  same-letter-reads.Asked,
+  same-letter-reads.Learnt,
+  same-letters-below t,
+  same-letters.Post,
+) (same-letters-at t) same-letters.Post
+same-letters-at-requires-2 t c κs = search needs
+
+same-letters-same-letter-requires : (t : ℕ) → same-letters-lts.Need-same-letter-requires (
+  at-reads.Asked,
+  at-reads.Learnt,
+  same-letter-reads.Asked,
+  same-letter-reads.Learnt,
+  same-letters-below t,
+  same-letters.Post,
+) (same-letters-at t) same-letters.Post
+same-letters-same-letter-requires t c κs = search needs
+
+same-letters-add-same-letters : (t : ℕ) → same-letters-lts.Need-add-same-letters (
+  at-reads.Asked,
+  at-reads.Learnt,
+  same-letter-reads.Asked,
+  same-letter-reads.Learnt,
+  same-letters-below t,
+  same-letters.Post,
+) (same-letters-at t) same-letters.Post
+same-letters-add-same-letters t c = search needs
+
+same-letters-sub-same-letters : (t : ℕ) → same-letters-lts.Need-sub-same-letters (
+  at-reads.Asked,
+  at-reads.Learnt,
+  same-letter-reads.Asked,
+  same-letter-reads.Learnt,
+  same-letters-below t,
+  same-letters.Post,
+) (same-letters-at t) same-letters.Post
+same-letters-sub-same-letters t c = search needs
+
+same-letters-add-same-letters-2 : (t : ℕ) → same-letters-lts.Need-add-same-letters-2 (
+  at-reads.Asked,
+  at-reads.Learnt,
+  same-letter-reads.Asked,
+  same-letter-reads.Learnt,
+  same-letters-below t,
+  same-letters.Post,
+) (same-letters-at t) same-letters.Post
+same-letters-add-same-letters-2 t c = search needs
+
+same-letters-sub-same-letters-2 : (t : ℕ) → same-letters-lts.Need-sub-same-letters-2 (
+  at-reads.Asked,
+  at-reads.Learnt,
+  same-letter-reads.Asked,
+  same-letter-reads.Learnt,
+  same-letters-below t,
+  same-letters.Post,
+) (same-letters-at t) same-letters.Post
+same-letters-sub-same-letters-2 t c = search needs
+
+same-letters-same-letters-requires : (t : ℕ) → same-letters-lts.Need-same-letters-requires (
+  at-reads.Asked,
+  at-reads.Learnt,
+  same-letter-reads.Asked,
+  same-letter-reads.Learnt,
+  same-letters-below t,
+  same-letters.Post,
+) (same-letters-at t) same-letters.Post
+same-letters-same-letters-requires t c κs =
+    let h = (c .before .before .before .before .before .before .before .pre) .0 in
+    let i = (c .before .before .before .before .before .if1) .left in
+    let j = (c .before .before .before .before .if2) .left in
+    (omega arith, omega arith)
+
+same-letters-returns-3 : (t : ℕ) → same-letters-lts.Need-returns-3 (
+  at-reads.Asked,
+  at-reads.Learnt,
+  same-letter-reads.Asked,
+  same-letter-reads.Learnt,
+  same-letters-below t,
+  same-letters.Post,
+) (same-letters-at t) same-letters.Post
+same-letters-returns-3 t c = letters-on ((c .before .before .before .before .before .before .before .before .args) .parts .now) ((c .before .before .before .before .before .before .before .before .args) .p) ((c .before .before .before .before .before .before .before .before .args) .q) ((c .before .before .before .before .before .before .before .before .args) .a) ((c .before .before .before .before .before .before .before .before .args) .b) ((c .before .before .before .before .at) .result) ((c .before .before .before .at2) .result) ((c .before .before .before .before .before .before .if1) .left) ((c .before .before .before .before .before .if2) .left) ((c .before .before .before .before .at) .ensures .0) ((c .before .before .before .at2) .ensures .0) ((c .before .if3) .taken) ((c .before .before .same-letter) .ensures) ((c .same-letters) .ensures)
+
+same-letters-returns-4 : (t : ℕ) → same-letters-lts.Need-returns-4 (
+  at-reads.Asked,
+  at-reads.Learnt,
+  same-letter-reads.Asked,
+  same-letter-reads.Learnt,
+  same-letters-below t,
+  same-letters.Post,
+) (same-letters-at t) same-letters.Post
+same-letters-returns-4 t c = letters-off ((c .before .before .before .before .before .before .before .args) .parts .now) ((c .before .before .before .before .before .before .before .args) .p) ((c .before .before .before .before .before .before .before .args) .q) ((c .before .before .before .before .before .before .before .args) .a) ((c .before .before .before .before .before .before .before .args) .b) ((c .before .before .before .at) .result) ((c .before .before .at2) .result) ((c .before .before .before .before .before .if1) .left) ((c .before .before .before .before .if2) .left) ((c .before .before .before .at) .ensures .0) ((c .before .before .at2) .ensures .0) ((c .if3) .left) ((c .before .same-letter) .ensures)
+
+pub +same-letters-spec : {M : Type 1} → statement M
++same-letters-spec = close μ-same-letters λ t. same-letters-lts.spec (
+  at-reads.Asked,
+  at-reads.Learnt,
+  same-letter-reads.Asked,
+  same-letter-reads.Learnt,
+  same-letters-below t,
+  same-letters.Post,
+)
+    (same-letters-at t)
+    same-letters.Post
+    (same-letters-returns t)
+    (same-letters-returns-2 t)
+    (same-letters-at-requires t)
+    (same-letters-at-requires-2 t)
+    (same-letters-same-letter-requires t)
+    (same-letters-add-same-letters t)
+    (same-letters-sub-same-letters t)
+    (same-letters-add-same-letters-2 t)
+    (same-letters-sub-same-letters-2 t)
+    (same-letters-same-letters-requires t)
+    (same-letters-returns-3 t)
+    (same-letters-returns-4 t)

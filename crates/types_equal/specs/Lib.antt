@@ -1,0 +1,5 @@
+pub mod Bounds
+pub mod pending
+pub mod value_pairs
+pub mod stack_pairs
+pub mod filling

@@ -1,0 +1,171 @@
+// Two stack rows side by side, each read item by item from the top (module pending): what is left to compare after their next items, and
+// stacks that are seen at once to be equal, since they are the same row in the same context.
+// Promised: each answer says what the comparison of the two stacks comes to (`fitPending`, `sameStacks`). Asked: room for what is pending,
+// and sums that are small enough.
+use crate::pending::Next;
+use types_rows::Stk;
+ghost use mathlib.Core.Path.{_≡_};
+ghost use mathlib.Core.Bool.{true, cond};
+ghost use mathlib.Core.List.{List};
+ghost use Prim.Native.Nat.{ℕ, suc, _+_, _-_, _≤_, _<_};
+ghost use lib.Dec.{eqb};
+ghost use lib.ListN.{length};
+ghost use Rattle.types_rows.specs.Read.{tab, argsOf};
+ghost use Rattle.types_equal.specs.pending.Pending.{room, Pends, Givens};
+ghost use Rattle.types_equal.specs.declared.stack_pairs.Duo.the-variants.{Unlike, Onward};
+ghost use Rattle.types_equal.specs.stack_pairs.Items.{endWith, ownWith, givenWith, varWith, duoOf};
+ghost use Rattle.types_equal.specs.stack_pairs.Fit.{AtSame, sameStacks, DuoIs};
+
+// What is left to compare of two stacks: nothing, they are equal; nothing, they are not; what is pending after an equal variable; two
+// value rows, the left one in its context or of an argument, each with what is pending behind it.
+pub enum Duo {
+    Over,
+    Unlike,
+    Onward(usize, usize),
+    OwnTwo(usize, usize, usize, usize),
+    GivenTwo(usize, usize, usize, usize),
+}
+
+fn end_with(b: Next) -> Duo
+    ensures { λ out. ⌜ out ≡ endWith b ⌝ }
+{
+    match b {
+        Next::End => Duo::Over,
+        Next::OwnNext(_, _) => Duo::Unlike,
+        Next::GivenNext(_, _) => Duo::Unlike,
+        Next::VarNext(_, _) => Duo::Unlike,
+        Next::Wrong => Duo::Unlike,
+    }
+}
+
+fn own_with(t: usize, n: usize, b: Next) -> Duo
+    ensures { λ out. ⌜ out ≡ ownWith t n b ⌝ }
+{
+    match b {
+        Next::End => Duo::Unlike,
+        Next::OwnNext(u, o) => Duo::OwnTwo(t, n, u, o),
+        Next::GivenNext(_, _) => Duo::Unlike,
+        Next::VarNext(_, _) => Duo::Unlike,
+        Next::Wrong => Duo::Unlike,
+    }
+}
+
+fn given_with(t: usize, n: usize, b: Next) -> Duo
+    ensures { λ out. ⌜ out ≡ givenWith t n b ⌝ }
+{
+    match b {
+        Next::End => Duo::Unlike,
+        Next::OwnNext(u, o) => Duo::GivenTwo(t, n, u, o),
+        Next::GivenNext(_, _) => Duo::Unlike,
+        Next::VarNext(_, _) => Duo::Unlike,
+        Next::Wrong => Duo::Unlike,
+    }
+}
+
+fn if_onward(k: usize, i: usize, n: usize, o: usize) -> Duo
+    ensures { λ out. ⌜ out ≡ cond (eqb k i) (Onward n o) Unlike ⌝ }
+{
+    if k == i {
+        return Duo::Onward(n, o);
+    }
+    Duo::Unlike
+}
+
+fn var_with(k: usize, n: usize, b: Next) -> Duo
+    ensures { λ out. ⌜ out ≡ varWith k n b ⌝ }
+{
+    match b {
+        Next::End => Duo::Unlike,
+        Next::OwnNext(_, _) => Duo::Unlike,
+        Next::GivenNext(_, _) => Duo::Unlike,
+        Next::VarNext(i, o) => if_onward(k, i, n, o),
+        Next::Wrong => Duo::Unlike,
+    }
+}
+
+// The next items a of the left and b of the right stack.
+fn two_items(a: Next, b: Next) -> Duo
+    ensures { λ out. ⌜ out ≡ duoOf a b ⌝ }
+{
+    match a {
+        Next::End => end_with(b),
+        Next::OwnNext(t, n) => own_with(t, n, b),
+        Next::GivenNext(t, n) => given_with(t, n, b),
+        Next::VarNext(k, n) => var_with(k, n, b),
+        Next::Wrong => Duo::Unlike,
+    }
+}
+
+// The next items of the i entries pending on the left and the j entries pending on the right.
+pub(crate) fn next_pair(
+    rows: &[u16],
+    args: &[u16],
+    m: usize,
+    by: usize,
+    d: usize,
+    left: &mut [usize],
+    i: usize,
+    by2: usize,
+    d2: usize,
+    right: &mut [usize],
+    j: usize,
+) -> Duo
+    requires { ⌜ (by + d ≤ 1099511627776) × (by2 + d2 ≤ 1099511627776) × Givens (now args) m ⌝ }
+    requires { ⌜ (room m < length (now left)) × (length (now left) ≤ 65536) × Pends m (length (now left) - suc (room m)) (now left) i ⌝ }
+    requires { ⌜ (0 < length (now right)) × (length (now right) ≤ 65536) × Pends 0 (length (now right) - 1) (now right) j ⌝ }
+    ensures { λ out. ⌜ ((ps : List ℕ) → DuoIs (tab (now (rows .entry)) ps) (argsOf (tab (now (rows .entry)) ps) (now (args .entry)) m) m by d by2 d2 (now (left .entry)) i (now (right .entry)) j (now (left .exit)) (now (right .exit)) out) ⌝ }
+{
+    let a = crate::pending::next_item(rows, args, m, by, d, left, i);
+    let b = crate::pending::next_item(rows, args, 0, by2, d2, right, j);
+    two_items(a, b)
+}
+
+// The same row in the same context, with no arguments.
+pub(crate) fn same_place(
+    m: usize,
+    by: usize,
+    d: usize,
+    l: usize,
+    by2: usize,
+    d2: usize,
+    r: usize,
+) -> bool
+    ensures { λ out. ⌜ (out ≡ true → AtSame m by d l by2 d2 r) ⌝ }
+{
+    if l != r {
+        return false;
+    }
+    if m != 0 {
+        return false;
+    }
+    if by != by2 {
+        return false;
+    }
+    d == d2
+}
+
+// Stack rows l and r are seen at once to be equal: the same row in the same context, also where l is a variable that an argument fills.
+pub(crate) fn same_stack(
+    rows: &[u16],
+    args: &[u16],
+    m: usize,
+    by: usize,
+    d: usize,
+    l: usize,
+    by2: usize,
+    d2: usize,
+    r: usize,
+) -> bool
+    requires { ⌜ (l ≤ 65536) × (by + d ≤ 1099511627776) ⌝ }
+    ensures { λ out. ⌜ (out ≡ true → (ps : List ℕ) → true ≡ sameStacks (tab (now (rows .entry)) ps) (argsOf (tab (now (rows .entry)) ps) (now (args .entry)) m) by d l by2 d2 r) ⌝ }
+{
+    let s = types_rows::read_stack(rows, l, m, by, d);
+    let Stk::StkFill(j) = s else {
+        return same_place(m, by, d, l, by2, d2, r);
+    };
+    let a = types_rows::at(args, j);
+    if types_rows::is_stack(rows, a) {
+        return same_place(0, d, 0, a + 1, by2, d2, r);
+    }
+    false
+}

@@ -1,0 +1,3 @@
+pub mod Read
+pub mod size
+pub mod item_counts

@@ -1,0 +1,14 @@
+-- What counting the items of rows promises.
+use Prim.Native.Nat.{ℕ, _<_}
+use mathlib.Core.Path.{_≡_}
+use mathlib.Core.List.{List}
+use lib.ListN.{length}
+use Rattle.tables.specs.Tables.{cell, rowsIn}
+use Rattle.types_rows.specs.Read.{tab, Counted}
+
+-- the first n rows are counted, and all rows are as before
+pub record CountsFilled (before after parts : List ℕ) (n : ℕ) : Type 0 where
+  pub counted : Counted (tab after parts) n
+  pub rows : rowsIn (tab after parts) n ≡ rowsIn (tab before parts) n
+  pub entries : (x k : ℕ) → k < 3 → cell 4 after x k ≡ cell 4 before x k
+  pub size : length after ≡ length before

@@ -1,8 +1,0 @@
-pub mod Judging
-pub mod Operands
-pub mod Items
-pub mod Targets
-pub mod Forms
-pub mod Stacks
-pub mod Args
-pub mod Seen

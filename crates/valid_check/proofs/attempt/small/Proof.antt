@@ -1,0 +1,81 @@
+use native.Mathlib.Nat.{le-refl}
+use borrow.Author.Needs.{needs}
+use Rattle.valid_check.proofs.attempt.small.Statement.{statement}
+use Rattle.valid_check.proofs.attempt.small.Tie as tie
+
+slice-aggregate-check-in : tie.Need-slice-aggregate-check-in
+slice-aggregate-check-in c = search needs
+
+slice-aggregate-check-in-2 : tie.Need-slice-aggregate-check-in-2
+slice-aggregate-check-in-2 c = search needs
+
+slice-aggregate-check-in-3 : tie.Need-slice-aggregate-check-in-3
+slice-aggregate-check-in-3 c = search needs
+
+slice-aggregate-check-in-4 : tie.Need-slice-aggregate-check-in-4
+slice-aggregate-check-in-4 c = search needs
+
+slice-aggregate-check-in-5 : tie.Need-slice-aggregate-check-in-5
+slice-aggregate-check-in-5 c = search needs
+
+slice-aggregate-check-in-6 : tie.Need-slice-aggregate-check-in-6
+slice-aggregate-check-in-6 c = search needs
+
+slice-aggregate-check-in-7 : tie.Need-slice-aggregate-check-in-7
+slice-aggregate-check-in-7 c = search needs
+
+slice-aggregate-check-in-8 : tie.Need-slice-aggregate-check-in-8
+slice-aggregate-check-in-8 c = search needs
+
+slice-aggregate-check-in-9 : tie.Need-slice-aggregate-check-in-9
+slice-aggregate-check-in-9 c = search needs
+
+slice-aggregate-check-in-10 : tie.Need-slice-aggregate-check-in-10
+slice-aggregate-check-in-10 c = search needs
+
+slice-aggregate-check-in-11 : tie.Need-slice-aggregate-check-in-11
+slice-aggregate-check-in-11 c = search needs
+
+slice-aggregate-check-in-12 : tie.Need-slice-aggregate-check-in-12
+slice-aggregate-check-in-12 c = search needs
+
+check-in-requires : tie.Need-check-in-requires
+check-in-requires c κs = (le-refl _, le-refl _, le-refl _, (c .before .before .before .before .before .before .before .before .before .before .before .before .before .before .before .before .before .before .before .before .before .pre) .0, (c .before .before .before .before .before .before .before .before .before .before .before .before .before .before .before .before .before .before .before .before .before .pre) .1, (c .before .before .before .before .before .before .before .before .before .before .before .before .before .before .before .before .before .before .before .before .before .pre) .2)
+
+same-length : tie.Need-same-length
+same-length c = (c .before .before .before .before .before .before .before .before .before .before .before .before .before .before .before .before .before .before .before .before .check-in) .kept .1 .1 .1 .1 .1 .1 .1 .1 .1 .1 .1 .1 .1 .0
+
+same-length-2 : tie.Need-same-length-2
+same-length-2 c = (c .before .before .before .before .before .before .before .before .before .before .before .before .before .before .before .before .before .before .before .before .check-in) .kept .1 .1 .1 .1 .1 .1 .1 .1 .1 .1 .1 .1 .1 .1 .0
+
+same-length-3 : tie.Need-same-length-3
+same-length-3 c = (c .before .before .before .before .before .before .before .before .before .before .before .before .before .before .before .before .before .before .before .before .check-in) .kept .1 .1 .1 .1 .1 .1 .1 .1 .1 .1 .1 .1 .1 .1 .1 .0
+
+same-length-4 : tie.Need-same-length-4
+same-length-4 c = (c .before .before .before .before .before .before .before .before .before .before .before .before .before .before .before .before .before .before .before .before .check-in) .kept .1 .1 .1 .1 .1 .1 .1 .1 .1 .1 .1 .1 .1 .1 .1 .1 .0
+
+returns : tie.Need-returns
+returns c = (c .before .before .before .before .before .before .before .before .before .before .before .before .before .before .before .before .before .before .before .before .check-in) .ensures .answered
+
+pub small-spec : {M : Type 1} → statement M
+small-spec =
+    tie.close
+    (tie.spec
+    slice-aggregate-check-in
+    slice-aggregate-check-in-2
+    slice-aggregate-check-in-3
+    slice-aggregate-check-in-4
+    slice-aggregate-check-in-5
+    slice-aggregate-check-in-6
+    slice-aggregate-check-in-7
+    slice-aggregate-check-in-8
+    slice-aggregate-check-in-9
+    slice-aggregate-check-in-10
+    slice-aggregate-check-in-11
+    slice-aggregate-check-in-12
+    check-in-requires
+    same-length
+    same-length-2
+    same-length-3
+    same-length-4
+    returns)

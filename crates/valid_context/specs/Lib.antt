@@ -1,0 +1,3 @@
+pub mod Context
+pub mod Told
+pub mod premises

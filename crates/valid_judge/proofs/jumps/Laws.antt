@@ -1,0 +1,100 @@
+-- A target's answer is that of the jump or branch to it.
+use Prim.Native.Nat.{ℕ, zero, suc, min, _≤_, _<_}
+use native.Mathlib.Omega.{arith}
+use mathlib.Core.Path.{_≡_, refl, ap, ap₂, sym, _∙_, subst}
+use mathlib.Core.Bool.{Bool, true, false, cond}
+use mathlib.Core.Option.{Option, none, some}
+use mathlib.Core.List.{List, [], _∷_, _++_}
+use lib.Dec.{eqb}
+use borrow.Author.Tests.{ne-eqb}
+use Rattle.syntax.specs.Syntax.{Kind, value, stack, Operand, Branch, jmp, bop}
+use Rattle.syntax.specs.Fault.{Fault, fault, numberOf, itemsOf, lowest}
+use Rattle.syntax.proofs.Least.{least, items-append}
+use Rattle.types.specs.Types.{Ty}
+use Rattle.valid.specs.Program.{Program}
+use Rattle.valid.specs.Rules.{Context}
+use Rattle.valid.specs.PassThree.{Judged, holds, fails, faultsOf, _▹_, _&_, orFault, itemAt, asInt, known, integerAt, targetOf, judge}
+use Rattle.valid_context.specs.Told.{Told, gives, lacks, toldOf, answer}
+use Rattle.valid_context.specs.premises.Answers.{ItemIs, Answered}
+use Rattle.valid_typing.proofs.Judging.{jmp-told, bop-told}
+
+items-then : {A B : Type 0} (m : Judged A) (y : B) → itemsOf (faultsOf (m ▹ λ z. holds y)) ≡ itemsOf (faultsOf m)
+unfolding _▹_ faultsOf
+items-then (holds x) y = refl
+items-then (fails f fs) y = refl
+
+items-beside : {A B : Type 0} (a : Judged A) (b : Judged B) → itemsOf (faultsOf a) ≡ [] → itemsOf (faultsOf (a & b)) ≡ itemsOf (faultsOf b)
+unfolding _&_ faultsOf
+items-beside (holds x) (holds y) e = refl
+items-beside (holds x) (fails g gs) e = refl
+items-beside (fails f fs) (holds y) e = e ∙ unfold itemsOf in refl
+items-beside (fails f fs) (fails g gs) e = items-append (f ∷ fs) (g ∷ gs) ∙ ap (λ (l : List ℕ). l ++ itemsOf (g ∷ gs)) e
+
+-- an integer's premise has the fault 9, or none; no item
+said-nine : (f : ℕ) → _≡_ {A = Told (Unit {0})} (lacks 9) (answer f tt) → f ≡ 9
+unfolding answer
+said-nine zero e = let z : _≡_ {A = ℕ} 0 1 = cc in absurd (omega arith)
+said-nine (suc f) e = cc
+
+said-none : (f : ℕ) → _≡_ {A = Told (Unit {0})} (gives tt) (answer f tt) → f ≡ 0
+unfolding answer
+said-none zero e = refl
+said-none (suc f) e = let z : _≡_ {A = ℕ} 0 1 = cc in absurd (omega arith)
+
+int-nine : (P : Program) (Δ : List Kind) (g : Ty stack) (r f : ℕ) → toldOf (integerAt P Δ g r) ≡ answer f tt → (f ≡ 0 → ⊥) → f ≡ 9
+unfolding integerAt known orFault _▹_ toldOf lowest numberOf
+int-nine P Δ g r f e n = go (itemAt g r) e
+  where
+    last : (o : Option (Unit {0})) → toldOf (orFault 9 o) ≡ answer f tt → f ≡ 9
+    last none q = said-nine f q
+    last (some tt) q = absurd (n (said-none f q))
+
+    go : (o : Option (Ty value)) → toldOf (orFault 9 o ▹ λ t. orFault 9 (asInt t)) ≡ answer f tt → f ≡ 9
+    go none q = said-nine f q
+    go (some t) q = last (asInt t) q
+
+int-bare : (P : Program) (Δ : List Kind) (g : Ty stack) (r : ℕ) → itemsOf (faultsOf (integerAt P Δ g r)) ≡ []
+unfolding integerAt known orFault _▹_ faultsOf itemsOf
+int-bare P Δ g r = go (itemAt g r)
+  where
+    last : (o : Option (Unit {0})) → itemsOf (faultsOf (orFault 9 o)) ≡ []
+    last none = refl
+    last (some u) = refl
+
+    go : (o : Option (Ty value)) → itemsOf (faultsOf (orFault 9 o ▹ λ t. orFault 9 (asInt t))) ≡ []
+    go none = refl
+    go (some t) = last (asInt t)
+
+nine-low : (k : ℕ) → least 9 k ≡ 10 → ⊥
+unfolding least
+nine-low zero e = omega arith
+nine-low (suc k) e = omega arith
+
+module _ (P : Program) (Δ : List Kind) (Γ : Context) (v : Operand) (k i : ℕ) (a : Answered (targetOf P Δ Γ v) k tt i) where
+  jump-items : itemsOf (faultsOf (judge P Δ Γ (jmp v))) ≡ itemsOf (faultsOf (targetOf P Δ Γ v))
+  unfolding judge
+  jump-items = items-then (targetOf P Δ Γ v) Γ
+
+  pub jumps : Answered (judge P Δ Γ (jmp v)) k Γ i
+  jumps = record { told = jmp-told P Δ Γ v k (a .told); named = subst (λ (l : List ℕ). ItemIs i (cond (eqb k 10) l [])) (sym jump-items) (a .named) }
+
+  module _ (o : Branch) (r f : ℕ) (e : toldOf (integerAt P Δ (Γ .regs) r) ≡ answer f tt) where
+    branch-items : itemsOf (faultsOf (judge P Δ Γ (bop o r v))) ≡ itemsOf (faultsOf (targetOf P Δ Γ v))
+    unfolding judge
+    branch-items = items-then (integerAt P Δ (Γ .regs) r & targetOf P Δ Γ v) Γ ∙ items-beside (integerAt P Δ (Γ .regs) r) (targetOf P Δ Γ v) (int-bare P Δ (Γ .regs) r)
+
+    pub branches : f ≡ 0 → Answered (judge P Δ Γ (bop o r v)) k Γ i
+    unfolding least
+    branches z =
+        record {
+          told = bop-told P Δ Γ o r v f k e (a .told) ∙ ap (λ (x : ℕ). answer (least x k) Γ) z;
+          named = subst (λ (l : List ℕ). ItemIs i (cond (eqb k 10) l [])) (sym branch-items) (a .named);
+        }
+
+    pub branches-none : (h : ℕ) → (f ≡ 0 → ⊥) → h ≡ least f k → Answered (judge P Δ Γ (bop o r v)) h Γ 100
+    branches-none h n q =
+        let j : h ≡ least 9 k = q ∙ ap (λ (x : ℕ). least x k) (int-nine P Δ (Γ .regs) r f e n) in
+        record {
+          told = bop-told P Δ Γ o r v f k e (a .told) ∙ ap (λ (x : ℕ). answer x Γ) (sym q);
+          named = subst (λ (b : Bool). ItemIs 100 (cond b (itemsOf (faultsOf (judge P Δ Γ (bop o r v)))) [])) (sym (ne-eqb h 10 (λ z. nine-low k (sym j ∙ z)))) refl;
+        }

@@ -1,0 +1,5 @@
+pub mod Codes
+pub mod heap
+pub mod stack
+pub mod through
+pub mod values

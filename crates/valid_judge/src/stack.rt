@@ -1,0 +1,172 @@
+// One instruction of pass three that reads or changes sp, but for those through a pointer: `getsp`, `setsp`, `salloc`, `sfree`, `sld`,
+// `sst`. The types known before it stand in the checker's arrays (crate valid_context), and are there changed to those known after it.
+// Promised of each: the least fault that `judge` of crate valid gives the instruction, 0 if it has none, and then the types after it;
+// sp stays within 64 items.
+use types_rows::Val;
+ghost use mathlib.Core.Path.{_≡_};
+ghost use Prim.Native.Nat.{ℕ, _+_, _-_, _≤_, _<_};
+ghost use mathlib.Core.Bool.{cond};
+ghost use mathlib.Core.List.{List, map};
+ghost use lib.ListN.{length};
+ghost use Rattle.syntax.specs.Syntax.{Kind, value, stack, getsp, setsp, salloc, sfree, sld, sst};
+ghost use Rattle.types.specs.Types.{pointer, Arg};
+ghost use Rattle.types.specs.Rows.{typeAt};
+ghost use Rattle.types.specs.Equal.{same};
+ghost use Rattle.tables.specs.Tables.{span, letterOf};
+ghost use Rattle.valid.specs.Program.{Program};
+ghost use Rattle.valid.specs.PassThree.{judge};
+ghost use Rattle.types_rows.specs.Read.{tab};
+ghost use Rattle.valid_scope.specs.Scoped.{Scoped};
+ghost use Rattle.valid_context.specs.Context.{spOf, contextOf};
+ghost use Rattle.valid_context.specs.Told.{toldOf, answer};
+ghost use Rattle.valid_typing.specs.Typing.{typesIn, Ready};
+ghost use Rattle.valid_judge.specs.stack.Forms.{InStack};
+
+// The least fault, 0 if there is none, and then how many items sp has.
+pub struct Moved {
+    pub fault: usize,
+    pub depth: usize,
+}
+
+// The fault k where something does not hold, else 0.
+pub(crate) fn if_not(k: usize, b: bool) -> usize
+    ensures { λ out. ⌜ out ≡ cond b 0 k ⌝ }
+{
+    if b {
+        return 0;
+    }
+    k
+}
+
+// Row t points to the m lowest items of sp.
+pub(crate) fn points(rows: &[u16], parts: &[u16], n: usize, sp: &[u16], m: usize, t: usize) -> bool
+    requires { ⌜ Ready (now rows) (now parts) n × (t ≤ 65535) ⌝ }
+    ensures { λ out. ⌜ out ≡ same (typeAt value (typesIn (now (rows .entry)) (now (parts .entry)) n) t) (pointer (spOf (typesIn (now (rows .entry)) (now (parts .entry)) n) (now (sp .entry)) m)) ⌝ }
+{
+    let v = types_rows::read_value(rows, types_rows::link(n + 3, t), 0, 0, 0);
+    let Val::Pointer(x) = v else {
+        return false;
+    };
+    valid_typing::same_items(rows, parts, n, sp, m, x)
+}
+
+// getsp d t, under the q letters at l
+pub(crate) fn get_sp(
+    rows: &[u16],
+    parts: &[u16],
+    n: usize,
+    uses: &[u8],
+    tops: &[u16],
+    regs: &mut [u16],
+    sp: &[u16],
+    depth: usize,
+    d: usize,
+    t: usize,
+    q: usize,
+    l: usize,
+) -> usize
+    requires { ⌜ Ready (now rows) (now parts) n × Scoped (tab (now rows) (now parts)) n (now uses) (now tops) × (8 ≤ length (now regs)) ⌝ }
+    ensures { λ out. ⌜ InStack (now (rows .entry)) (now (parts .entry)) n (map letterOf (span (now (parts .entry)) l q)) (now (regs .entry)) (now (sp .entry)) depth (now (regs .exit)) (now (sp .entry)) depth out (getsp d t) ⌝ }
+{
+    let r = valid_typing::given_row(n, t);
+    let g = if_not(10, points(rows, parts, n, sp, depth, r));
+    let f = valid_context::least(
+        valid_typing::formed_row(rows, parts, n, uses, tops, t, q, l),
+        g,
+    );
+    if f != 0 {
+        return f;
+    }
+    crate::heap::set_register(regs, d, r)
+}
+
+// setsp s
+pub(crate) fn set_sp(
+    rows: &[u16],
+    parts: &[u16],
+    n: usize,
+    regs: &[u16],
+    sp: &[u16],
+    depth: usize,
+    s: usize,
+) -> Moved
+    requires { ⌜ Ready (now rows) (now parts) n ⌝ }
+    ensures { λ out. ⌜ ((Δ : List Kind) → InStack (now (rows .entry)) (now (parts .entry)) n Δ (now (regs .entry)) (now (sp .entry)) depth (now (regs .entry)) (now (sp .entry)) (out .depth) (out .fault) (setsp s)) × (out .depth ≤ depth) ⌝ }
+{
+    let p = valid_typing::pointer(rows, parts, n, regs, s);
+    if p.fault != 0 {
+        return Moved {
+            fault: p.fault,
+            depth,
+        };
+    }
+    if valid_typing::is_tail(rows, parts, n, sp, depth, p.row) {
+        return Moved {
+            fault: 0,
+            depth: types_rows::item_count(rows, p.row),
+        };
+    }
+    Moved { fault: 12, depth }
+}
+
+// salloc k
+pub(crate) fn allocate(n: usize, sp: &mut [u16], depth: usize, k: usize) -> Moved
+    requires { ⌜ (n ≤ 512) × (64 ≤ length (now sp)) × (depth ≤ 64) ⌝ }
+    ensures { λ out. ⌜ ((rows parts regs : List ℕ) (Δ : List Kind) → Ready rows parts n → InStack rows parts n Δ regs (now (sp .entry)) depth regs (now (sp .exit)) (out .depth) (out .fault) (salloc k)) × (out .depth ≤ 64) ⌝ }
+{
+    if 64 - depth < k {
+        return Moved { fault: 13, depth };
+    }
+    valid_context::push_junks(sp, depth, k, n + 1);
+    Moved {
+        fault: 0,
+        depth: depth + k,
+    }
+}
+
+// sfree k
+pub(crate) fn free(sp: &[u16], depth: usize, k: usize) -> Moved
+    ensures { λ out. ⌜ ((T : List Arg) (regs : List ℕ) (P : Program) (Δ : List Kind) → toldOf (judge P Δ (contextOf T regs (now (sp .entry)) depth) (sfree k)) ≡ answer (out .fault) (contextOf T regs (now (sp .entry)) (out .depth))) × (out .depth ≤ depth) ⌝ }
+{
+    if valid_context::values(sp, depth, k) {
+        return Moved {
+            fault: 0,
+            depth: depth - k,
+        };
+    }
+    Moved { fault: 11, depth }
+}
+
+// sld d i
+pub(crate) fn load_item(regs: &mut [u16], sp: &[u16], depth: usize, d: usize, i: usize) -> usize
+    requires { ⌜ 8 ≤ length (now regs) ⌝ }
+    ensures { λ out. ⌜ ((T : List Arg) (P : Program) (Δ : List Kind) → toldOf (judge P Δ (contextOf T (now (regs .entry)) (now (sp .entry)) depth) (sld d i)) ≡ answer out (contextOf T (now (regs .exit)) (now (sp .entry)) depth)) ⌝ }
+{
+    let u = valid_context::sp_item(sp, depth, i);
+    if u == 0 {
+        return 11;
+    }
+    crate::heap::set_register(regs, d, u - 1)
+}
+
+// sst i s
+pub(crate) fn store_item(
+    n: usize,
+    regs: &[u16],
+    sp: &mut [u16],
+    depth: usize,
+    i: usize,
+    s: usize,
+) -> usize
+    requires { ⌜ (n ≤ 512) × (depth ≤ length (now sp)) ⌝ }
+    ensures { λ out. ⌜ ((rows parts : List ℕ) (Δ : List Kind) → Ready rows parts n → InStack rows parts n Δ (now (regs .entry)) (now (sp .entry)) depth (now (regs .entry)) (now (sp .exit)) depth out (sst i s)) ⌝ }
+{
+    let u = crate::heap::link_at(n, regs, s);
+    if u == 0 {
+        return 9;
+    }
+    if valid_context::set_item(sp, depth, i, u - 1) {
+        return 0;
+    }
+    11
+}

@@ -1,0 +1,139 @@
+// One instruction of pass three that loads or stores through a pointer into the stack: `slp`, `ssp`. The types known before it stand in
+// the checker's arrays (crate valid_context), and are there changed to those known after it. For a store, the pointer's items are written
+// out into a third array, `work`, where one is replaced and the whole is compared with what the given row points to.
+// Promised of each: the least fault that `judge` of crate valid gives the instruction, 0 if it has none, and then the types after it.
+ghost use mathlib.Core.Path.{_≡_};
+ghost use Prim.Native.Nat.{ℕ, _+_, _-_, _≤_};
+ghost use mathlib.Core.List.{List, map};
+ghost use lib.ListN.{length};
+ghost use Rattle.syntax.specs.Syntax.{Kind, stack, slp, ssp};
+ghost use Rattle.types.specs.Types.{items};
+ghost use Rattle.types.specs.Rows.{typesOf};
+ghost use Rattle.tables.specs.Tables.{rowsIn, span, letterOf};
+ghost use Rattle.valid.specs.Program.{Program};
+ghost use Rattle.valid.specs.Rules.{Context};
+ghost use Rattle.valid.specs.PassThree.{itemAt, pointerAt, newTail};
+ghost use Rattle.types_rows.specs.Read.{tab, meanS};
+ghost use Rattle.valid_scope.specs.Scoped.{Scoped};
+ghost use Rattle.valid_context.specs.Context.{linked, regsOf, spOf, spAbove, contextOf};
+ghost use Rattle.valid_context.specs.Told.{toldOf, answer};
+ghost use Rattle.valid_typing.specs.Typing.{typesIn, Ready, SmallVars, givenRow};
+ghost use Rattle.valid_typing.proofs.Judging.{through};
+ghost use Rattle.valid_judge.specs.stack.Forms.{InStack};
+ghost use Rattle.valid_judge.specs.through.Forms.{Flat, Replaced, IsTail};
+
+// slp d s i
+pub(crate) fn load_through(
+    rows: &[u16],
+    parts: &[u16],
+    n: usize,
+    regs: &mut [u16],
+    sp: &[u16],
+    depth: usize,
+    d: usize,
+    s: usize,
+    i: usize,
+) -> usize
+    requires { ⌜ Ready (now rows) (now parts) n × (8 ≤ length (now regs)) ⌝ }
+    ensures { λ out. ⌜ ((Δ : List Kind) → InStack (now (rows .entry)) (now (parts .entry)) n Δ (now (regs .entry)) (now (sp .entry)) depth (now (regs .exit)) (now (sp .entry)) depth out (slp d s i)) ⌝ }
+{
+    let p = valid_typing::pointer(rows, parts, n, regs, s);
+    if p.fault != 0 {
+        return p.fault;
+    }
+    let a = crate::stack::if_not(12, valid_typing::is_tail(rows, parts, n, sp, depth, p.row));
+    let u = valid_typing::row_item(rows, parts, n, p.row, i);
+    let f = valid_context::least(a, crate::heap::if_none(11, u));
+    if f != 0 {
+        return f;
+    }
+    crate::heap::set_register(regs, d, u - 1)
+}
+
+// The stack row of link x with the type of link u for item i, and row t points to it.
+fn new_tail(
+    rows: &[u16],
+    parts: &[u16],
+    n: usize,
+    work: &mut [u16],
+    x: usize,
+    u: usize,
+    i: usize,
+    t: usize,
+) -> usize
+    requires { ⌜ Ready (now rows) (now parts) n × (x ≤ n + 2) × (u ≤ n + 2) × (items (meanS (tab (now rows) (now parts)) x) ≤ length (now work)) × SmallVars (meanS (tab (now rows) (now parts)) x) ⌝ }
+    ensures { λ out. ⌜ ((P : Program) (Δ : List Kind) (Γ : Context) (s : ℕ) → P .types ≡ typesOf (rowsIn (tab (now (rows .entry)) (now (parts .entry))) n) → itemAt (Γ .regs) s ≡ linked (typesIn (now (rows .entry)) (now (parts .entry)) n) u → toldOf (newTail P Δ Γ (meanS (tab (now (rows .entry)) (now (parts .entry))) x) i s t) ≡ answer out (spOf (typesIn (now (rows .entry)) (now (parts .entry)) n) (now (work .exit)) (items (meanS (tab (now (rows .entry)) (now (parts .entry))) x)))) × (out ≡ 0 → Replaced (typesIn (now (rows .entry)) (now (parts .entry)) n) (meanS (tab (now (rows .entry)) (now (parts .entry))) x) i u (givenRow n t) (spOf (typesIn (now (rows .entry)) (now (parts .entry)) n) (now (work .exit)) (items (meanS (tab (now (rows .entry)) (now (parts .entry))) x)))) ⌝ }
+{
+    let y = valid_typing::row_item(rows, parts, n, x, i);
+    let f = valid_context::least(crate::heap::if_none(11, y), crate::heap::if_none(9, u));
+    if f != 0 {
+        return f;
+    }
+    valid_typing::flatten(rows, parts, n, work, x);
+    let m = types_rows::item_count(rows, x);
+    valid_context::set_item(work, m, i, u - 1);
+    if crate::stack::points(rows, parts, n, work, m, valid_typing::given_row(n, t)) {
+        return 0;
+    }
+    10
+}
+
+// The pointer's stack, of link x if f is 0, is a tail of sp, and has a new tail as above.
+fn pass_through(
+    rows: &[u16],
+    parts: &[u16],
+    n: usize,
+    sp: &[u16],
+    depth: usize,
+    work: &mut [u16],
+    f: usize,
+    x: usize,
+    u: usize,
+    i: usize,
+    t: usize,
+) -> usize
+    requires { ⌜ Ready (now rows) (now parts) n × (x ≤ n + 2) × (u ≤ n + 2) × (items (meanS (tab (now rows) (now parts)) x) ≤ length (now work)) × SmallVars (meanS (tab (now rows) (now parts)) x) ⌝ }
+    ensures { λ out. ⌜ ((P : Program) (Δ : List Kind) (regs : List ℕ) (d s : ℕ) → P .types ≡ typesOf (rowsIn (tab (now (rows .entry)) (now (parts .entry))) n) → toldOf (pointerAt P Δ (regsOf (typesIn (now (rows .entry)) (now (parts .entry)) n) regs) d) ≡ answer f (meanS (tab (now (rows .entry)) (now (parts .entry))) x) → itemAt (regsOf (typesIn (now (rows .entry)) (now (parts .entry)) n) regs) s ≡ linked (typesIn (now (rows .entry)) (now (parts .entry)) n) u → toldOf (through P Δ (contextOf (typesIn (now (rows .entry)) (now (parts .entry)) n) regs (now (sp .entry)) depth) d i s t) ≡ answer out (spAbove (typesIn (now (rows .entry)) (now (parts .entry)) n) (now (sp .entry)) (items (meanS (tab (now (rows .entry)) (now (parts .entry))) x)) (depth - items (meanS (tab (now (rows .entry)) (now (parts .entry))) x)), spOf (typesIn (now (rows .entry)) (now (parts .entry)) n) (now (work .exit)) (items (meanS (tab (now (rows .entry)) (now (parts .entry))) x)))) × (out ≡ 0 → IsTail (typesIn (now (rows .entry)) (now (parts .entry)) n) (now (sp .entry)) depth (meanS (tab (now (rows .entry)) (now (parts .entry))) x) × Replaced (typesIn (now (rows .entry)) (now (parts .entry)) n) (meanS (tab (now (rows .entry)) (now (parts .entry))) x) i u (givenRow n t) (spOf (typesIn (now (rows .entry)) (now (parts .entry)) n) (now (work .exit)) (items (meanS (tab (now (rows .entry)) (now (parts .entry))) x)))) ⌝ }
+{
+    if f != 0 {
+        return f;
+    }
+    let a = crate::stack::if_not(12, valid_typing::is_tail(rows, parts, n, sp, depth, x));
+    valid_context::least(a, new_tail(rows, parts, n, work, x, u, i, t))
+}
+
+// ssp d i s t, under the q letters at l
+pub(crate) fn store_through(
+    rows: &[u16],
+    parts: &[u16],
+    n: usize,
+    uses: &[u8],
+    tops: &[u16],
+    regs: &mut [u16],
+    sp: &mut [u16],
+    work: &mut [u16],
+    depth: usize,
+    d: usize,
+    i: usize,
+    s: usize,
+    t: usize,
+    q: usize,
+    l: usize,
+) -> usize
+    requires { ⌜ Ready (now rows) (now parts) n × Scoped (tab (now rows) (now parts)) n (now uses) (now tops) × Flat (now rows) (now parts) n × (8 ≤ length (now regs)) × (depth ≤ length (now sp)) × (4096 ≤ length (now work)) ⌝ }
+    ensures { λ out. ⌜ InStack (now (rows .entry)) (now (parts .entry)) n (map letterOf (span (now (parts .entry)) l q)) (now (regs .entry)) (now (sp .entry)) depth (now (regs .exit)) (now (sp .exit)) depth out (ssp d i s t) ⌝ }
+{
+    let u = crate::heap::link_at(n, regs, s);
+    let p = valid_typing::pointer(rows, parts, n, regs, d);
+    let h = pass_through(rows, parts, n, sp, depth, work, p.fault, p.row, u, i, t);
+    let g = valid_context::least(crate::heap::if_none(9, u), h);
+    let f = valid_context::least(
+        valid_typing::formed_row(rows, parts, n, uses, tops, t, q, l),
+        g,
+    );
+    if f != 0 {
+        return f;
+    }
+    valid_context::set_item(sp, types_rows::item_count(rows, p.row), i, u - 1);
+    crate::heap::set_register(regs, d, valid_typing::given_row(n, t))
+}

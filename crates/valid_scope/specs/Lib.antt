@@ -1,0 +1,3 @@
+pub mod Scoped
+pub mod variables
+pub mod entry

@@ -1,0 +1,184 @@
+// Fault 7, and a block's own line (module entry): is every variable of a row bound by the block's letters, and of its letter? Two tables
+// are filled once, each row from the rows that it names (module variables). `uses` has 64 entries a row, one for each variable: how it is
+// free in the row. `tops` has one entry a row: one more than the highest free variable, or 255 if some variable is bound inside the row by
+// a letter of the other kind. The rows before a row give a bound, past which no variable is free in them: only the variables below it are
+// looked for. Promises: `find_all` makes tables that are right for the types of the rows (`Scoped`, specs/Scoped.antt), and from such
+// tables `formed` answers whether the type of a row is well-formed under the letters given (`formedArg` of crate valid). Laws for callers:
+// proofs/Callers.antt.
+pub mod entry;
+pub mod variables;
+
+ghost use mathlib.Core.Path.{_≡_};
+ghost use mathlib.Core.Bool.{cond};
+ghost use mathlib.Core.List.{map};
+ghost use Prim.Native.Nat.{ℕ, suc, _+_, _*_, _^_, _<_, _≤_};
+ghost use lib.Dec.{eqb, ltb};
+ghost use lib.ListN.{length, getD};
+ghost use Rattle.syntax.specs.Syntax.{value};
+ghost use Rattle.types.specs.Types.{junk, arg};
+ghost use Rattle.types.specs.Rows.{typesOf};
+ghost use Rattle.valid.specs.PassThree.{formedArg};
+ghost use Rattle.tables.specs.Tables.{span, letterOf, rowAt, rowsIn};
+ghost use Rattle.types_rows.specs.Read.{tab};
+ghost use Rattle.valid_scope.specs.variables.Free.{topOf, freeIn};
+ghost use Rattle.valid_scope.specs.variables.Uses.{rowRespected};
+ghost use Rattle.valid_scope.specs.Scoped.{rowType, Free, Within, Cleared, Scoped, Checked};
+
+fn narrow(x: usize) -> u16
+    requires { ⌜ x ≤ 65535 ⌝ }
+    ensures { λ out. ⌜ out ≡ x ⌝ }
+{
+    x as u16
+}
+
+// Each variable that is bound inside row r is of its letter.
+fn row_respected(rows: &[u16], parts: &[u16], uses: &[u8], tops: &[u16], r: usize) -> bool
+    requires { ⌜ 64 * r + 64 ≤ 2 ^ 64 ⌝ }
+    ensures { λ out. ⌜ out ≡ rowRespected (now (uses .entry)) (now (tops .entry)) (rowAt (tab (now (rows .entry)) (now (parts .entry))) r) ⌝ }
+{
+    crate::variables::form_respected(
+        parts,
+        uses,
+        tops,
+        crate::variables::entry(rows, r, 0),
+        crate::variables::entry(rows, r, 1),
+        crate::variables::entry(rows, r, 2),
+    )
+}
+
+// One more than the highest variable used, after variable k of use u.
+fn raised(top: usize, u: u8, k: usize) -> usize
+    requires { ⌜ k < 64 ⌝ }
+    ensures { λ out. ⌜ out ≡ cond (eqb u 0) top (suc k) ⌝ }
+{
+    if u == 0 {
+        return top;
+    }
+    k + 1
+}
+
+// A bound of the variables of a row of kind c: that of the rows before it, or, of a variable itself, 64.
+fn limit_of(c: usize, bound: usize) -> usize
+    requires { ⌜ bound ≤ 64 ⌝ }
+    ensures { λ out. ⌜ (out ≡ cond (eqb c 2) 64 (cond (eqb c 7) 64 bound)) × (out ≤ 64) ⌝ }
+{
+    if c == 2 {
+        return 64;
+    }
+    if c == 7 {
+        return 64;
+    }
+    bound
+}
+
+// Entries `from` to `to` become 0.
+fn clear(uses: &mut [u8], from: usize, to: usize)
+    requires { ⌜ to ≤ length (now uses) ⌝ }
+    ensures { λ _. ⌜ Cleared (now (uses .entry)) (now (uses .exit)) from to ⌝ }
+{
+    let mut i = from;
+    while i < to {
+        uses[i] = 0;
+        i += 1;
+    }
+}
+
+// Fills the uses of row r, none from `bound` on being free in the rows before it; answers one more than its highest free variable.
+fn fill_uses(rows: &[u16], parts: &[u16], uses: &mut [u8], r: usize, bound: usize) -> usize
+    requires { ⌜ (64 * r + 64 ≤ length (now uses)) × Checked (tab (now rows) (now parts)) r × Free (tab (now rows) (now parts)) r (now uses) × (bound ≤ 64) × Within (tab (now rows) (now parts)) r bound ⌝ }
+    ensures { λ out. ⌜ (out ≡ topOf (λ k. freeIn k (rowType (tab (now (rows .entry)) (now (parts .entry))) r)) 64) × Free (tab (now (rows .entry)) (now (parts .entry))) (suc r) (now (uses .exit)) ⌝ }
+{
+    let c = crate::variables::entry(rows, r, 0);
+    let a = crate::variables::entry(rows, r, 1);
+    let b = crate::variables::entry(rows, r, 2);
+    let limit = limit_of(c, bound);
+    let mut top = 0;
+    let mut k = 0;
+    while k < limit {
+        let u = crate::variables::form_use(parts, uses, c, a, b, k);
+        uses[64 * r + k] = u;
+        top = raised(top, u, k);
+        k += 1;
+    }
+    clear(uses, 64 * r + limit, 64 * r + 64);
+    top
+}
+
+fn larger(a: usize, b: usize) -> usize
+    ensures { λ out. ⌜ out ≡ cond (ltb a b) b a ⌝ }
+{
+    if a < b {
+        return b;
+    }
+    a
+}
+
+fn mark(respected: bool, top: usize) -> u16
+    requires { ⌜ top ≤ 64 ⌝ }
+    ensures { λ out. ⌜ out ≡ cond respected top 255 ⌝ }
+{
+    if respected {
+        return narrow(top);
+    }
+    255
+}
+
+// Fills the entries of row r, those of the rows before it being there; from bound to bound.
+fn find_uses(
+    rows: &[u16],
+    parts: &[u16],
+    uses: &mut [u8],
+    tops: &mut [u16],
+    r: usize,
+    bound: usize,
+) -> usize
+    requires { ⌜ (64 * r + 64 ≤ length (now uses)) × (r < length (now tops)) × Checked (tab (now rows) (now parts)) r × Scoped (tab (now rows) (now parts)) r (now uses) (now tops) × (bound ≤ 64) × Within (tab (now rows) (now parts)) r bound ⌝ }
+    ensures { λ out. ⌜ Scoped (tab (now (rows .entry)) (now (parts .entry))) (suc r) (now (uses .exit)) (now (tops .exit)) × (out ≤ 64) × Within (tab (now (rows .entry)) (now (parts .entry))) (suc r) out ⌝ }
+{
+    let respected = row_respected(rows, parts, uses, tops, r);
+    let top = fill_uses(rows, parts, uses, r, bound);
+    tops[r] = mark(respected, top);
+    larger(bound, top)
+}
+
+// Fills the entries of the n rows.
+pub fn find_all(rows: &[u16], parts: &[u16], uses: &mut [u8], tops: &mut [u16], n: usize)
+    requires { ⌜ (64 * n ≤ length (now uses)) × (n ≤ length (now tops)) × ((r : ℕ) → r < n → Checked (tab (now rows) (now parts)) r) ⌝ }
+    ensures { λ _. ⌜ Scoped (tab (now (rows .entry)) (now (parts .entry))) n (now (uses .exit)) (now (tops .exit)) ⌝ }
+{
+    let mut bound = 0;
+    let mut r = 0;
+    while r < n {
+        bound = find_uses(rows, parts, uses, tops, r, bound);
+        r += 1;
+    }
+}
+
+// Every variable of row r, one of n, is bound and of its letter under the q letters that stand in `parts` from l on, in the order of their
+// variables. `rows` and n are here for the promise alone.
+pub fn formed(
+    rows: &[u16],
+    parts: &[u16],
+    n: usize,
+    uses: &[u8],
+    tops: &[u16],
+    r: usize,
+    q: usize,
+    l: usize,
+) -> bool
+    requires { ⌜ (r < n) × Scoped (tab (now rows) (now parts)) n (now uses) (now tops) ⌝ }
+    ensures { λ out. ⌜ out ≡ formedArg (map letterOf (span (now (parts .entry)) l q)) (getD (typesOf (rowsIn (tab (now (rows .entry)) (now (parts .entry))) n)) r (arg value junk)) ⌝ }
+{
+    let top = types_rows::at(tops, r);
+    if top == 255 {
+        return false;
+    }
+    let mut k = 0;
+    while k < top {
+        if !crate::variables::is_bound(parts, crate::variables::use_at(uses, k, r), k, q, l) {
+            return false;
+        }
+        k += 1;
+    }
+    true
+}

@@ -1,0 +1,3 @@
+pub mod Shared
+pub mod rename
+pub mod row_hash

@@ -1,0 +1,221 @@
+// Rows of equal types shared, for pass three: a second table of the same rows, in which each reference names one row for all rows of its
+// type (module rename). Rows with the same number are equal at once (crate types_equal), so that types that a text builds many times are
+// compared once. Promised: every row of the new table has the type that it had; its counts, the two rows behind, and what passes one and
+// two have seen hold of it as before (`Shared`). Asked: room, the tables of module prepare of load, and that passes one and two found no
+// fault in the rows. Which rows are compared is found by hashes (module row_hash), of which nothing is promised: a row is named for another
+// only if they compare equal.
+pub mod rename;
+pub mod row_hash;
+
+ghost use mathlib.Core.Path.{_≡_};
+ghost use mathlib.Core.Bool.{true};
+ghost use mathlib.Core.List.{[]};
+ghost use Prim.Native.Nat.{ℕ, _+_, _*_, _≤_, _<_};
+ghost use lib.ListN.{length, getD};
+ghost use Rattle.syntax.specs.Syntax.{value};
+ghost use Rattle.syntax.specs.Fault.{Clear};
+ghost use Rattle.types.specs.Types.{junk, arg};
+ghost use Rattle.types.specs.Rows.{typesOf, rowsFaults};
+ghost use Rattle.tables.specs.Tables.{cell, rowAt, rowsIn};
+ghost use Rattle.types_rows.specs.Read.{tab, Counted};
+ghost use Rattle.valid_context.specs.premises.Bounds.{SmallRow};
+ghost use Rattle.valid_share.specs.rename.Renamed.{newPart};
+ghost use Rattle.valid_share.specs.Shared.{Firsts, Alike, Lower, Shared};
+
+// Rows c and r, of m rows, are of the same type.
+fn same_type(rows: &[u16], parts: &[u16], m: usize, c: usize, r: usize) -> bool
+    requires { ⌜ (m ≤ 514) × (c < m) × (r < m) ⌝ }
+    ensures { λ out. ⌜ (out ≡ true → getD (typesOf (rowsIn (tab (now (rows .entry)) (now (parts .entry))) m)) c (arg value junk) ≡ getD (typesOf (rowsIn (tab (now (rows .entry)) (now (parts .entry))) m)) r (arg value junk)) ⌝ }
+{
+    let s = types_rows::is_stack(rows, r);
+    if types_rows::is_stack(rows, c) {
+        if s {
+            return types_equal::equal_stacks(rows, parts, m, c, r);
+        }
+        return false;
+    }
+    if s {
+        return false;
+    }
+    types_equal::equal_values(rows, parts, m, c, r)
+}
+
+// The first c parts of two rows of the kind k, with the numbers a and b and with x and y, are the same in the new table.
+fn alike_parts(
+    parts: &[u16],
+    first: &[u16],
+    k: usize,
+    a: usize,
+    b: usize,
+    x: usize,
+    y: usize,
+    c: usize,
+) -> bool
+    requires { ⌜ (a ≤ 65535) × (b ≤ 65535) × (x ≤ 65535) × (y ≤ 65535) × (c ≤ 65544) ⌝ }
+    ensures { λ out. ⌜ (out ≡ true → (j : ℕ) → j < c → newPart (now (first .entry)) (now (parts .entry)) k a b j ≡ newPart (now (first .entry)) (now (parts .entry)) k x y j) ⌝ }
+{
+    let mut j = 0;
+    while j < c {
+        if crate::rename::new_part(parts, first, k, a, b, j)
+            != crate::rename::new_part(parts, first, k, x, y, j)
+        {
+            return false;
+        }
+        j += 1;
+    }
+    true
+}
+
+// Two rows of the kind k, with the numbers a and b and with x and y, are the same in the new table.
+fn alike_forms(
+    parts: &[u16],
+    first: &[u16],
+    k: usize,
+    a: usize,
+    b: usize,
+    x: usize,
+    y: usize,
+) -> bool
+    requires { ⌜ (a ≤ 65535) × (b ≤ 65535) × (x ≤ 65535) × (y ≤ 65535) ⌝ }
+    ensures { λ out. ⌜ (out ≡ true → Alike (now (first .entry)) (now (parts .entry)) k a b x y) ⌝ }
+{
+    if k == 3 {
+        if b == y {
+            return alike_parts(parts, first, k, a, b, x, y, b);
+        }
+        return false;
+    }
+    if k == 2 {
+        return a == x;
+    }
+    if k == 7 {
+        return a == x;
+    }
+    if crate::rename::first_of(first, a) != crate::rename::first_of(first, x) {
+        return false;
+    }
+    if k == 5 {
+        return alike_parts(
+            parts,
+            first,
+            k,
+            a,
+            b,
+            x,
+            y,
+            9 + types_rows::letter_count(parts, b),
+        );
+    }
+    crate::rename::first_of(first, b) == crate::rename::first_of(first, y)
+}
+
+// Rows c and r, of m rows, name rows of the same types in the same form, as is seen from the rows that stand for those that they name.
+fn alike(rows: &[u16], parts: &[u16], m: usize, first: &[u16], c: usize, r: usize) -> bool
+    requires { ⌜ (m ≤ 514) × (c ≤ r) × (r < m) × Firsts (tab (now rows) (now parts)) m (now first) r × Lower (tab (now rows) (now parts)) (r + 1) ⌝ }
+    ensures { λ out. ⌜ (out ≡ true → getD (typesOf (rowsIn (tab (now (rows .entry)) (now (parts .entry))) m)) c (arg value junk) ≡ getD (typesOf (rowsIn (tab (now (rows .entry)) (now (parts .entry))) m)) r (arg value junk)) ⌝ }
+{
+    let k = types_rows::entry(rows, c, 0);
+    if k != types_rows::entry(rows, r, 0) {
+        return false;
+    }
+    alike_forms(
+        parts,
+        first,
+        k,
+        types_rows::entry(rows, c, 1),
+        types_rows::entry(rows, c, 2),
+        types_rows::entry(rows, r, 1),
+        types_rows::entry(rows, r, 2),
+    )
+}
+
+// Row c stands for row r: it stands for itself, their hashes are equal, and their types.
+fn stands_for(
+    rows: &[u16],
+    parts: &[u16],
+    m: usize,
+    first: &[u16],
+    work: &[u32],
+    c: usize,
+    r: usize,
+) -> bool
+    requires { ⌜ (m ≤ 514) × Counted (tab (now rows) (now parts)) m × (c ≤ r) × (r < m) × Firsts (tab (now rows) (now parts)) m (now first) r × Lower (tab (now rows) (now parts)) (r + 1) ⌝ }
+    ensures { λ out. ⌜ (out ≡ true → getD (typesOf (rowsIn (tab (now (rows .entry)) (now (parts .entry))) m)) c (arg value junk) ≡ getD (typesOf (rowsIn (tab (now (rows .entry)) (now (parts .entry))) m)) r (arg value junk)) ⌝ }
+{
+    if crate::row_hash::get(work, 2 * c) != crate::row_hash::get(work, 2 * r) {
+        return false;
+    }
+    if types_rows::at(first, c) != c {
+        return false;
+    }
+    if alike(rows, parts, m, first, c, r) {
+        return true;
+    }
+    same_type(rows, parts, m, c, r)
+}
+
+// A row that is found to have the type of row r.
+fn first_like(
+    rows: &[u16],
+    parts: &[u16],
+    m: usize,
+    first: &[u16],
+    work: &[u32],
+    chains: &[u16],
+    r: usize,
+) -> usize
+    requires { ⌜ (m ≤ 514) × Counted (tab (now rows) (now parts)) m × (r < m) × Firsts (tab (now rows) (now parts)) m (now first) r × Lower (tab (now rows) (now parts)) (r + 1) ⌝ }
+    ensures { λ out. ⌜ (getD (typesOf (rowsIn (tab (now (rows .entry)) (now (parts .entry))) m)) out (arg value junk) ≡ getD (typesOf (rowsIn (tab (now (rows .entry)) (now (parts .entry))) m)) r (arg value junk)) × (out ≤ r) ⌝ }
+{
+    let h = crate::row_hash::chain_of(work, r);
+    let mut c = crate::row_hash::below(chains, h, r + 1);
+    while 0 < c {
+        if stands_for(rows, parts, m, first, work, c - 1, r) {
+            return c - 1;
+        }
+        c = crate::row_hash::below(chains, 255 + c, c);
+    }
+    r
+}
+
+fn find_first(
+    rows: &[u16],
+    parts: &[u16],
+    n: usize,
+    first: &mut [u16],
+    work: &mut [u32],
+    chains: &mut [u16],
+)
+    requires { ⌜ (n ≤ 512) × Counted (tab (now rows) (now parts)) (n + 2) × (n ≤ length (now first)) × Lower (tab (now rows) (now parts)) n ⌝ }
+    ensures { λ _. ⌜ Firsts (tab (now (rows .entry)) (now (parts .entry))) (n + 2) (now (first .exit)) n ⌝ }
+{
+    let mut r = 0;
+    while r < n {
+        crate::row_hash::put_hash(rows, parts, first, work, r);
+        let c = first_like(rows, parts, n + 2, first, work, chains, r);
+        first[r] = crate::rename::narrow(c);
+        crate::row_hash::chain_row(chains, work, c, r);
+        r += 1;
+    }
+}
+
+// Rows n and n + 1 are `I` and `N`. `first` and `work` are written too; in `work` two entries a row serve, fewer cost time only.
+pub fn share(
+    rows: &[u16],
+    parts: &[u16],
+    n: usize,
+    rows2: &mut [u16],
+    parts2: &mut [u16],
+    first: &mut [u16],
+    work: &mut [u32],
+)
+    requires { ⌜ (n ≤ 512) × (4 * n + 8 ≤ length (now rows2)) × (17 * n ≤ length (now parts2)) × (n ≤ length (now first)) ⌝ }
+    requires { ⌜ Counted (tab (now rows) (now parts)) (n + 2) × (cell 4 (now rows) n 0 ≡ 0) × (cell 4 (now rows) (n + 1) 0 ≡ 1) ⌝ }
+    requires { ⌜ Clear (rowsFaults [] [] (rowsIn (tab (now rows) (now parts)) n)) × ((r : ℕ) → r < n → SmallRow (rowAt (tab (now rows) (now parts)) r)) ⌝ }
+    ensures { λ _. ⌜ Shared (tab (now (rows .entry)) (now (parts .entry))) (tab (now (rows2 .exit)) (now (parts2 .exit))) n ⌝ }
+{
+    let mut chains = [0u16; 768];
+    find_first(rows, parts, n, first, work, &mut chains);
+    crate::rename::fill_rows(rows, first, n + 2, rows2);
+    crate::rename::fill_parts(rows, parts, first, n, parts2);
+}

@@ -1,0 +1,133 @@
+-- Laws of the registers that a target names.
+use Prim.Native.Nat.{ℕ, zero, suc, _+_, _-_, _≤_, _<_}
+use native.Mathlib.Omega.{arith}
+use mathlib.Core.Path.{_≡_, refl, ap, ap₂, sym, _∙_}
+use mathlib.Core.Bool.{Bool, true, false, not, cond}
+use mathlib.Core.List.{List, [], _∷_, _++_, map}
+use lib.Dec.{ltb}
+use lib.ListN.{getD}
+use borrow.Author.Tests.{ltb-true}
+use Rattle.syntax.specs.Syntax.{Kind, value, stack}
+use Rattle.syntax.specs.Fault.{Fault, unfit, itemsOf}
+use Rattle.types.specs.Types.{Ty, Arg}
+use Rattle.types.specs.Rows.{typeAt}
+use Rattle.types.specs.Equal.{same, sameLetters}
+use Rattle.tables.specs.Tables.{span, letterOf, lettersAt}
+use Rattle.valid.specs.Program.{Program}
+use Rattle.valid.specs.PassThree.{unfits}
+use Rattle.types_rows.specs.declared.Slot.{Slot}
+use Rattle.types_rows.specs.declared.Slot.the-variants.{Gap, Known}
+use Rattle.types_rows.specs.Read.{lower, slotAt, onSlot, partsOf}
+use Rattle.valid_context.specs.Context.{onLink, regsFrom, regsOf}
+use Rattle.valid_typing.specs.target.Fits.{firstItem, slotFits}
+
+-- ---- tests
+not-not : (b : Bool) → not (not b) ≡ b
+not-not true = refl
+not-not false = refl
+
+pub not-yes : {b : Bool} → not b ≡ true → b ≡ false
+not-yes {b} e = sym (not-not b) ∙ ap not e
+
+pub not-no : {b : Bool} → not b ≡ false → b ≡ true
+not-no {b} e = sym (not-not b) ∙ ap not e
+
+-- ---- one register
+pub lower-le : (h x : ℕ) → lower h x ≤ h
+lower-le h x = go (ltb (suc x) h) refl
+  where
+    go : (b : Bool) → ltb (suc x) h ≡ b → cond b (suc x) 0 ≤ h
+    go true e = let l = ltb-true (suc x) h e in omega arith
+    go false e = omega arith
+
+module _ (v : ℕ → Ty value) (T : List Arg) (h x u : ℕ) where
+  pub fits-none : x ≡ 0 → true ≡ slotFits v T (slotAt true h x) u
+  fits-none e = rw e (unfold slotFits in refl)
+
+  pub fits-unknown : (x ≡ 0 → ⊥) → u ≡ 0 → false ≡ slotFits v T (slotAt true h x) u
+  fits-unknown z e = let q : x ≡ suc (x - 1) = omega arith in rw (q, e) (unfold slotFits in refl)
+
+  pub fits-type : (r : ℕ) {b : Bool} → (x ≡ 0 → ⊥) → (u ≡ 0 → ⊥) → typeAt value T r ≡ v (lower h (x - 1)) → b ≡ same (typeAt value T r) (typeAt value T (u - 1)) → b ≡ slotFits v T (slotAt true h x) u
+  fits-type r {b} z w e f =
+      let q : x ≡ suc (x - 1) = omega arith in
+      let s : u ≡ suc (u - 1) = omega arith in
+      let g : slotFits v T (Known (lower h (x - 1))) (suc (u - 1)) ≡ same (v (lower h (x - 1))) (typeAt value T (u - 1)) = unfold slotFits in refl in
+      f ∙ ap (λ (y : Ty value). same y (typeAt value T (u - 1))) e ∙ sym g ∙ ap₂ (λ (y w : ℕ). slotFits v T (slotAt true h y) w) (sym q) (sym s)
+
+-- ---- eight registers
+module _ (v : ℕ → Ty value) (ps : List ℕ) (h p : ℕ) (T : List Arg) (regs : List ℕ) where
+  -- what is left to look at from register i on
+  abbrev restFits : Program → List Kind → ℕ → ℕ
+  restFits P Δ i = firstItem (unfits P Δ (suc i) (partsOf v ps true h (p + i) (8 - i)) (regsFrom T regs i (8 - i)))
+
+  abbrev pub RestFits : ℕ → Type 0
+  RestFits i = (P : Program) (Δ : List Kind) → firstItem (unfits P Δ 1 (partsOf v ps true h p 8) (regsOf T regs)) ≡ restFits P Δ i
+
+  pub rest-first : RestFits 0
+  rest-first P Δ = let q : p + 0 ≡ p = omega arith in rw q refl
+
+  -- a register that fits, and one that does not
+  slot-fits : (P : Program) (Δ : List Kind) (n : ℕ) (s : Slot) (u : ℕ) (a g : Ty stack) → slotFits v T s u ≡ true → unfits P Δ n (onSlot v s a) (onLink T u g) ≡ unfits P Δ (suc n) a g
+  unfolding slotFits unfits
+  slot-fits P Δ n Gap zero a g e = refl
+  slot-fits P Δ n Gap (suc u) a g e = refl
+  slot-fits P Δ n (Known t) zero a g e = let z : _≡_ {A = ℕ} 0 1 = cc in absurd (omega arith)
+  slot-fits P Δ n (Known t) (suc u) a g e = rw e refl
+
+  slot-differs : (P : Program) (Δ : List Kind) (n : ℕ) (s : Slot) (u : ℕ) (a g : Ty stack) → slotFits v T s u ≡ false → firstItem (unfits P Δ n (onSlot v s a) (onLink T u g)) ≡ n
+  unfolding slotFits unfits firstItem itemsOf
+  slot-differs P Δ n Gap zero a g e = let z : _≡_ {A = ℕ} 0 1 = cc in absurd (omega arith)
+  slot-differs P Δ n Gap (suc u) a g e = let z : _≡_ {A = ℕ} 0 1 = cc in absurd (omega arith)
+  slot-differs P Δ n (Known t) zero a g e = refl
+  slot-differs P Δ n (Known t) (suc u) a g e = rw e refl
+
+  cons-parts : (i m : ℕ) → partsOf v ps true h i (suc m) ≡ onSlot v (slotAt true h (getD ps i 0)) (partsOf v ps true h (suc i) m)
+  unfolding partsOf
+  cons-parts i m = refl
+
+  cons-regs : (i m : ℕ) → regsFrom T regs i (suc m) ≡ onLink T (getD regs i 0) (regsFrom T regs (suc i) m)
+  unfolding regsFrom
+  cons-regs i m = refl
+
+  module _ (i x u : ℕ) {b : Bool} (k : i < 8) (r : RestFits i) (e : x ≡ getD ps (p + i) 0) (f : u ≡ getD regs i 0) (g : b ≡ slotFits v T (slotAt true h x) u) where
+    one-fits : slotFits v T (slotAt true h (getD ps (p + i) 0)) (getD regs i 0) ≡ b
+    one-fits = sym (g ∙ ap₂ (λ (y w : ℕ). slotFits v T (slotAt true h y) w) e f)
+
+    pub rest-next : b ≡ true → RestFits (i + 1)
+    rest-next s P Δ =
+        let d : 8 - i ≡ suc (8 - (i + 1)) = omega arith in
+        let q : suc (p + i) ≡ p + (i + 1) = omega arith in
+        let o : suc i ≡ i + 1 = omega arith in
+        r P Δ ∙ ap₂ (λ (a c : Ty stack). firstItem (unfits P Δ (suc i) a c)) (ap (partsOf v ps true h (p + i)) d ∙ cons-parts (p + i) (8 - (i + 1))) (ap (regsFrom T regs i) d ∙ cons-regs i (8 - (i + 1)))
+        ∙ ap firstItem (slot-fits P Δ (suc i) (slotAt true h (getD ps (p + i) 0)) (getD regs i 0) (partsOf v ps true h (suc (p + i)) (8 - (i + 1))) (regsFrom T regs (suc i) (8 - (i + 1))) (one-fits ∙ s))
+        ∙ ap₂ (λ (y w : ℕ). firstItem (unfits P Δ (suc w) (partsOf v ps true h y (8 - (i + 1))) (regsFrom T regs w (8 - (i + 1))))) q o
+
+    pub rest-fails : b ≡ false → (P : Program) (Δ : List Kind) → i + 1 ≡ firstItem (unfits P Δ 1 (partsOf v ps true h p 8) (regsOf T regs))
+    rest-fails s P Δ =
+        let d : 8 - i ≡ suc (8 - (i + 1)) = omega arith in
+        let o : suc i ≡ i + 1 = omega arith in
+        sym (r P Δ ∙ ap₂ (λ (a c : Ty stack). firstItem (unfits P Δ (suc i) a c)) (ap (partsOf v ps true h (p + i)) d ∙ cons-parts (p + i) (8 - (i + 1))) (ap (regsFrom T regs i) d ∙ cons-regs i (8 - (i + 1)))
+        ∙ slot-differs P Δ (suc i) (slotAt true h (getD ps (p + i) 0)) (getD regs i 0) (partsOf v ps true h (suc (p + i)) (8 - (i + 1))) (regsFrom T regs (suc i) (8 - (i + 1))) (one-fits ∙ s)
+        ∙ o)
+
+  pub rest-done : (i : ℕ) → 8 ≤ i → RestFits i → (P : Program) (Δ : List Kind) → 0 ≡ firstItem (unfits P Δ 1 (partsOf v ps true h p 8) (regsOf T regs))
+  rest-done i k r P Δ = let d : 8 - i ≡ 0 = omega arith in sym (r P Δ ∙ rw d (unfold partsOf regsFrom unfits firstItem itemsOf in refl))
+
+-- ---- letters
+none-span : (ps : List ℕ) (i c : ℕ) → c ≡ 0 → sameLetters (map letterOf (span ps i c)) [] ≡ true
+unfolding span sameLetters
+none-span ps i zero e = refl
+none-span ps i (suc c) e = absurd (omega arith)
+
+some-span : (ps : List ℕ) (i c : ℕ) → (c ≡ 0 → ⊥) → sameLetters (map letterOf (span ps i c)) [] ≡ false
+unfolding span sameLetters
+some-span ps i zero z = absurd (z refl)
+some-span ps i (suc c) z = refl
+
+pub none-left : (ps : List ℕ) (p c : ℕ) → c ≡ getD ps (p + 8) 0 → c ≡ 0 → sameLetters (lettersAt ps p) [] ≡ true
+unfolding lettersAt
+none-left ps p c e z = none-span ps (p + 9) (getD ps (p + 8) 0) (sym e ∙ z)
+
+pub some-left : (ps : List ℕ) (p c : ℕ) → c ≡ getD ps (p + 8) 0 → (c ≡ 0 → ⊥) → sameLetters (lettersAt ps p) [] ≡ false
+unfolding lettersAt
+some-left ps p c e z = some-span ps (p + 9) (getD ps (p + 8) 0) (λ q. z (e ∙ q))

@@ -1,0 +1,5 @@
+pub mod Typing
+pub mod operands
+pub mod components
+pub mod plain_components
+pub mod target

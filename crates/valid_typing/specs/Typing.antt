@@ -1,0 +1,98 @@
+-- What the functions of this crate read, and how their answers are stated.
+use Prim.Native.Nat.{ℕ, zero, suc, _+_, _-_, _≤_}
+use mathlib.Core.Path.{_≡_}
+use mathlib.Core.Bool.{Bool, true, false, cond}
+use mathlib.Core.List.{List, map, reverse}
+use lib.Dec.{ltb, eqb}
+use lib.ListN.{length, getD, take}
+use Rattle.syntax.specs.Syntax.{Kind, value, stack}
+use Rattle.types.specs.Types.{Ty, junk, nil, push, svar, gap, Arg, arg}
+use Rattle.types.specs.Rows.{typeAt, typesOf}
+use Rattle.types.specs.Equal.{same}
+use Rattle.tables.specs.Tables.{cell, rowsIn, lettersAt}
+use Rattle.valid.specs.Program.{Program}
+use Rattle.valid.specs.PassThree.{Judged, _▹_, orFault, itemAt, tupleAt, CodeType}
+use Rattle.types_rows.specs.Read.{tab, Counted, meanV, meanS, partsOf}
+use Rattle.types_rows.specs.declared.Item.{Item}
+use Rattle.types_rows.specs.declared.Item.the-variants.{NoItem, ValItem, VarItem}
+use Rattle.valid_context.specs.Context.{firstVar, onItem}
+
+-- Rows n and n + 1 are made `I` and `N`: every type that the checker holds is the type of one of these n + 2 rows.
+abbrev pub typesIn : List ℕ → List ℕ → ℕ → List Arg
+typesIn rows parts n = typesOf (rowsIn (tab rows parts) (n + 2))
+
+-- what the premises rely on: rows n and n + 1 are `I` and `N`, and the counts are filled in
+pub record Ready (rows parts : List ℕ) (n : ℕ) : Type 0 where
+  pub few : n ≤ 512
+  pub int-row : cell 4 rows n 0 ≡ 0
+  pub junk-row : cell 4 rows (n + 1) 0 ≡ 1
+  pub counted : Counted (tab rows parts) (n + 2)
+
+-- `ld` and `st`: component i of the tuple in register r
+abbrev pub componentAt : Program → List Kind → Ty stack → ℕ → ℕ → Judged (Ty value)
+componentAt P Δ g r i = tupleAt P Δ g r ▹ λ c. orFault 11 (itemAt c i)
+
+-- the code type of row h (a link) whose stack is x and whose registers start at p
+abbrev pub codeIn : List ℕ → List ℕ → ℕ → ℕ → ℕ → CodeType
+codeIn rows parts h x p = record { letters = lettersAt parts p; sp = meanS (tab rows parts) x; regs = partsOf (meanV (tab rows parts)) parts true h p 8 }
+
+-- an item of a stack row is the one that an entry of sp stands for
+unfoldable pub itemIs : List ℕ → List ℕ → ℕ → Item → ℕ → Bool
+itemIs rows parts n NoItem y = false
+itemIs rows parts n (ValItem t) y = cond (ltb y firstVar) (same (meanV (tab rows parts) t) (typeAt value (typesIn rows parts n) y)) false
+itemIs rows parts n (VarItem k) y = cond (ltb y firstVar) false (eqb k (y - firstVar))
+
+-- an item that is a row is one of the first h links
+abbrev pub LowItem : ℕ → Item → Type 0
+LowItem h NoItem = Unit
+LowItem h (ValItem t) = t ≤ h
+LowItem h (VarItem k) = Unit
+
+-- the link of an item that is a value type, 0 of any other
+abbrev pub LinkIs : ℕ → Item → ℕ → Type 0
+LinkIs n NoItem u = u ≡ 0
+LinkIs n (ValItem t) u = (u ≡ 0 → ⊥) × ((rows parts : List ℕ) → Ready rows parts n → typeAt value (typesIn rows parts n) (u - 1) ≡ meanV (tab rows parts) t)
+LinkIs n (VarItem k) u = u ≡ 0
+
+-- stack variables that an entry of sp can hold
+abbrev pub SmallVars : Ty stack → Type 0
+SmallVars nil = Unit
+SmallVars (push t a) = SmallVars a
+SmallVars (svar k a) = (k ≤ 60000) × SmallVars a
+SmallVars (gap a) = SmallVars a
+
+-- a variable's number fits an entry of sp
+abbrev pub SmallItem : Item → Type 0
+SmallItem NoItem = Unit
+SmallItem (ValItem t) = Unit
+SmallItem (VarItem k) = k ≤ 60000
+
+-- the entry of sp that stands for an item
+abbrev pub EntryIs : ℕ → Item → ℕ → Type 0
+EntryIs n NoItem y = Unit
+EntryIs n (ValItem t) y = (rows parts : List ℕ) (b : Ty stack) → Ready rows parts n → onItem (typesIn rows parts n) y b ≡ push (meanV (tab rows parts) t) b
+EntryIs n (VarItem k) y = (T : List Arg) (b : Ty stack) → onItem T y b ≡ svar k b
+
+-- ---- rows that an instruction gives
+-- row t of the program's n rows among the n + 2: one that is not there reads as the junk type
+unfoldable pub givenRow : ℕ → ℕ → ℕ
+givenRow n t = cond (ltb t n) t (n + 1)
+
+-- row t as an argument; one that is not there is the junk type
+abbrev pub givenArg : List ℕ → List ℕ → ℕ → ℕ → Arg
+givenArg rows parts n t = getD (typesOf (rowsIn (tab rows parts) n)) t (arg value junk)
+
+-- the arguments that rows give, in the order of their variables
+abbrev pub argsIn : List ℕ → List ℕ → ℕ → List ℕ → List Arg
+argsIn rows parts n ts = reverse (map (givenArg rows parts n) ts)
+
+-- an argument that is a stack or not, and a letter as it stands in the table
+unfoldable pub fitsLetter : Bool → ℕ → Bool
+fitsLetter true zero = false
+fitsLetter true (suc x) = true
+fitsLetter false zero = true
+fitsLetter false (suc x) = false
+
+-- the letters that c arguments leave of the code row whose registers start at p
+abbrev pub lettersLess : List ℕ → ℕ → ℕ → List Kind
+lettersLess parts p c = take (length (lettersAt parts p) - c) (lettersAt parts p)

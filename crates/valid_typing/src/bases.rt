@@ -1,0 +1,101 @@
+// Pass three's look at the base of an operand: the type of a register, a literal or a label, given as a row; and the entries of the
+// table of operands.
+// Promised: the fault of the premise as crate valid defines it (`base`), 0 if it holds, and then a row that has the type it gives.
+// Asked: the tables of module prepare of load (`Ready` of this crate).
+use crate::Typed;
+ghost use mathlib.Core.Path.{_≡_};
+ghost use Prim.Native.Nat.{ℕ, _+_, _≤_};
+ghost use lib.ListN.{getD};
+ghost use mathlib.Core.List.{List};
+ghost use Rattle.syntax.specs.Syntax.{Kind, value, reg, lab};
+ghost use Rattle.types.specs.Rows.{typeAt};
+ghost use Rattle.tables.specs.Tables.{cell, baseOf};
+ghost use Rattle.valid.specs.Program.{Program};
+ghost use Rattle.valid.specs.PassThree.{base};
+ghost use Rattle.types_rows.specs.Read.{tab};
+ghost use Rattle.valid_context.specs.Context.{regsOf};
+ghost use Rattle.valid_context.specs.Told.{toldOf, answer};
+ghost use Rattle.valid_context.specs.premises.Answers.{Holds};
+ghost use Rattle.valid_typing.specs.Typing.{typesIn, Ready};
+
+fn wide(x: u32) -> usize
+    ensures { λ out. ⌜ (out ≡ x) × (out ≤ 4294967295) ⌝ }
+{
+    x as usize
+}
+
+// Entry i, 0 past the end.
+pub(crate) fn number_at(s: &[u32], i: usize) -> usize
+    ensures { λ out. ⌜ (out ≡ getD (now (s .entry)) i 0) × (out ≤ 4294967295) ⌝ }
+{
+    if i < s.len() {
+        return wide(s[i]);
+    }
+    0
+}
+
+// Entry k of operand v.
+pub(crate) fn entry(operands: &[u16], v: usize, k: usize) -> usize
+    requires { ⌜ (v ≤ 131072) × (k ≤ 3) ⌝ }
+    ensures { λ out. ⌜ (out ≡ cell 4 (now (operands .entry)) v k) × (out ≤ 65535) ⌝ }
+{
+    types_rows::at(operands, 4 * v + k)
+}
+
+// One of the n + 2 rows that has the type of row t.
+fn row_within(n: usize, t: usize) -> usize
+    requires { ⌜ (n ≤ 512) × (t ≤ 65535) ⌝ }
+    ensures { λ out. ⌜ ((rows parts : List ℕ) → Ready rows parts n → typeAt value (typesIn rows parts n) out ≡ typeAt value (typesIn rows parts n) t) × (out ≤ n + 1) ⌝ }
+{
+    crate::row_of(n, types_rows::link(n + 3, t))
+}
+
+fn register_type(n: usize, regs: &[u16], r: usize) -> Typed
+    requires { ⌜ n ≤ 512 ⌝ }
+    ensures { λ out. ⌜ ((rows parts : List ℕ) (P : Program) (Δ : List Kind) → Ready rows parts n → toldOf (base P Δ (regsOf (typesIn rows parts n) (now (regs .entry))) (reg r)) ≡ answer (out .fault) (typeAt value (typesIn rows parts n) (out .row))) × (out .row ≤ n + 1) ⌝ }
+{
+    let u = valid_context::register(regs, r);
+    if u == 0 {
+        return Typed { fault: 9, row: 0 };
+    }
+    Typed {
+        fault: 0,
+        row: row_within(n, u - 1),
+    }
+}
+
+fn label_type(n: usize, blocks: &[u16], nb: usize, l: usize) -> Typed
+    requires { ⌜ (n ≤ 512) × (l ≤ 4294967295) ⌝ }
+    ensures { λ out. ⌜ ((rows parts regs : List ℕ) (P : Program) (Δ : List Kind) → Ready rows parts n → Holds (tab rows parts) n (now (blocks .entry)) nb P → toldOf (base P Δ (regsOf (typesIn rows parts n) regs) (lab l)) ≡ answer (out .fault) (typeAt value (typesIn rows parts n) (out .row))) × (out .row ≤ n + 1) ⌝ }
+{
+    if l >= nb {
+        return Typed { fault: 9, row: 0 };
+    }
+    Typed {
+        fault: 0,
+        row: crate::given_row(n, types_rows::at(blocks, 2 * l)),
+    }
+}
+
+// The type of a base: of kind 0 a register, of kind 1 a literal, else a label.
+pub(crate) fn base_type(
+    rows: &[u16],
+    parts: &[u16],
+    n: usize,
+    blocks: &[u16],
+    nb: usize,
+    regs: &[u16],
+    kind: usize,
+    number: usize,
+) -> Typed
+    requires { ⌜ Ready (now rows) (now parts) n × (number ≤ 4294967295) ⌝ }
+    ensures { λ out. ⌜ ((P : Program) (Δ : List Kind) → Holds (tab (now (rows .entry)) (now (parts .entry))) n (now (blocks .entry)) nb P → toldOf (base P Δ (regsOf (typesIn (now (rows .entry)) (now (parts .entry)) n) (now (regs .entry))) (baseOf kind number)) ≡ answer (out .fault) (typeAt value (typesIn (now (rows .entry)) (now (parts .entry)) n) (out .row))) × (out .row ≤ n + 1) ⌝ }
+{
+    if kind == 0 {
+        return register_type(n, regs, number);
+    }
+    if kind == 1 {
+        return Typed { fault: 0, row: n };
+    }
+    label_type(n, blocks, nb, number)
+}
