@@ -1,33 +1,46 @@
-/* Gives the cases of crates/cases/data to the proved library and to the plain C, and compares: the check's answer; the run's answer and
-   the whole lent state after a start, after a start with a budget of 5, and after continuing by 7 and by 1,000,000 steps. */
+/* Gives the cases of crates/cases/data to the proved library, with and without working memory lent, and to the plain C, and compares: the
+   check's answer; the run's answer and the whole lent state after a start, after a start with a budget of 5, and after continuing by 7 and
+   by 1,000,000 steps. The working memory holds 0xa5 at first, and then what the call before left in it. */
 #include "../link/stal.h"
 #include "plain/plain.h"
 #include <stdio.h>
 #include <stdlib.h>
 #include <string.h>
 
-static stal_state a;
+static stal_memory memory;
+static stal_state a, l;
 static plain_state b;
 
 static int same_state(void) {
-    return !memcmp(a.rk, b.rk, 8) && !memcmp(a.rn, b.rn, sizeof b.rn) && !memcmp(a.sk, b.sk, 256) && !memcmp(a.sn, b.sn, sizeof b.sn) && !memcmp(a.hk, b.hk, 2048) &&
+    return !memcmp(&a, &l, sizeof a) && !memcmp(a.rk, b.rk, 8) && !memcmp(a.rn, b.rn, sizeof b.rn) && !memcmp(a.sk, b.sk, 256) && !memcmp(a.sn, b.sn, sizeof b.sn) && !memcmp(a.hk, b.hk, 2048) &&
            !memcmp(a.hn, b.hn, sizeof b.hn) && a.depth == b.depth && a.used == b.used && a.position == b.position;
 }
 
-static int same_answer(stal_answer x, plain_answer y) {
-    return x.code == y.code && x.first == y.a && (x.code || (x.kind == y.kind && x.number == y.number)) && same_state();
+static int same_answer(stal_answer x, stal_answer z, plain_answer y) {
+    return x.code == z.code && x.first == z.first && x.kind == z.kind && x.number == z.number && x.code == y.code && x.first == y.a &&
+           (x.code || (x.kind == y.kind && x.number == y.number)) && same_state();
+}
+
+static int start(const uint8_t *t, size_t n, const uint8_t *s, size_t m, size_t budget) {
+    return same_answer(stal_start_state(t, n, s, m, budget, &a), stal_start_with(t, n, s, m, budget, &memory, &l), plain_start(t, n, s, m, budget, &b));
+}
+
+static int resume(const uint8_t *t, size_t n, size_t budget) {
+    return same_answer(stal_continue_state(t, n, budget, &a), stal_continue_with(t, n, budget, &memory, &l), plain_resume(t, n, budget, &b));
 }
 
 static int agree(const uint8_t *t, size_t n, const uint8_t *s, size_t m) {
-    stal_verdict v = stal_check_text(t, n);
+    stal_verdict v = stal_check_text(t, n), z = stal_check_with(t, n, &memory);
     plain_verdict w = plain_check(t, n);
     int ok = v.code == w.code && v.first == w.a && (v.code || v.second == w.b) && (v.second == 100) == (w.b == 100);
+    ok &= v.code == z.code && v.first == z.first && v.second == z.second;
     memset(&a, 0, sizeof a);
+    memset(&l, 0, sizeof l);
     memset(&b, 0, sizeof b);
-    ok &= same_answer(stal_start_state(t, n, s, m, STAL_BUDGET, &a), plain_start(t, n, s, m, STAL_BUDGET, &b));
-    ok &= same_answer(stal_start_state(t, n, s, m, 5, &a), plain_start(t, n, s, m, 5, &b));
-    ok &= same_answer(stal_continue_state(t, n, 7, &a), plain_resume(t, n, 7, &b));
-    ok &= same_answer(stal_continue_state(t, n, STAL_BUDGET, &a), plain_resume(t, n, STAL_BUDGET, &b));
+    ok &= start(t, n, s, m, STAL_BUDGET);
+    ok &= start(t, n, s, m, 5);
+    ok &= resume(t, n, 7);
+    ok &= resume(t, n, STAL_BUDGET);
     return ok;
 }
 
@@ -67,6 +80,7 @@ static int cases(const char *name, size_t n, int *good) {
 
 int main(int argc, char **argv) {
     int all = 0, good = 0;
+    memset(&memory, 0xa5, sizeof memory);
     for (int i = 1; i < argc; i++) {
         FILE *f = fopen(argv[i], "rb");
         if (!f)

@@ -1,6 +1,7 @@
 /* Times the proved library against the plain C of plain/, in one process and in turn.
-   bench                 the table: medians of ROUNDS runs each, CPU time of this thread, and of the ratio in each round
-   bench once NAME WHO   one call of measure NAME by WHO (ours, plain), for a profiler
+   bench                 the table, and once more with working memory lent to ours: medians of ROUNDS runs each, CPU time of this thread,
+                         and of the ratio in each round
+   bench once NAME WHO   one call of measure NAME by WHO (ours, lent, plain), for a profiler
    bench loop            nanoseconds for each round of the count-down loop
    bench list            the names */
 #define _GNU_SOURCE
@@ -40,16 +41,23 @@ plain_answer plain_start_switch(const uint8_t *text, size_t len, const uint8_t *
 
 enum { OURS, PLAIN, SWITCH, WHO };
 
-/* what is measured: a check, or a start with a budget */
+/* what is measured: a check, or a start with a budget; by ours with the tables on the stack or with working memory lent */
 typedef struct {
     char name[64];
-    int run;
+    int run, lent;
     bytes text, samples;
     size_t budget;
 } measure;
 
+static stal_memory memory;
 static stal_state ours;
 static plain_state plain;
+
+static stal_answer start(const measure *m) {
+    if (m->lent)
+        return stal_start_with(m->text.at, m->text.len, m->samples.at, m->samples.len, m->budget, &memory, &ours);
+    return stal_start_state(m->text.at, m->text.len, m->samples.at, m->samples.len, m->budget, &ours);
+}
 
 /* one call; what it answers, as a number to compare */
 static uint64_t call(const measure *m, int who) {
@@ -58,14 +66,14 @@ static uint64_t call(const measure *m, int who) {
             plain_verdict v = plain_check(m->text.at, m->text.len);
             return v.code << 24 | v.a << 12 | (v.code ? 0 : v.b);
         }
-        stal_verdict v = stal_check_text(m->text.at, m->text.len);
+        stal_verdict v = m->lent ? stal_check_with(m->text.at, m->text.len, &memory) : stal_check_text(m->text.at, m->text.len);
         return v.code << 24 | v.first << 12 | (v.code ? 0 : v.second);
     }
     if (who != OURS) {
         plain_answer a = (who == PLAIN ? plain_start : plain_start_switch)(m->text.at, m->text.len, m->samples.at, m->samples.len, m->budget, &plain);
         return (uint64_t)a.code << 56 | (uint64_t)a.a << 32 | (a.code ? 0 : a.number);
     }
-    stal_answer a = stal_start_state(m->text.at, m->text.len, m->samples.at, m->samples.len, m->budget, &ours);
+    stal_answer a = start(m);
     return (uint64_t)a.code << 56 | (uint64_t)a.first << 32 | (a.code ? 0 : a.number);
 }
 
@@ -157,20 +165,19 @@ static void add_hostile(const char *dir) {
         free(names);
 }
 
-static size_t steps_of(const measure *m) {
-    return stal_start_state(m->text.at, m->text.len, m->samples.at, m->samples.len, m->budget, &ours).first;
-}
-
-static void table(void) {
+static void table(int lent) {
     double worst[2] = {0, 0};
     const char *slow = "";
+    if (lent)
+        printf("\nwith working memory lent to ours\n");
     printf("%-28s %8s %8s %8s   %-24s %s\n", "M steps a second", "ours", "plain C", "switch", "ours/plain, ours/switch", "steps alone (less a start with no steps): ours/plain, ns a step");
     for (int i = 0; i < count; i++) {
-        const measure *m = &all[i];
+        measure *m = &all[i];
+        m->lent = lent;
         times x = time_it(m);
         double *t = x.call;
         if (m->run && m->budget) {
-            size_t steps = steps_of(m);
+            size_t steps = start(m).first;
             printf("%-28s %8.1f %8.1f %8.1f   %.2f, %.2f %14s %.2f   %.2f, %.2f, %.2f   (%zu steps)\n", m->name, steps / t[OURS] * 1e3, steps / t[PLAIN] * 1e3, steps / t[SWITCH] * 1e3,
                    x.ratio[PLAIN], x.ratio[SWITCH], "", x.steps_ratio[PLAIN], x.steps[OURS] / steps, x.steps[PLAIN] / steps, x.steps[SWITCH] / steps, steps);
         } else if (!strncmp(m->name, "hostile", 7)) {
@@ -206,8 +213,10 @@ int main(int argc, char **argv) {
     add_hostile("bench/hostile");
     if (argc > 3 && !strcmp(argv[1], "once")) {
         for (int i = 0; i < count; i++)
-            if (!strcmp(all[i].name, argv[2]))
+            if (!strcmp(all[i].name, argv[2])) {
+                all[i].lent = !strcmp(argv[3], "lent");
                 return (int)(call(&all[i], !strcmp(argv[3], "plain")) & 0);
+            }
         return 2;
     }
     if (argc > 1 && !strcmp(argv[1], "list")) {
@@ -220,6 +229,7 @@ int main(int argc, char **argv) {
         printf("ours %f\nplain_C %f\nplain_C_switch %f\n", x.call[OURS] / 333000, x.call[PLAIN] / 333000, x.call[SWITCH] / 333000);
         return 0;
     }
-    table();
+    table(0);
+    table(1);
     return 0;
 }

@@ -1,18 +1,26 @@
 /* stal.h: the proved checker and machine for STAL programs, for C on x86-64 (libstal.a, made by `rt staticlib stal`).
  *
- * Two layers. The first three functions, stal_check_text, stal_start_state and stal_continue_state, are to be called: they test what the
- * boundary asks, and then call the proved functions stal_check, stal_start and stal_continue, which are declared below them.
+ * Two kinds of calls, with the same answers:
+ *   stal_check_with, stal_start_with, stal_continue_with       for firmware: they are lent working memory (stal_memory, 627 KB, static in
+ *                                                              the caller, whatever it holds) and need little stack.
+ *   stal_check_text, stal_start_state, stal_continue_state     where there is stack: they ask for no memory, and put their tables on the
+ *                                                              stack, up to 1 MB of it.
+ * (docs/performance.md has the stack that each uses, and times.) They test what the boundary asks, and then call the proved functions, which
+ * are declared above them: stal_check_in, stal_start_in and stal_continue_in, and stal_check, stal_start and stal_continue.
  *
  * What each does on memory that is
- *   null         a null text or samples with length 0 is an empty one; a null text or samples with another length, or a null state, is
- *                STAL_MISUSE, and nothing is read or written.
- *   short        a text of any length is answered: over 65,536 bytes it is refused (3, line 0). The state has the lengths that are wanted.
- *                (stal_start and stal_continue answer 16, line 0, where they are lent fewer than 8 registers, 256 stack or 2,048 heap words.)
- *   overlapping  text and samples may overlap each other. One that overlaps the state is STAL_MISUSE, and nothing is read or written.
- *   damaged      any bytes of text, samples and state are answered; a state of bad form is refused (16, line 0) when continuing.
- * A refusal leaves the state as it was. Nothing is kept between calls: no static state, no allocation, no file, no errno, so calls on
- * different states may run at once. Every call returns: after at most 1,000,000 steps, and a check after an amount of work that the text's
- * length bounds (docs/performance.md has times and stack use).
+ *   null         a null text or samples with length 0 is an empty one; a null text or samples with another length, or a null state or
+ *                working memory, is STAL_MISUSE, and nothing is read or written.
+ *   short        a text of any length is answered: over 65,536 bytes it is refused (3, line 0). State and working memory have the lengths
+ *                that are wanted. (The proved functions answer 16, line 0, where they are lent fewer than 8 registers, 256 stack or 2,048
+ *                heap words; and, before anything else is looked at, where an array of the working memory is shorter than here.)
+ *   overlapping  text and samples may overlap each other. One that overlaps the state or the working memory, or a state that overlaps the
+ *                working memory, is STAL_MISUSE, and nothing is read or written.
+ *   damaged      any bytes of text, samples, state and working memory are answered; a state of bad form is refused (16, line 0) when
+ *                continuing; what the working memory holds changes no answer.
+ * A refusal leaves the state as it was. Nothing is kept between calls, not in the working memory either: no static state, no allocation, no
+ * file, no errno, so calls on different states and working memories may run at once. Every call returns: after at most 1,000,000 steps, and
+ * a check after an amount of work that the text's length bounds.
  */
 #ifndef STAL_H
 #define STAL_H
@@ -25,6 +33,7 @@ extern "C" {
 #endif
 
 enum { STAL_REGISTERS = 8, STAL_STACK = 256, STAL_HEAP = 2048, STAL_BUDGET = 1000000 };
+enum { STAL_IMAGE = 259998, STAL_LITERALS = 16400, STAL_PLAN = 8208, STAL_WORK = 4096 };
 
 /* The kinds of a word, and what its number is. */
 enum {
@@ -43,7 +52,7 @@ enum {
     STAL_STACK_FULL = 18, /* first the steps, as for the next two */
     STAL_HEAP_FULL = 19,
     STAL_STUCK = 20,
-    STAL_MISUSE = 255 /* of the functions that take a state: null or overlapping memory; nothing was done */
+    STAL_MISUSE = 255 /* of the functions to call: null or overlapping memory; nothing was done */
 };
 
 /* The machine's state. Word i has its kind in ..k[i] and its number in ..n[i]. Between calls the owner may store it, copy it, send it
@@ -59,6 +68,15 @@ typedef struct {
     size_t used;     /* heap words in use, 0 to 2,048 */
     size_t position; /* the next instruction, counted from 0 over all blocks */
 } stal_state;
+
+/* Working memory: 627 KB (626,620 bytes), static in firmware. It need not be set, and what a call leaves in it is of no use to anyone: the
+   same may be lent to the next call, on whatever text and state. Calls that run at the same time need one each. */
+typedef struct {
+    uint16_t image[STAL_IMAGE]; /* the decoded text */
+    uint16_t work[STAL_WORK];   /* what typing needs; a start or a continuing does not look at it */
+    uint32_t literals[STAL_LITERALS];
+    uint32_t plan[STAL_PLAN]; /* the machine's own table */
+} stal_memory;
 
 /* A check's answer: STAL_ACCEPTED, blocks and instructions; or the fault's number, its line, and for 10 at a jump or branch an item that
    does not fit (0 for sp, 1 to 8 for a register, 99 for the resulting row), 100 where there is none to name. */
@@ -87,48 +105,115 @@ size_t stal_continue(const uint8_t *text, size_t text_len, size_t budget,
                      uint8_t *hk, size_t hk_len, uint32_t *hn, size_t hn_len, uint32_t *depth, size_t *used, size_t *position,
                      size_t *first, uint8_t *kind, uint32_t *number);
 
-/* ---- what to call */
+/* The same with working memory lent, of at least the lengths of stal_memory; else 16, line 0 (of a check `second` is 100), and nothing is
+   changed. */
+size_t stal_check_in(const uint8_t *text, size_t text_len, uint16_t *image, size_t image_len, uint32_t *literals, size_t literals_len,
+                     uint32_t *plan, size_t plan_len, uint16_t *work, size_t work_len, size_t *first, size_t *second);
+
+size_t stal_start_in(const uint8_t *text, size_t text_len, const uint8_t *samples, size_t samples_len, size_t budget,
+                     uint16_t *image, size_t image_len, uint32_t *literals, size_t literals_len, uint32_t *plan, size_t plan_len,
+                     uint8_t *rk, size_t rk_len, uint32_t *rn, size_t rn_len, uint8_t *sk, size_t sk_len, uint32_t *sn, size_t sn_len,
+                     uint8_t *hk, size_t hk_len, uint32_t *hn, size_t hn_len, uint32_t *depth, size_t *used, size_t *position,
+                     size_t *first, uint8_t *kind, uint32_t *number);
+
+size_t stal_continue_in(const uint8_t *text, size_t text_len, size_t budget,
+                        uint16_t *image, size_t image_len, uint32_t *literals, size_t literals_len, uint32_t *plan, size_t plan_len,
+                        uint8_t *rk, size_t rk_len, uint32_t *rn, size_t rn_len, uint8_t *sk, size_t sk_len, uint32_t *sn, size_t sn_len,
+                        uint8_t *hk, size_t hk_len, uint32_t *hn, size_t hn_len, uint32_t *depth, size_t *used, size_t *position,
+                        size_t *first, uint8_t *kind, uint32_t *number);
+
+/* ---- what the boundary asks */
 static inline int stal_overlaps(const void *a, size_t n, const void *b, size_t m) {
     uintptr_t x = (uintptr_t)a, y = (uintptr_t)b;
     return n != 0 && m != 0 && (x < y ? y - x < n : x - y < m);
 }
 
+/* Bytes to read: not null, or none. */
+static inline int stal_readable(const uint8_t *bytes, size_t len) {
+    return bytes != NULL || len == 0;
+}
+
+/* Where they are. */
+static inline const uint8_t *stal_bytes(const uint8_t *bytes) {
+    static const uint8_t none = 0;
+    return bytes == NULL ? &none : bytes;
+}
+
+/* `size` bytes to write, and bytes to read that do not overlap them. */
+static inline int stal_lent(const void *lent, size_t size, const uint8_t *bytes, size_t len) {
+    return lent != NULL && stal_readable(bytes, len) && !stal_overlaps(lent, size, bytes, len);
+}
+
+static inline int stal_state_lent(const uint8_t *text, size_t len, const uint8_t *samples, size_t samples_len, const stal_state *s) {
+    return stal_lent(s, sizeof *s, text, len) && stal_lent(s, sizeof *s, samples, samples_len);
+}
+
+static inline int stal_both_lent(const uint8_t *text, size_t len, const uint8_t *samples, size_t samples_len, const stal_memory *m,
+                                 const stal_state *s) {
+    return stal_state_lent(text, len, samples, samples_len, s) && stal_lent(m, sizeof *m, text, len) &&
+           stal_lent(m, sizeof *m, samples, samples_len) && !stal_overlaps(m, sizeof *m, s, sizeof *s);
+}
+
+/* The slices of a state and of working memory, and where an answer goes. */
+#define STAL_STATE_OF(s) \
+    (s)->rk, STAL_REGISTERS, (s)->rn, STAL_REGISTERS, (s)->sk, STAL_STACK, (s)->sn, STAL_STACK, (s)->hk, STAL_HEAP, (s)->hn, STAL_HEAP, \
+        &(s)->depth, &(s)->used, &(s)->position
+#define STAL_MEMORY_OF(m) (m)->image, STAL_IMAGE, (m)->literals, STAL_LITERALS, (m)->plan, STAL_PLAN
+#define STAL_ANSWER_TO(a) &(a).first, &(a).kind, &(a).number
+
+/* ---- what to call */
 /* Check a text. */
 static inline stal_verdict stal_check_text(const uint8_t *text, size_t len) {
-    static const uint8_t none = 0;
     stal_verdict v = {STAL_MISUSE, 0, 100};
-    if (text == NULL && len != 0)
-        return v;
-    v.code = stal_check(text == NULL ? &none : text, len, &v.first, &v.second);
+    if (stal_readable(text, len))
+        v.code = stal_check(stal_bytes(text), len, &v.first, &v.second);
+    return v;
+}
+
+static inline stal_verdict stal_check_with(const uint8_t *text, size_t len, stal_memory *m) {
+    stal_verdict v = {STAL_MISUSE, 0, 100};
+    if (stal_lent(m, sizeof *m, text, len))
+        v.code = stal_check_in(stal_bytes(text), len, STAL_MEMORY_OF(m), m->work, STAL_WORK, &v.first, &v.second);
     return v;
 }
 
 /* Start a program: the text's faults that bar it, then 15, then 16, else at most `budget` steps (over 1,000,000 is taken as that).
    The state need not have been set: a start writes what a run reads. */
-static inline stal_answer stal_start_state(const uint8_t *text, size_t len, const uint8_t *samples, size_t samples_len, size_t budget, stal_state *s) {
-    static const uint8_t none = 0;
+static inline stal_answer stal_start_state(const uint8_t *text, size_t len, const uint8_t *samples, size_t samples_len, size_t budget,
+                                           stal_state *s) {
     stal_answer a = {STAL_MISUSE, 0, 0, 0};
-    if (s == NULL || (text == NULL && len != 0) || (samples == NULL && samples_len != 0))
-        return a;
-    if (stal_overlaps(text, len, s, sizeof *s) || stal_overlaps(samples, samples_len, s, sizeof *s))
-        return a;
-    a.code = stal_start(text == NULL ? &none : text, len, samples == NULL ? &none : samples, samples_len, budget,
-                        s->rk, STAL_REGISTERS, s->rn, STAL_REGISTERS, s->sk, STAL_STACK, s->sn, STAL_STACK,
-                        s->hk, STAL_HEAP, s->hn, STAL_HEAP, &s->depth, &s->used, &s->position, &a.first, &a.kind, &a.number);
+    if (stal_state_lent(text, len, samples, samples_len, s))
+        a.code = stal_start(stal_bytes(text), len, stal_bytes(samples), samples_len, budget, STAL_STATE_OF(s), STAL_ANSWER_TO(a));
+    return a;
+}
+
+static inline stal_answer stal_start_with(const uint8_t *text, size_t len, const uint8_t *samples, size_t samples_len, size_t budget,
+                                          stal_memory *m, stal_state *s) {
+    stal_answer a = {STAL_MISUSE, 0, 0, 0};
+    if (stal_both_lent(text, len, samples, samples_len, m, s))
+        a.code = stal_start_in(stal_bytes(text), len, stal_bytes(samples), samples_len, budget, STAL_MEMORY_OF(m), STAL_STATE_OF(s),
+                               STAL_ANSWER_TO(a));
     return a;
 }
 
 /* Continue a program from the state: the same faults of the text, then 16, else at most `budget` steps. */
 static inline stal_answer stal_continue_state(const uint8_t *text, size_t len, size_t budget, stal_state *s) {
-    static const uint8_t none = 0;
     stal_answer a = {STAL_MISUSE, 0, 0, 0};
-    if (s == NULL || (text == NULL && len != 0) || stal_overlaps(text, len, s, sizeof *s))
-        return a;
-    a.code = stal_continue(text == NULL ? &none : text, len, budget,
-                           s->rk, STAL_REGISTERS, s->rn, STAL_REGISTERS, s->sk, STAL_STACK, s->sn, STAL_STACK,
-                           s->hk, STAL_HEAP, s->hn, STAL_HEAP, &s->depth, &s->used, &s->position, &a.first, &a.kind, &a.number);
+    if (stal_state_lent(text, len, NULL, 0, s))
+        a.code = stal_continue(stal_bytes(text), len, budget, STAL_STATE_OF(s), STAL_ANSWER_TO(a));
     return a;
 }
+
+static inline stal_answer stal_continue_with(const uint8_t *text, size_t len, size_t budget, stal_memory *m, stal_state *s) {
+    stal_answer a = {STAL_MISUSE, 0, 0, 0};
+    if (stal_both_lent(text, len, NULL, 0, m, s))
+        a.code = stal_continue_in(stal_bytes(text), len, budget, STAL_MEMORY_OF(m), STAL_STATE_OF(s), STAL_ANSWER_TO(a));
+    return a;
+}
+
+#undef STAL_STATE_OF
+#undef STAL_MEMORY_OF
+#undef STAL_ANSWER_TO
 
 /* An integer's number, read as signed. */
 static inline int32_t stal_signed(uint32_t bits) {

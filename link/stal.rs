@@ -1,10 +1,19 @@
 //! The proved checker and machine for STAL programs, safe to call from Rust (libstal.a, made by `rt staticlib stal`; x86-64). No
 //! allocation, no static state, `core` only: firmware may include this file as it is. Slices and `&mut` meet everything that the boundary
-//! asks (not null, aligned, as long as they say, no overlap), and the state has the lengths that are wanted, so nothing is left to test.
+//! asks (not null, aligned, as long as they say, no overlap), and state and working memory have the lengths that are wanted, so nothing is
+//! left to test. Two kinds of calls, with the same answers: `check_with`, `start_with` and `resume_with` are lent working memory and need
+//! little stack, for firmware; `check`, `start` and `resume` put their tables on the stack, up to 1 MB of it.
+
+use core::cell::UnsafeCell;
+use core::sync::atomic::{AtomicBool, Ordering};
 
 pub const STACK: usize = 256;
 pub const HEAP: usize = 2048;
 pub const BUDGET: usize = 1_000_000;
+const IMAGE: usize = 259_998;
+const LITERALS: usize = 16_400;
+const PLAN: usize = 8_208;
+const WORK: usize = 4_096;
 
 extern "C" {
     fn stal_check(text: *const u8, text_len: usize, first: *mut usize, second: *mut usize) -> usize;
@@ -16,6 +25,25 @@ extern "C" {
     ) -> usize;
     fn stal_continue(
         text: *const u8, text_len: usize, budget: usize,
+        rk: *mut u8, rk_len: usize, rn: *mut u32, rn_len: usize, sk: *mut u8, sk_len: usize, sn: *mut u32, sn_len: usize,
+        hk: *mut u8, hk_len: usize, hn: *mut u32, hn_len: usize, depth: *mut u32, used: *mut usize, position: *mut usize,
+        first: *mut usize, kind: *mut u8, number: *mut u32,
+    ) -> usize;
+    fn stal_check_in(
+        text: *const u8, text_len: usize,
+        image: *mut u16, image_len: usize, literals: *mut u32, literals_len: usize, plan: *mut u32, plan_len: usize,
+        work: *mut u16, work_len: usize, first: *mut usize, second: *mut usize,
+    ) -> usize;
+    fn stal_start_in(
+        text: *const u8, text_len: usize, samples: *const u8, samples_len: usize, budget: usize,
+        image: *mut u16, image_len: usize, literals: *mut u32, literals_len: usize, plan: *mut u32, plan_len: usize,
+        rk: *mut u8, rk_len: usize, rn: *mut u32, rn_len: usize, sk: *mut u8, sk_len: usize, sn: *mut u32, sn_len: usize,
+        hk: *mut u8, hk_len: usize, hn: *mut u32, hn_len: usize, depth: *mut u32, used: *mut usize, position: *mut usize,
+        first: *mut usize, kind: *mut u8, number: *mut u32,
+    ) -> usize;
+    fn stal_continue_in(
+        text: *const u8, text_len: usize, budget: usize,
+        image: *mut u16, image_len: usize, literals: *mut u32, literals_len: usize, plan: *mut u32, plan_len: usize,
         rk: *mut u8, rk_len: usize, rn: *mut u32, rn_len: usize, sk: *mut u8, sk_len: usize, sn: *mut u32, sn_len: usize,
         hk: *mut u8, hk_len: usize, hn: *mut u32, hn_len: usize, depth: *mut u32, used: *mut usize, position: *mut usize,
         first: *mut usize, kind: *mut u8, number: *mut u32,
@@ -86,6 +114,45 @@ impl Default for State {
     }
 }
 
+/// Working memory, laid out as stal_memory of stal.h: 627 KB. What it holds changes no answer.
+#[repr(C)]
+pub struct Memory {
+    image: [u16; IMAGE],
+    work: [u16; WORK],
+    literals: [u32; LITERALS],
+    plan: [u32; PLAN],
+}
+
+impl Memory {
+    /// For a static: `static MEMORY: Static<Memory> = Static::new(Memory::new());` is all zeros, so it takes no room in the program's file.
+    pub const fn new() -> Memory {
+        Memory { image: [0; IMAGE], work: [0; WORK], literals: [0; LITERALS], plan: [0; PLAN] }
+    }
+}
+
+/// A value in a static, for whoever takes it first.
+pub struct Static<T> {
+    taken: AtomicBool,
+    value: UnsafeCell<T>,
+}
+
+// Only `take` leads to the value, and only once.
+unsafe impl<T: Send> Sync for Static<T> {}
+
+impl<T> Static<T> {
+    pub const fn new(value: T) -> Static<T> {
+        Static { taken: AtomicBool::new(false), value: UnsafeCell::new(value) }
+    }
+
+    /// The value, to be lent to one call after another; None if it was taken before.
+    pub fn take(&'static self) -> Option<&'static mut T> {
+        if self.taken.swap(true, Ordering::Relaxed) {
+            return None;
+        }
+        Some(unsafe { &mut *self.value.get() })
+    }
+}
+
 fn word(kind: u8, number: u32) -> Word {
     match kind {
         0 => Word::Int(number as i32),
@@ -107,14 +174,31 @@ fn answer(code: usize, first: usize, kind: u8, number: u32) -> Result<Stop, Refu
     }
 }
 
-/// Check a program's text.
-pub fn check(text: &[u8]) -> Result<Counts, Refusal> {
-    let (mut first, mut second) = (0, 0);
-    let code = unsafe { stal_check(text.as_ptr(), text.len(), &mut first, &mut second) };
+fn verdict(code: usize, first: usize, second: usize) -> Result<Counts, Refusal> {
     match code {
         0 => Ok(Counts { blocks: first, instructions: second }),
         _ => Err(Refusal { number: code, line: first, item: if second == 100 { None } else { Some(second) } }),
     }
+}
+
+/// Check a program's text.
+pub fn check(text: &[u8]) -> Result<Counts, Refusal> {
+    let (mut first, mut second) = (0, 0);
+    let code = unsafe { stal_check(text.as_ptr(), text.len(), &mut first, &mut second) };
+    verdict(code, first, second)
+}
+
+/// Check a program's text in the memory lent.
+pub fn check_with(text: &[u8], m: &mut Memory) -> Result<Counts, Refusal> {
+    let (mut first, mut second) = (0, 0);
+    let code = unsafe {
+        stal_check_in(
+            text.as_ptr(), text.len(),
+            m.image.as_mut_ptr(), IMAGE, m.literals.as_mut_ptr(), LITERALS, m.plan.as_mut_ptr(), PLAN, m.work.as_mut_ptr(), WORK,
+            &mut first, &mut second,
+        )
+    };
+    verdict(code, first, second)
 }
 
 /// Start a program on its samples' text, with at most `budget` steps.
@@ -131,12 +215,42 @@ pub fn start(text: &[u8], samples: &[u8], budget: usize, s: &mut State) -> Resul
     answer(code, first, kind, number)
 }
 
+/// Start a program in the memory lent.
+pub fn start_with(text: &[u8], samples: &[u8], budget: usize, m: &mut Memory, s: &mut State) -> Result<Stop, Refusal> {
+    let (mut first, mut kind, mut number) = (0, 0, 0);
+    let code = unsafe {
+        stal_start_in(
+            text.as_ptr(), text.len(), samples.as_ptr(), samples.len(), budget,
+            m.image.as_mut_ptr(), IMAGE, m.literals.as_mut_ptr(), LITERALS, m.plan.as_mut_ptr(), PLAN,
+            s.rk.as_mut_ptr(), 8, s.rn.as_mut_ptr(), 8, s.sk.as_mut_ptr(), STACK, s.sn.as_mut_ptr(), STACK,
+            s.hk.as_mut_ptr(), HEAP, s.hn.as_mut_ptr(), HEAP, &mut s.depth, &mut s.used, &mut s.position,
+            &mut first, &mut kind, &mut number,
+        )
+    };
+    answer(code, first, kind, number)
+}
+
 /// Continue a program from the state, with at most `budget` steps.
 pub fn resume(text: &[u8], budget: usize, s: &mut State) -> Result<Stop, Refusal> {
     let (mut first, mut kind, mut number) = (0, 0, 0);
     let code = unsafe {
         stal_continue(
             text.as_ptr(), text.len(), budget,
+            s.rk.as_mut_ptr(), 8, s.rn.as_mut_ptr(), 8, s.sk.as_mut_ptr(), STACK, s.sn.as_mut_ptr(), STACK,
+            s.hk.as_mut_ptr(), HEAP, s.hn.as_mut_ptr(), HEAP, &mut s.depth, &mut s.used, &mut s.position,
+            &mut first, &mut kind, &mut number,
+        )
+    };
+    answer(code, first, kind, number)
+}
+
+/// Continue a program in the memory lent.
+pub fn resume_with(text: &[u8], budget: usize, m: &mut Memory, s: &mut State) -> Result<Stop, Refusal> {
+    let (mut first, mut kind, mut number) = (0, 0, 0);
+    let code = unsafe {
+        stal_continue_in(
+            text.as_ptr(), text.len(), budget,
+            m.image.as_mut_ptr(), IMAGE, m.literals.as_mut_ptr(), LITERALS, m.plan.as_mut_ptr(), PLAN,
             s.rk.as_mut_ptr(), 8, s.rn.as_mut_ptr(), 8, s.sk.as_mut_ptr(), STACK, s.sn.as_mut_ptr(), STACK,
             s.hk.as_mut_ptr(), HEAP, s.hn.as_mut_ptr(), HEAP, &mut s.depth, &mut s.used, &mut s.position,
             &mut first, &mut kind, &mut number,

@@ -1,10 +1,13 @@
-/* Weigh a load with the proved library: check program T, run it on the samples 41200 and 15600, then once more in two calls. */
+/* Weigh a load with the proved library: check program T, run it on the samples 41200 and 15600, then once more in two calls,
+   in working memory that is static, as in firmware; at the end with the tables on the stack. */
 #include "stal.h"
 #include <stdio.h>
 #include <string.h>
 
 static const char program[] = "I\nU,0,0\nE\nC,-,2,1,-,-,-,-,-,-,-\nB,3\nld,r2,r1,0\nld,r3,r1,1\nsub,r1,r2,r3\nhalt,0\n";
 static const char samples[] = "41200\n15600\n";
+static stal_memory memory;
+static stal_state state;
 
 static void print_verdict(stal_verdict v) {
     if (v.code == STAL_ACCEPTED)
@@ -29,15 +32,18 @@ static void print_answer(stal_answer a) {
 int main(void) {
     const uint8_t *text = (const uint8_t *)program, *load = (const uint8_t *)samples;
     size_t n = strlen(program), m = strlen(samples);
-    stal_state state;
+    print_verdict(stal_check_with(text, n, &memory));
+    print_answer(stal_start_with(text, n, load, m, STAL_BUDGET, &memory, &state));
+    print_answer(stal_start_with(text, n, load, m, 2, &memory, &state));
+    print_answer(stal_continue_with(text, n, STAL_BUDGET, &memory, &state));
+    /* what the boundary answers: no text, a load that does not fit, a damaged state */
+    print_verdict(stal_check_with(NULL, 0, &memory));
+    print_answer(stal_start_with(text, n, load, m - 1, 1, &memory, &state));
+    state.depth = 257;
+    print_answer(stal_continue_with(text, n, 1, &memory, &state));
+    /* with the tables on the stack */
     print_verdict(stal_check_text(text, n));
-    print_answer(stal_start_state(text, n, load, m, STAL_BUDGET, &state));
     print_answer(stal_start_state(text, n, load, m, 2, &state));
     print_answer(stal_continue_state(text, n, STAL_BUDGET, &state));
-    /* what the boundary answers: no text, a load that does not fit, a damaged state */
-    print_verdict(stal_check_text(NULL, 0));
-    print_answer(stal_start_state(text, n, load, m - 1, 1, &state));
-    state.depth = 257;
-    print_answer(stal_continue_state(text, n, 1, &state));
     return 0;
 }

@@ -1,7 +1,6 @@
 /* Pass three: faults 7 to 14. Equal types get one number each (rows are taken in order, each looked up by a hash of its parts), a stack
    type being the list of its items, bottom first, the top last. So types are compared by number and stacks by memcmp. */
 #include "program.h"
-#include <stdlib.h>
 #include <string.h>
 
 enum { SLOTS = 2048, UNKNOWN = 0xffff, STACK_VAR = 0x8000, SP = 64, NO_I = 0x7ffe, NO_N = 0x7ffd }; /* NO_I, NO_N: no such row */
@@ -18,9 +17,8 @@ typedef struct {
     uint64_t free[ROWS];    /* variables of the row's type */
     uint32_t hash[ROWS];
     uint16_t slot[SLOTS];
-    uint16_t *items, *room; /* items of all lists; a large text gets more from malloc */
-    uint32_t nitems, cap;
-    uint16_t near[16384];
+    uint16_t items[ROWS * 4096]; /* of all lists; one has no more than its row's size */
+    uint32_t nitems;
     uint16_t int_type, junk_type;
     /* the block at hand */
     uint16_t regs[8], sp[SP];
@@ -38,26 +36,12 @@ static inline const uint16_t *items_of(const check_t *c, unsigned r) {
     return c->items + c->list[r].at;
 }
 
-static void reserve(check_t *c, uint32_t n) {
-    if (c->nitems + n <= c->cap)
-        return;
-    uint32_t cap = 2 * (c->nitems + n);
-    uint16_t *more = malloc(cap * sizeof *more);
-    if (!more)
-        abort();
-    memcpy(more, c->items, c->nitems * sizeof *more);
-    free(c->room);
-    c->items = c->room = more;
-    c->cap = cap;
-}
-
 /* the list of stack row r */
 static void make_list(check_t *c, unsigned r) {
     const row_t *x = &c->p->rows[r];
     const uint16_t *part = &c->p->parts[x->at];
     list_t l = {c->nitems, 0, 1, c->free[r]};
     if (x->kind == X) {
-        reserve(c, 1);
         c->items[c->nitems++] = (uint16_t)(STACK_VAR | x->k);
         l.len = 1;
         l.hash = mix(1, STACK_VAR | x->k);
@@ -66,19 +50,16 @@ static void make_list(check_t *c, unsigned r) {
         l.at = c->list[s].at;
         l.len = c->list[s].len;
         if (l.at + l.len != c->nitems) { /* not the last made: copy */
-            reserve(c, l.len + 1);
             memcpy(c->items + c->nitems, c->items + l.at, l.len * sizeof(uint16_t));
             l.at = c->nitems;
             c->nitems += l.len;
         }
-        reserve(c, 1);
         c->items[c->nitems++] = c->id[part[0]];
         l.hash = mix(c->list[s].hash, c->id[part[0]]);
         l.len++;
     } else if (x->kind == A) {
         unsigned t = c->id[part[0]], s = c->id[part[1]];
         l.len = c->list[s].len + c->list[t].len;
-        reserve(c, l.len);
         memcpy(c->items + c->nitems, items_of(c, s), c->list[s].len * sizeof(uint16_t));
         c->nitems += c->list[s].len;
         const uint16_t *top = items_of(c, t);
@@ -583,19 +564,14 @@ static plain_verdict pass_three(check_t *c) {
 }
 
 plain_verdict plain_check(const uint8_t *text, size_t len) {
-    program_t p;
+    static program_t p;
+    static check_t c;
     fault_t f = pass_one(&p, text, len);
     if (!f.number)
         f = pass_two(&p);
     if (f.number)
         return (plain_verdict){f.number, f.line, 100};
-    check_t c;
     c.p = &p;
-    c.items = c.near;
-    c.room = NULL;
-    c.cap = sizeof c.near / sizeof *c.near;
     c.nitems = 0;
-    plain_verdict v = pass_three(&c);
-    free(c.room);
-    return v;
+    return pass_three(&c);
 }

@@ -368,9 +368,10 @@ static int good_form(const program_t *p, const plain_state *st) {
     return 1;
 }
 
+static program_t p;
+static step_t code[INSTRS];
+
 plain_answer plain_start(const uint8_t *text, size_t len, const uint8_t *samples, size_t slen, size_t budget, plain_state *st) {
-    program_t p;
-    step_t code[INSTRS];
     uint32_t xs[16];
     unsigned want;
     fault_t f = load(&p, text, len, &want);
@@ -395,8 +396,6 @@ plain_answer plain_start(const uint8_t *text, size_t len, const uint8_t *samples
 }
 
 plain_answer plain_resume(const uint8_t *text, size_t len, size_t budget, plain_state *st) {
-    program_t p;
-    step_t code[INSTRS];
     unsigned want;
     fault_t f = load(&p, text, len, &want);
     if (f.number)

@@ -1,4 +1,5 @@
-/* A plain C checker and machine for the text form of document 01, written for speed and not proved: what the bench measures against. */
+/* A plain C checker and machine for the text form of document 01, written for speed and not proved: what the bench measures against.
+   Its tables are static, and nothing of an earlier call is read. */
 #ifndef PLAIN_H
 #define PLAIN_H
 #include <stddef.h>

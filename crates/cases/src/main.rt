@@ -393,9 +393,26 @@ fn take_samples(at: usize, end: usize, b: Bench) -> Bench {
     next
 }
 
+// What check answers with working memory lent, which holds junk.
+fn check_lent(text: &[u8]) -> Answer {
+    let mut image = [42405u16; 259998];
+    let mut literals = [2779096485u32; 16400];
+    let mut plan = [2779096485u32; 8208];
+    let mut work = [42405u16; 4096];
+    checker::check_in(text, &mut image, &mut literals, &mut plan, &mut work)
+}
+
+// Check answers as the line says, with and without working memory lent.
+fn both_answer(line: &[u8], text: &[u8]) -> bool {
+    if is_answer(line, checker::check(text)) {
+        return is_answer(line, check_lent(text));
+    }
+    false
+}
+
 // `a number line 0 marks`, or `a 0 blocks instructions`: what check answers.
 fn try_check(line: &[u8], text: &[u8], b: Bench) -> Bench {
-    let agrees = is_answer(line, checker::check(text));
+    let agrees = both_answer(line, text);
     let mut next = b;
     next.checks = one_more(b.checks);
     next.differences = more_unless(b.differences, agrees);
@@ -545,7 +562,57 @@ fn give_numbers(numbers: &mut [u32], at: usize, area: &[u32])
     }
 }
 
-// Start, or continue.
+// Start, or continue, with working memory lent, which holds junk.
+fn call_in(
+    line: &[u8],
+    text: &[u8],
+    samples: &[u8],
+    rk: &mut [u8],
+    rn: &mut [u32],
+    sk: &mut [u8],
+    sn: &mut [u32],
+    hk: &mut [u8],
+    hn: &mut [u32],
+    place: Place,
+) -> Outcome {
+    let mut image = [42405u16; 259998];
+    let mut literals = [2779096485u32; 16400];
+    let mut plan = [2779096485u32; 8208];
+    let budget = field(line, 0);
+    if byte(line, 0) == b'g' {
+        return execute::lent::start(
+            text,
+            samples,
+            budget,
+            &mut image,
+            &mut literals,
+            &mut plan,
+            rk,
+            rn,
+            sk,
+            sn,
+            hk,
+            hn,
+            place,
+        );
+    }
+    execute::lent::resume(
+        text,
+        budget,
+        &mut image,
+        &mut literals,
+        &mut plan,
+        rk,
+        rn,
+        sk,
+        sn,
+        hk,
+        hn,
+        place,
+    )
+}
+
+// Start, or continue: a text of even length with working memory on the stack, one of odd length with it lent.
 fn call(
     line: &[u8],
     text: &[u8],
@@ -558,6 +625,9 @@ fn call(
     hn: &mut [u32],
     place: Place,
 ) -> Outcome {
+    if text.len() % 2 == 1 {
+        return call_in(line, text, samples, rk, rn, sk, sn, hk, hn, place);
+    }
     let budget = field(line, 0);
     if byte(line, 0) == b'g' {
         return execute::start(text, samples, budget, rk, rn, sk, sn, hk, hn, place);

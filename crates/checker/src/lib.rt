@@ -1,12 +1,30 @@
 // Check a program's text (document 01). Promised, of every text: the verdict of crate valid, accepted with the counts of blocks and
 // instructions, or the number and the line; for 10 at a jump or branch also an item that does not fit, one of those that the definition
-// lists (crate valid_verdict). Nothing is asked. The tables stand on the stack, some 580 KB (module attempt of valid_check).
+// lists (crate valid_verdict). Nothing is asked. `check` puts its working memory on the stack, some 620 KB for a large text (module attempt of
+// valid_check); `check_in` is lent it, whatever it holds (module lent): where it is too short it answers 16, line 0; what it holds afterwards
+// is free.
 use valid_verdict::Answer;
+ghost use lib.ListN.{length};
 ghost use Rattle.valid_verdict.specs.Answers.{Answers};
+ghost use Rattle.valid_check.specs.Lent.{enough, AnswersIn};
 
 // What check answers on a text.
 pub fn check(text: &[u8]) -> Answer
     ensures { λ out. ⌜ Answers (now (text .entry)) out ⌝ }
 {
     valid_check::attempt::check(text)
+}
+
+// What check answers on a text, with working memory lent: an image of 259,998 entries, 16,400 numbers, a plan of 8,208 and work of 4,096
+// are enough for every text.
+pub fn check_in(
+    text: &[u8],
+    image: &mut [u16],
+    numbers: &mut [u32],
+    plan: &mut [u32],
+    work: &mut [u16],
+) -> Answer
+    ensures { λ out. ⌜ AnswersIn (enough (length (now (image .entry))) (length (now (numbers .entry))) (length (now (plan .entry))) (length (now (work .entry)))) (now (text .entry)) out ⌝ }
+{
+    valid_check::lent::check(text, image, numbers, plan, work)
 }

@@ -1,5 +1,5 @@
-// A call, the start of a run or its continuation, with tables of one size on the stack: `small` for texts that fit its tables, `large` for
-// every text (some 560 KB). Promised: the answer and the whole lent state, as `starting` and `continuing` of crate exec have them, of
+// A call, the start of a run or its continuation, with working memory on the stack: `small` for texts that fit its image, `large` for
+// every text (some 600 KB). Promised: the answer and the whole lent state, as `starting` and `continuing` of crate exec have them, of
 // `small` only where the text fits; where it does not, the lent state is as it was. `call` tries the small ones first where the text is
 // short. Nothing is asked. rk and rn are the registers' kinds and numbers, sk and sn the stack's, hk and hn the heap's; `place` says how
 // much is in use.
@@ -12,7 +12,8 @@ use crate::call_in;
 use exec_machine::Place;
 use exec_outcome::Outcome;
 
-// With tables for small texts.
+// With working memory for small texts. No text is as long as asked first, so the call there is not reached; by it the compiler sees a function
+// that calls itself, and keeps the stack that it takes out of the calls for large texts.
 fn small(
     first: bool,
     text: &[u8],
@@ -28,30 +29,19 @@ fn small(
 ) -> Tried
     ensures { λ r. ⌜ Tries (r .fits) (outcomeIs (r .outcome) (now (rk .exit)) (now (rn .exit)) (now (sk .exit)) (now (sn .exit)) (now (hk .exit)) (now (hn .exit))) (called first (now (text .entry)) (now (samples .entry)) budget (stateOf (now (rk .entry)) (now (rn .entry)) (now (sk .entry)) (now (sn .entry)) (now (hk .entry)) (now (hn .entry)) place)) (stateOf (now (rk .exit)) (now (rn .exit)) (now (sk .exit)) (now (sn .exit)) (now (hk .exit)) (now (hn .exit)) place) (stateOf (now (rk .entry)) (now (rn .entry)) (now (sk .entry)) (now (sn .entry)) (now (hk .entry)) (now (hn .entry)) place) ⌝ }
 {
-    let mut rows = [0u16; 168];
-    let mut parts = [0u16; 697];
-    let mut operands = [0u16; 512];
+    if 9223372036854775807 < text.len() {
+        return small(first, text, samples, budget, rk, rn, sk, sn, hk, hn, place);
+    }
+    let mut image = [0u16; 5899];
     let mut numbers = [0u32; 128];
-    let mut args = [0u16; 1024];
-    let mut instrs = [0u16; 768];
-    let mut blocks = [0u16; 130];
-    let mut uses = [0u8; 2560];
-    let mut tops = [0u16; 40];
     let mut plan = [0u32; 776];
     call_in(
         first,
         text,
         samples,
         budget,
-        &mut rows,
-        &mut parts,
-        &mut operands,
+        &mut image,
         &mut numbers,
-        &mut args,
-        &mut instrs,
-        &mut blocks,
-        &mut uses,
-        &mut tops,
         &mut plan,
         rk,
         rn,
@@ -63,8 +53,8 @@ fn small(
     )
 }
 
-// With tables for every text. The last line is not reached; with the test before it the compiler keeps this function, and the
-// stack that it takes, out of the calls for small texts.
+// With working memory for every text. The last call is not reached; by it the compiler sees a function that calls itself, and keeps it, and
+// the stack that it takes, out of the calls for small texts.
 fn large(
     first: bool,
     text: &[u8],
@@ -80,30 +70,16 @@ fn large(
 ) -> Outcome
     ensures { λ r. ⌜ outcomeIs r (now (rk .exit)) (now (rn .exit)) (now (sk .exit)) (now (sn .exit)) (now (hk .exit)) (now (hn .exit)) ≡ called first (now (text .entry)) (now (samples .entry)) budget (stateOf (now (rk .entry)) (now (rn .entry)) (now (sk .entry)) (now (sn .entry)) (now (hk .entry)) (now (hn .entry)) place) ⌝ }
 {
-    let mut rows = [0u16; 2056];
-    let mut parts = [0u16; 8738];
-    let mut operands = [0u16; 65600];
+    let mut image = [0u16; 249204];
     let mut numbers = [0u32; 16400];
-    let mut args = [0u16; 131200];
-    let mut instrs = [0u16; 8200];
-    let mut blocks = [0u16; 130];
-    let mut uses = [0u8; 32768];
-    let mut tops = [0u16; 512];
     let mut plan = [0u32; 8208];
     let r = call_in(
         first,
         text,
         samples,
         budget,
-        &mut rows,
-        &mut parts,
-        &mut operands,
+        &mut image,
         &mut numbers,
-        &mut args,
-        &mut instrs,
-        &mut blocks,
-        &mut uses,
-        &mut tops,
         &mut plan,
         rk,
         rn,
@@ -116,10 +92,10 @@ fn large(
     if r.fits {
         return r.outcome;
     }
-    exec_outcome::refuse(0, 0, place)
+    large(first, text, samples, budget, rk, rn, sk, sn, hk, hn, place)
 }
 
-// A call with the tables that its text fits.
+// A call with the working memory that its text fits.
 pub fn call(
     first: bool,
     text: &[u8],

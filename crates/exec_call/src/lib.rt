@@ -1,10 +1,11 @@
-// A call, the start of a run or its continuation, with the tables lent: `call_in` reads the text into them and, where nothing bars the
-// program, runs it. Promised: whether the text fits the tables, which every text does where they have `Space`; where it fits, the answer
-// and the whole lent state, as `starting` and `continuing` of crate exec have them; where it does not, the lent state is as it was. Asked:
-// `plan`, which is to hold the machine's own rows, eight entries longer than the instructions' table. Module attempt lends tables of one
-// size, and takes those that the text fits. rk and rn are the registers' kinds and numbers, sk and sn the stack's, hk and hn the heap's;
-// `place` says how much is in use.
+// A call, the start of a run or its continuation, with working memory lent, whatever it holds: `call_in` reads the text into the image
+// and, where nothing bars the program, runs it. Promised: whether the text fits the image, which every text does where it has room
+// (`SpaceIn`); where it fits, the answer and the whole lent state, as `starting` and `continuing` of crate exec have them; where it does
+// not, the lent state is as it was. Asked: `plan`, which is to hold the machine's own rows, eight entries longer than the instructions'
+// section. Module attempt puts working memory on the stack, module lent takes it from the caller. rk and rn are the registers' kinds and
+// numbers, sk and sn the stack's, hk and hn the heap's; `place` says how much is in use.
 pub mod attempt;
+pub mod lent;
 
 ghost use mathlib.Core.Path.{_≡_};
 ghost use mathlib.Core.Bool.{true};
@@ -14,15 +15,17 @@ ghost use lib.ListN.{length};
 ghost use Rattle.text.specs.Samples.{samplesOf};
 ghost use Rattle.valid.specs.Program.{Program};
 ghost use Rattle.exec.specs.Run.{bodies, wanted};
-ghost use Rattle.exec_machine.specs.Step.{tables, stateOf};
+ghost use Rattle.image.specs.Sections.{Ordered};
+ghost use Rattle.exec_machine.specs.Step.{stateOf};
 ghost use Rattle.exec_machine.specs.Represents.{Represents, Fit};
-ghost use Rattle.text_decode.specs.store.Store.{store};
-ghost use Rattle.load.specs.Loaded.{Space};
+ghost use Rattle.load.specs.Loaded.{SpaceIn};
 ghost use Rattle.exec_outcome.specs.Answers.{outcomeIs};
 ghost use Rattle.exec_launch.specs.Startable.{Unbarred};
-ghost use Rattle.exec_call.specs.Tries.{called, ranOn, Tries};
+ghost use Rattle.exec_call.specs.Tries.{tablesIn, PlanFits, called, ranOn, Tries};
 use exec_machine::Place;
 use exec_outcome::Outcome;
+use exec_ready::Ready;
+use image::Places;
 
 // Whether a text fits the tables, and the outcome if it does.
 pub struct Tried {
@@ -30,18 +33,15 @@ pub struct Tried {
     pub outcome: Outcome,
 }
 
-// A run of the program that stands in the tables: the first call of a run starts it, another goes on.
+// A run of the program that stands in the image: the first call of a run starts it, another goes on.
 fn run_in(
     first: bool,
     samples: &[u8],
-    want: usize,
     budget: usize,
-    instrs: &[u16],
-    operands: &[u16],
+    image: &[u16],
     numbers: &[u32],
-    blocks: &[u16],
-    count: usize,
-    labels: usize,
+    p: Places,
+    r: Ready,
     plan: &mut [u32],
     rk: &mut [u8],
     rn: &mut [u32],
@@ -51,19 +51,24 @@ fn run_in(
     hn: &mut [u32],
     place: Place,
 ) -> Outcome
-    requires { ⌜ (want ≤ 16) × Fit (tables (now instrs) (now operands) (now numbers) (now blocks) count labels) × (8 * count + 8 ≤ length (now plan)) × Unbarred (tables (now instrs) (now operands) (now numbers) (now blocks) count labels) ⌝ }
-    ensures { λ r. ⌜ ((args : List ℕ) (P : Program) → Represents (tables (now (instrs .entry)) (now (operands .entry)) (now (numbers .entry)) (now (blocks .entry)) count labels) args (bodies P) → want ≡ wanted (P .blocks) → outcomeIs r (now (rk .exit)) (now (rn .exit)) (now (sk .exit)) (now (sn .exit)) (now (hk .exit)) (now (hn .exit)) ≡ ranOn first P (samplesOf (now (samples .entry))) budget (stateOf (now (rk .entry)) (now (rn .entry)) (now (sk .entry)) (now (sn .entry)) (now (hk .entry)) (now (hn .entry)) place)) ⌝ }
+    requires { ⌜ Ordered p (length (now image)) × (r .samples ≤ 16) × Fit (tablesIn p (now image) (now numbers) r) × (8 * r .instrs + 8 ≤ length (now plan)) × Unbarred (tablesIn p (now image) (now numbers) r) ⌝ }
+    ensures { λ out. ⌜ ((args : List ℕ) (P : Program) → Represents (tablesIn p (now (image .entry)) (now (numbers .entry)) r) args (bodies P) → r .samples ≡ wanted (P .blocks) → outcomeIs out (now (rk .exit)) (now (rn .exit)) (now (sk .exit)) (now (sn .exit)) (now (hk .exit)) (now (hn .exit)) ≡ ranOn first P (samplesOf (now (samples .entry))) budget (stateOf (now (rk .entry)) (now (rn .entry)) (now (sk .entry)) (now (sn .entry)) (now (hk .entry)) (now (hn .entry)) place)) ⌝ }
 {
+    let blocks = p.blocks;
+    let instrs = p.instrs;
+    let parts = p.parts;
+    let operands = p.operands;
+    let args = p.args;
     if first {
         return exec_launch::start_ready(
             samples,
-            want,
-            instrs,
-            operands,
+            r.samples,
+            &image[instrs..parts],
+            &image[operands..args],
             numbers,
-            blocks,
-            count,
-            labels,
+            &image[blocks..instrs],
+            r.instrs,
+            r.blocks,
             plan,
             rk,
             rn,
@@ -76,12 +81,12 @@ fn run_in(
         );
     }
     exec_launch::resume_ready(
-        instrs,
-        operands,
+        &image[instrs..parts],
+        &image[operands..args],
         numbers,
-        blocks,
-        count,
-        labels,
+        &image[blocks..instrs],
+        r.instrs,
+        r.blocks,
         plan,
         rk,
         rn,
@@ -94,21 +99,14 @@ fn run_in(
     )
 }
 
-// A call, with the tables lent: whether the text fits them; where it does not, the lent state is as it was.
+// A call, with working memory lent: whether the text fits the image; where it does not, the lent state is as it was.
 pub(crate) fn call_in(
     first: bool,
     text: &[u8],
     samples: &[u8],
     budget: usize,
-    rows: &mut [u16],
-    parts: &mut [u16],
-    operands: &mut [u16],
+    image: &mut [u16],
     numbers: &mut [u32],
-    args: &mut [u16],
-    instrs: &mut [u16],
-    blocks: &mut [u16],
-    uses: &mut [u8],
-    tops: &mut [u16],
     plan: &mut [u32],
     rk: &mut [u8],
     rn: &mut [u32],
@@ -118,21 +116,10 @@ pub(crate) fn call_in(
     hn: &mut [u32],
     place: Place,
 ) -> Tried
-    requires { ⌜ length (now instrs) + 8 ≤ length (now plan) ⌝ }
-    ensures { λ r. ⌜ (Space (store (now (rows .entry)) (now (parts .entry)) (now (operands .entry)) (now (numbers .entry)) (now (args .entry)) (now (instrs .entry)) (now (blocks .entry))) (length (now (uses .entry))) (length (now (tops .entry))) → r .fits ≡ true) × Tries (r .fits) (outcomeIs (r .outcome) (now (rk .exit)) (now (rn .exit)) (now (sk .exit)) (now (sn .exit)) (now (hk .exit)) (now (hn .exit))) (called first (now (text .entry)) (now (samples .entry)) budget (stateOf (now (rk .entry)) (now (rn .entry)) (now (sk .entry)) (now (sn .entry)) (now (hk .entry)) (now (hn .entry)) place)) (stateOf (now (rk .exit)) (now (rn .exit)) (now (sk .exit)) (now (sn .exit)) (now (hk .exit)) (now (hn .exit)) place) (stateOf (now (rk .entry)) (now (rn .entry)) (now (sk .entry)) (now (sn .entry)) (now (hk .entry)) (now (hn .entry)) place) ⌝ }
+    requires { ⌜ PlanFits (length (now image)) (length (now plan)) ⌝ }
+    ensures { λ r. ⌜ (SpaceIn (now (image .entry)) (now (numbers .entry)) → r .fits ≡ true) × Tries (r .fits) (outcomeIs (r .outcome) (now (rk .exit)) (now (rn .exit)) (now (sk .exit)) (now (sn .exit)) (now (hk .exit)) (now (hn .exit))) (called first (now (text .entry)) (now (samples .entry)) budget (stateOf (now (rk .entry)) (now (rn .entry)) (now (sk .entry)) (now (sn .entry)) (now (hk .entry)) (now (hn .entry)) place)) (stateOf (now (rk .exit)) (now (rn .exit)) (now (sk .exit)) (now (sn .exit)) (now (hk .exit)) (now (hn .exit)) place) (stateOf (now (rk .entry)) (now (rn .entry)) (now (sk .entry)) (now (sn .entry)) (now (hk .entry)) (now (hn .entry)) place) ⌝ }
 {
-    let r = exec_ready::make_ready(
-        text,
-        rows,
-        parts,
-        operands,
-        numbers,
-        args,
-        instrs,
-        blocks,
-        uses,
-        tops,
-    );
+    let r = exec_ready::make_ready(text, image, numbers);
     if !r.fits {
         return Tried {
             fits: false,
@@ -146,19 +133,17 @@ pub(crate) fn call_in(
             outcome: exec_outcome::refuse(fault, r.line, place),
         };
     }
+    let p = image::lay_out(image.len());
     Tried {
         fits: true,
         outcome: run_in(
             first,
             samples,
-            r.samples,
             budget,
-            instrs,
-            operands,
+            image,
             numbers,
-            blocks,
-            r.instrs,
-            r.blocks,
+            p,
+            r,
             plan,
             rk,
             rn,

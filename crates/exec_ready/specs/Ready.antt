@@ -11,6 +11,7 @@ use Rattle.valid.specs.Program.{Program, programOf}
 use Rattle.exec.specs.Run.{bodies, wanted, barred}
 use Rattle.exec_machine.specs.Step.{tables}
 use Rattle.exec_machine.specs.Represents.{Represents, Fit}
+use Rattle.text_decode.specs.store.Store.{stored}
 use Rattle.exec_ready.specs.declared.Ready.{Ready}
 
 -- the answer where the text does not fit the tables
@@ -38,3 +39,8 @@ pub record Startable (P : Program) (instrs operands numbers blocks : List ℕ) (
 pub record ReadyIs (text instrs operands numbers blocks : List ℕ) (r : Ready) : Type 0 where
   pub fault : refusalOf r ≡ barred text
   pub startable : r .fault ≡ 0 → Startable (programOf text) instrs operands numbers blocks r
+
+-- the same of the tables in an image
+abbrev pub ReadyIn : List ℕ → List ℕ → List ℕ → Ready → Type 0
+ReadyIn text image numbers r =
+    ReadyIs text (stored image numbers .instrs) (stored image numbers .operands) numbers (stored image numbers .blocks) r

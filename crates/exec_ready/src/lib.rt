@@ -14,12 +14,13 @@ ghost use Rattle.types.specs.Rows.{typeAt, typesOf};
 ghost use Rattle.tables.specs.Tables.{cell, rowsIn};
 ghost use Rattle.types_rows.specs.Read.{tab, CountedTo};
 ghost use Rattle.valid.specs.Program.{blockOf};
-ghost use Rattle.valid.specs.PassThree.{blockFaults};
+ghost use Rattle.valid.specs.PassThree.{declared, blockFaults};
 ghost use Rattle.valid_scope.specs.Scoped.{Scoped};
-ghost use Rattle.text_decode.specs.store.Store.{store};
+ghost use Rattle.image.specs.Sections.{Ordered, rowSection, blockSection, partSection, useSection, topSection};
 ghost use Rattle.text_decode.specs.Decoded.{Fitting};
-ghost use Rattle.load.specs.Loaded.{Space};
-ghost use Rattle.exec_ready.specs.Ready.{unfitReady, barredAt, ReadyIs};
+ghost use Rattle.load.specs.Loaded.{SpaceIn};
+ghost use Rattle.exec_ready.specs.Ready.{unfitReady, barredAt, ReadyIn};
+use image::Places;
 
 // Whether the text fits the tables; the fault that bars the program and its line, 0 and 0 for none; then how many blocks and instructions
 // there are, and how many samples are wanted.
@@ -59,51 +60,52 @@ fn barred(fault: usize, line: usize) -> Ready
 }
 
 // The least fault of the line of the first of nb blocks, 8 if there is no block; 0 for none.
-fn first_fault(
-    rows: &[u16],
-    parts: &[u16],
-    n: usize,
-    uses: &[u8],
-    tops: &[u16],
-    blocks: &[u16],
-    nb: usize,
-) -> usize
-    requires { ⌜ (n ≤ 512) × CountedTo (tab (now rows) (now parts)) n × Scoped (tab (now rows) (now parts)) n (now uses) (now tops) ⌝ }
-    ensures { λ out. ⌜ ((xs : List Instr) → out ≡ cond (eqb nb 0) 8 (leastOf (blockFaults true (blockOf (typeAt value (typesOf (rowsIn (tab (now (rows .entry)) (now (parts .entry))) n)) (cell 2 (now (blocks .entry)) 0 0)) xs)))) ⌝ }
+fn first_fault(image: &[u16], p: Places, n: usize, nb: usize) -> usize
+    requires { ⌜ Ordered p (length (now image)) × (n ≤ 512) × CountedTo (tab (rowSection p (now image)) (partSection p (now image))) n × Scoped (tab (rowSection p (now image)) (partSection p (now image))) n (useSection p (now image)) (topSection p (now image)) ⌝ }
+    ensures { λ out. ⌜ ((xs : List Instr) → out ≡ cond (eqb nb 0) 8 (leastOf (blockFaults true (blockOf (typeAt value (typesOf (rowsIn (tab (rowSection p (now (image .entry))) (partSection p (now (image .entry)))) n)) (cell 2 (blockSection p (now (image .entry))) 0 0)) xs)))) ⌝ }
 {
     if nb == 0 {
         return 8;
     }
-    valid_scope::entry::block_fault(rows, parts, n, uses, tops, types_rows::at(blocks, 0), true)
+    let rows = p.rows;
+    let blocks = p.blocks;
+    let instrs = p.instrs;
+    let parts = p.parts;
+    let operands = p.operands;
+    let uses = p.uses;
+    let tops = p.tops;
+    let shared = p.shared;
+    let c = types_rows::at(&image[blocks..instrs], 0);
+    valid_scope::entry::block_fault(
+        &image[rows..blocks],
+        &image[parts..operands],
+        n,
+        &image[uses..tops],
+        &image[tops..shared],
+        c,
+        true,
+    )
 }
 
-// Load the text into the tables, and say what bars the program, or else how many samples it wants.
-pub fn make_ready(
-    text: &[u8],
-    rows: &mut [u16],
-    parts: &mut [u16],
-    operands: &mut [u16],
-    numbers: &mut [u32],
-    args: &mut [u16],
-    instrs: &mut [u16],
-    blocks: &mut [u16],
-    uses: &mut [u8],
-    tops: &mut [u16],
-) -> Ready
-    ensures { λ r. ⌜ Fitting (Space (store (now (rows .entry)) (now (parts .entry)) (now (operands .entry)) (now (numbers .entry)) (now (args .entry)) (now (instrs .entry)) (now (blocks .entry))) (length (now (uses .entry))) (length (now (tops .entry)))) (r .fits) (ReadyIs (now (text .entry)) (now (instrs .exit)) (now (operands .exit)) (now (numbers .exit)) (now (blocks .exit)) r) ⌝ }
+// How many samples the first block declares, if it is the entry.
+fn samples_wanted(image: &[u16], p: Places, n: usize) -> usize
+    requires { ⌜ Ordered p (length (now image)) × (n ≤ 512) ⌝ }
+    ensures { λ out. ⌜ ((xs : List Instr) → out ≡ declared (blockOf (typeAt value (typesOf (rowsIn (tab (rowSection p (now (image .entry))) (partSection p (now (image .entry)))) n)) (cell 2 (blockSection p (now (image .entry))) 0 0)) xs .regs)) ⌝ }
 {
-    let r = load::load(
-        text,
-        rows,
-        parts,
-        operands,
-        numbers,
-        args,
-        instrs,
-        blocks,
-        uses,
-        tops,
-    );
+    let rows = p.rows;
+    let blocks = p.blocks;
+    let instrs = p.instrs;
+    let parts = p.parts;
+    let operands = p.operands;
+    let c = types_rows::at(&image[blocks..instrs], 0);
+    valid_scope::entry::sample_count(&image[rows..blocks], &image[parts..operands], n, c)
+}
+
+// Load the text into the image, and say what bars the program, or else how many samples it wants.
+pub fn make_ready(text: &[u8], image: &mut [u16], numbers: &mut [u32]) -> Ready
+    ensures { λ r. ⌜ Fitting (SpaceIn (now (image .entry)) (now (numbers .entry))) (r .fits) (ReadyIn (now (text .entry)) (now (image .exit)) (now (numbers .exit)) r) ⌝ }
+{
+    let r = load::load(text, image, numbers);
     if !r.fits {
         return unfit();
     }
@@ -111,7 +113,8 @@ pub fn make_ready(
     if fault != 0 {
         return barred(fault, r.line);
     }
-    let first = first_fault(rows, parts, r.rows, uses, tops, blocks, r.blocks);
+    let p = image::lay_out(image.len());
+    let first = first_fault(image, p, r.rows, r.blocks);
     if first != 0 {
         return barred(first, r.rows + 1);
     }
@@ -121,6 +124,6 @@ pub fn make_ready(
         line: 0,
         blocks: r.blocks,
         instrs: r.instrs,
-        samples: valid_scope::entry::sample_count(rows, parts, r.rows, types_rows::at(blocks, 0)),
+        samples: samples_wanted(image, p, r.rows),
     }
 }

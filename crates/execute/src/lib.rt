@@ -1,7 +1,10 @@
 // Starting and continuing a run, from a program's text, its samples' text and lent memory. Promised, on every input: the answer and the
 // whole lent state, one equation with `starting` and one with `continuing` of crate exec. A refusal changes nothing that is lent.
-// A text of at most 2,048 bytes is tried in small tables; one that does not fit them goes to the large ones (module attempt of exec_call).
+// `start` and `resume` put their working memory on the stack: a text of at most 2,048 bytes is tried in a small image; one that does not
+// fit it goes to the large one (module attempt of exec_call). Module lent has the same two with working memory from the caller.
 // rk and rn are the registers' kinds and numbers, sk and sn the stack's, hk and hn the heap's; `place` says how much is in use.
+pub mod lent;
+
 ghost use mathlib.Core.Path.{_≡_};
 ghost use Rattle.exec.specs.Run.{starting, continuing};
 ghost use Rattle.exec_machine.specs.Step.{stateOf};

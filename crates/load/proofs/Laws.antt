@@ -1,13 +1,13 @@
 -- What the passes leave, put together.
-use Prim.Native.Nat.{ℕ, zero, suc, _+_, _*_, _≤_, _<_}
+use Prim.Native.Nat.{ℕ, zero, suc, _+_, _-_, _*_, _≤_, _<_}
 use native.Mathlib.Omega.{arith}
 use mathlib.Core.Path.{_≡_, refl, ap, ap₂, sym, subst, _∙_}
 use mathlib.Core.Bool.{Bool, true, false, cond}
 use mathlib.Core.Option.{Option, none, some}
 use mathlib.Core.List.{List, [], _∷_, _++_}
-use lib.Dec.{eqb}
+use lib.Dec.{eqb, ltb}
 use lib.ListN.{length, replicate, length-replicate}
-use borrow.Author.Tests.{ne-eqb, eq-eqb}
+use borrow.Author.Tests.{ne-eqb, eq-eqb, ltb-true, ltb-false}
 use Rattle.syntax.specs.Syntax.{Row, Entry}
 use Rattle.syntax.specs.Fault.{Refusal, Pass, Clear, lowestLine, orElse, earliest}
 use Rattle.text.specs.PassOne.{Listing, passOne, entriesOf, rowsOf, listingsOf}
@@ -22,15 +22,20 @@ use Rattle.valid.proofs.Clear.{earliest-clear, clear-split}
 use Rattle.types_pass_two.specs.declared.refs.Found.{Found}
 use Rattle.types_pass_two.specs.refs.Refs.{Rising, refusalOf as foundRefusal}
 use Rattle.types_pass_two.proofs.refs.Lines.{entries-rows}
-use Rattle.text_decode.specs.store.Store.{Store, store, rowTable, operandsOf, Room}
+use Rattle.image.specs.declared.Places.{Places}
+use Rattle.image.specs.Sections.{Ordered, rowSection, blockSection, instrSection, partSection, useSection, topSection}
+use Rattle.image.specs.Layout.{placesOf, largePlaces, largeSharedPlaces}
+use Rattle.image.proofs.Laws.{part-length, ordered, large, large-shared}
+use Rattle.text_decode.specs.store.Store.{Store, rowTable, operandsOf, Room, storeIn}
+use Rattle.text_decode.proofs.state.Room.{lengths}
 use Rattle.text_decode.specs.declared.state.Read.{Read}
 use Rattle.text_decode.specs.Decoded as decode
 use Rattle.valid_context.specs.premises.Bounds.{SmallRow, SmallInstr}
 use Rattle.valid_context.specs.premises.Answers.{Holds}
 use Rattle.valid_context.proofs.premises.Grammar.{rows-small, instrs-small}
-use Rattle.load.specs.prepare.Prepared.{Prepared}
+use Rattle.load.specs.prepare.Prepared.{Prepared, Kept}
 use Rattle.load.specs.declared.Loaded.{Loaded}
-use Rattle.load.specs.Loaded.{Space, SpaceFor, faulty, refusalOf, IsLoaded, LoadIs}
+use Rattle.load.specs.Loaded.{Space, SpaceFor, SpaceIn, faulty, refusalOf, IsLoaded, LoadIs}
 use Rattle.load.proofs.Codes.{CodeOk, all-codes, holds-is}
 
 -- ---- room for every text is room for this one
@@ -180,7 +185,58 @@ few-ok text σ r d o =
     let c = d .few-instrs in
     (omega arith, omega arith, omega arith, starts-rise text σ r d o)
 
--- ---- tables set to zero: their lengths, and room for every text
+-- ---- in an image
+module _ (text : List ℕ) (p : Places) (l ns : List ℕ) (r : Read) (d : decode.Decoded text (storeIn p l ns) r) (one : lowestLine 0 (passOne text) ≡ none) (f : Found) (e : foundRefusal f ≡ lowestLine 0 (passTwo (rowsIn (rowTable (storeIn p l ns)) (r .rows)) (r .blocks) (entriesIn (rowsIn (rowTable (storeIn p l ns)) (r .rows)) (blocksFrom (blockSection p l) (instrSection p l) (operandsOf (storeIn p l ns)) (r .instrs) 0 (r .blocks))))) where
+  pub loaded-in : (l′ : List ℕ) → Prepared (rowSection p l) (rowSection p l′) (partSection p l) (r .rows) (useSection p l′) (topSection p l′) → Kept p l l′ → f .number ≡ 0 → SpaceFor (r .rows) (length (rowSection p l′)) (length (useSection p l′)) (length (topSection p l′)) → LoadIs text (storeIn p l′ ns) (useSection p l′) (topSection p l′) (record { fits = true; fault = 0; line = 0; rows = r .rows; blocks = r .blocks; instrs = r .instrs })
+  loaded-in l′ q k z space =
+      rw (k .parts, k .operands, k .args, k .instrs, k .blocks) (all-loaded text (storeIn p l ns) r d one f e (rowSection p l′) (useSection p l′) (topSection p l′) q z space (record { fits = true; fault = 0; line = 0; rows = r .rows; blocks = r .blocks; instrs = r .instrs }) refl)
+
+-- room, by places and by lengths
+pub space-in : (p : Places) (l : List ℕ) (n : ℕ) → Ordered p (length l) → SpaceFor n (p .blocks - p .rows) (p .tops - p .uses) (p .shared - p .tops) → SpaceFor n (length (rowSection p l)) (length (useSection p l)) (length (topSection p l))
+space-in p l n o s = record {
+  rows = omega (arith, part-length (p .rows) (p .blocks) l (omega arith), s .rows);
+  uses = omega (arith, part-length (p .uses) (p .tops) l (omega arith), s .uses);
+  tops = omega (arith, part-length (p .tops) (p .shared) l (omega arith), s .tops);
+}
+
+pub space-at : (p : Places) (l ns : List ℕ) (n : ℕ) → Ordered p (length l) → n ≤ 512 → Space (storeIn p l ns) (length (useSection p l)) (length (topSection p l)) → SpaceFor n (p .blocks - p .rows) (p .tops - p .uses) (p .shared - p .tops)
+space-at p l ns n o h s = record {
+  rows = omega (arith, part-length (p .rows) (p .blocks) l (omega arith), s .rows);
+  uses = omega (arith, part-length (p .uses) (p .tops) l (omega arith), s .uses);
+  tops = omega (arith, part-length (p .tops) (p .shared) l (omega arith), s .tops);
+}
+
+-- an image for every text has room for every text
+by-places : (p : Places) (l ns : List ℕ) → Ordered p (length l) → 4 * 514 ≤ p .blocks - p .rows → 2 * 65 ≤ p .instrs - p .blocks → 8 * 1025 ≤ p .parts - p .instrs → 17 * 513 ≤ p .operands - p .parts → 4 * 16400 ≤ p .args - p .operands → 8 * 16400 ≤ p .uses - p .args → 64 * 512 ≤ p .tops - p .uses → 512 ≤ p .shared - p .tops → 16400 ≤ length ns → Space (storeIn p l ns) (length (useSection p l)) (length (topSection p l))
+by-places p l ns o rows blocks instrs parts operands args uses tops numbers =
+    let w = lengths p l o in
+    record {
+      room = record {
+        rows = omega (arith, w .rows);
+        parts = omega (arith, w .parts);
+        operands = omega (arith, w .operands);
+        numbers = numbers;
+        args = omega (arith, w .args);
+        instrs = omega (arith, w .instrs);
+        blocks = omega (arith, w .blocks);
+      };
+      rows = omega (arith, w .rows);
+      uses = omega (arith, part-length (p .uses) (p .tops) l (omega arith));
+      tops = omega (arith, part-length (p .tops) (p .shared) l (omega arith));
+    }
+
+pub enough : (l ns : List ℕ) → 249204 ≤ length l → 16400 ≤ length ns → SpaceIn l ns
+enough l ns h n = by (ltb (length l) 259998) refl
+  where
+    by : (b : Bool) → ltb (length l) 259998 ≡ b → SpaceIn l ns
+    by true e =
+        let q : placesOf (length l) ≡ largePlaces = large (length l) h (ltb-true (length l) 259998 e) in
+        rw q (by-places largePlaces l ns (subst (λ (p : Places). Ordered p (length l)) q (ordered (length l))) (omega arith) (omega arith) (omega arith) (omega arith) (omega arith) (omega arith) (omega arith) (omega arith) n)
+    by false e =
+        let q : placesOf (length l) ≡ largeSharedPlaces = large-shared (length l) (ltb-false (length l) 259998 e) in
+        rw q (by-places largeSharedPlaces l ns (subst (λ (p : Places). Ordered p (length l)) q (ordered (length l))) (omega arith) (omega arith) (omega arith) (omega arith) (omega arith) (omega arith) (omega arith) (omega arith) n)
+
+-- ---- slices set to zero: their lengths
 pub zeros-long : (n m : ℕ) → m ≤ n → m ≤ length (replicate {A = ℕ} n 0)
 zeros-long n m h = let e = length-replicate {A = ℕ} n 0 in omega arith
 
@@ -189,19 +245,3 @@ zeros-above n m k h =
     let a = length-replicate {A = ℕ} n 0 in
     let b = length-replicate {A = ℕ} m 0 in
     omega arith
-
-pub zeros-space : Space (store (replicate 2056 0) (replicate 8738 0) (replicate 65600 0) (replicate 16400 0) (replicate 131200 0) (replicate 8200 0) (replicate 130 0)) (length (replicate {A = ℕ} 32768 0)) (length (replicate {A = ℕ} 512 0))
-zeros-space = record {
-  room = record {
-    rows = zeros-long 2056 (4 * 513) (omega arith);
-    parts = zeros-long 8738 (17 * 513) (omega arith);
-    operands = zeros-long 65600 (4 * 16400) (omega arith);
-    numbers = zeros-long 16400 16400 (omega arith);
-    args = zeros-long 131200 (8 * 16400) (omega arith);
-    instrs = zeros-long 8200 (8 * 1025) (omega arith);
-    blocks = zeros-long 130 (2 * 65) (omega arith);
-  };
-  rows = zeros-long 2056 (4 * 514) (omega arith);
-  uses = zeros-long 32768 (64 * 512) (omega arith);
-  tops = zeros-long 512 512 (omega arith);
-}

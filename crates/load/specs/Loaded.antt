@@ -14,7 +14,9 @@ use Rattle.types_rows.specs.Read.{Counted}
 use Rattle.valid_scope.specs.Scoped.{Scoped}
 use Rattle.valid.specs.Program.{programOf}
 use Rattle.valid.specs.Verdict.{passTwoOf}
-use Rattle.text_decode.specs.store.Store.{Store, rowTable, operandsOf, Room}
+use Rattle.image.specs.Sections.{useSection, topSection}
+use Rattle.image.specs.Layout.{placesOf}
+use Rattle.text_decode.specs.store.Store.{Store, rowTable, operandsOf, Room, stored}
 use Rattle.text_decode.specs.Decoded.{OperandsIn}
 use Rattle.valid_context.specs.premises.Bounds.{SmallRow, SmallInstr}
 use Rattle.valid_context.specs.premises.Answers.{Holds}
@@ -32,6 +34,17 @@ pub record Space (σ : Store) (u t : ℕ) : Type 0 where
   pub rows : 4 * 514 ≤ length (σ .rows)
   pub uses : 64 * 512 ≤ u
   pub tops : 512 ≤ t
+
+-- the uses of variables and their tops in an image, at the places that its length gives
+abbrev pub usesIn : List ℕ → List ℕ
+usesIn image = useSection (placesOf (length image)) image
+
+abbrev pub topsIn : List ℕ → List ℕ
+topsIn image = topSection (placesOf (length image)) image
+
+-- an image and its numbers have room for every text
+abbrev pub SpaceIn : List ℕ → List ℕ → Type 0
+SpaceIn image numbers = Space (stored image numbers) (length (usesIn image)) (length (topsIn image))
 
 -- the answer where the text does not fit the tables
 abbrev pub unfitLoad : Loaded

@@ -4,14 +4,22 @@
 // text, with what these passes have seen of it. Nothing is asked.
 pub mod prepare;
 
+use image::Places;
+use text_decode::state::Read;
 use types_pass_two::refs::Found;
 ghost use mathlib.Core.Path.{_≡_};
 ghost use mathlib.Core.Bool.{true};
-ghost use Prim.Native.Nat.{_*_, _≤_};
+ghost use Prim.Native.Nat.{ℕ, _-_, _≤_};
 ghost use lib.ListN.{length};
-ghost use Rattle.text_decode.specs.store.Store.{store};
+ghost use Rattle.syntax.specs.Fault.{lowestLine};
+ghost use Rattle.text.proofs.Entries.{entriesIn};
+ghost use Rattle.types.specs.Rows.{passTwo};
+ghost use Rattle.tables.specs.Tables.{rowsIn, blocksFrom};
+ghost use Rattle.image.specs.Sections.{Ordered, blockSection, instrSection};
+ghost use Rattle.types_pass_two.specs.refs.Refs.{Rising, refusalOf};
+ghost use Rattle.text_decode.specs.store.Store.{rowTable, operandsOf, storeIn, stored};
 ghost use Rattle.text_decode.specs.Decoded.{Fitting};
-ghost use Rattle.load.specs.Loaded.{Space, SpaceFor, unfitLoad, faulty, LoadIs};
+ghost use Rattle.load.specs.Loaded.{SpaceFor, SpaceIn, usesIn, topsIn, unfitLoad, faulty, LoadIs};
 
 // Whether the text fits the tables; the fault of passes one and two and its line, 0 and 0 for none; then how many rows, blocks and
 // instructions there are.
@@ -50,36 +58,51 @@ fn refused(fault: usize, line: usize) -> Loaded
     }
 }
 
-// Whether the tables have room for what pass three reads of n rows.
-fn has_space(rows: &[u16], uses: &[u8], tops: &[u16], n: usize) -> bool
-    requires { ⌜ n ≤ 512 ⌝ }
-    ensures { λ r. ⌜ (r ≡ true → SpaceFor n (length (now (rows .entry))) (length (now (uses .entry))) (length (now (tops .entry)))) × (SpaceFor n (length (now (rows .entry))) (length (now (uses .entry))) (length (now (tops .entry))) → r ≡ true) ⌝ }
+// Whether the sections have room for what pass three reads of n rows.
+fn has_space(p: Places, n: usize) -> bool
+    requires { ⌜ ((l : ℕ) × Ordered p l) × (n ≤ 512) ⌝ }
+    ensures { λ r. ⌜ (r ≡ true → SpaceFor n (p .blocks - p .rows) (p .tops - p .uses) (p .shared - p .tops)) × (SpaceFor n (p .blocks - p .rows) (p .tops - p .uses) (p .shared - p .tops) → r ≡ true) ⌝ }
 {
-    if rows.len() < 4 * n + 8 {
+    if p.blocks - p.rows < 4 * n + 8 {
         return false;
     }
-    if uses.len() < 64 * n {
+    if p.tops - p.uses < 64 * n {
         return false;
     }
-    n <= tops.len()
+    n <= p.shared - p.tops
 }
 
-// Reads the text into the tables; where passes one and two find no fault, makes them ready for pass three too.
-pub fn load(
-    text: &[u8],
-    rows: &mut [u16],
-    parts: &mut [u16],
-    operands: &mut [u16],
-    numbers: &mut [u32],
-    args: &mut [u16],
-    instrs: &mut [u16],
-    blocks: &mut [u16],
-    uses: &mut [u8],
-    tops: &mut [u16],
-) -> Loaded
-    ensures { λ r. ⌜ Fitting (Space (store (now (rows .entry)) (now (parts .entry)) (now (operands .entry)) (now (numbers .entry)) (now (args .entry)) (now (instrs .entry)) (now (blocks .entry))) (length (now (uses .entry))) (length (now (tops .entry)))) (r .fits) (LoadIs (now (text .entry)) (store (now (rows .exit)) (now (parts .exit)) (now (operands .exit)) (now (numbers .exit)) (now (args .exit)) (now (instrs .exit)) (now (blocks .exit))) (now (uses .exit)) (now (tops .exit)) r) ⌝ }
+// Pass two over the tables in the image.
+fn second_pass(image: &[u16], numbers: &[u32], p: Places, r: Read) -> Found
+    requires { ⌜ Ordered p (length (now image)) × (r .rows ≤ 65535) × (r .blocks ≤ 65535) × (r .instrs ≤ 65535) × Rising (blockSection p (now image)) (r .blocks) ⌝ }
+    ensures { λ out. ⌜ refusalOf out ≡ lowestLine 0 (passTwo (rowsIn (rowTable (storeIn p (now (image .entry)) (now (numbers .entry)))) (r .rows)) (r .blocks) (entriesIn (rowsIn (rowTable (storeIn p (now (image .entry)) (now (numbers .entry)))) (r .rows)) (blocksFrom (blockSection p (now (image .entry))) (instrSection p (now (image .entry))) (operandsOf (storeIn p (now (image .entry)) (now (numbers .entry)))) (r .instrs) 0 (r .blocks)))) ⌝ }
 {
-    let r = text_decode::read_text(text, rows, parts, operands, numbers, args, instrs, blocks);
+    let rows = p.rows;
+    let blocks = p.blocks;
+    let instrs = p.instrs;
+    let parts = p.parts;
+    let operands = p.operands;
+    let args = p.args;
+    let uses = p.uses;
+    types_pass_two::pass_two(
+        &image[rows..blocks],
+        &image[parts..operands],
+        r.rows,
+        &image[blocks..instrs],
+        r.blocks,
+        &image[instrs..parts],
+        r.instrs,
+        &image[operands..args],
+        numbers,
+        &image[args..uses],
+    )
+}
+
+// Reads the text into the image; where passes one and two find no fault, makes it ready for pass three too.
+pub fn load(text: &[u8], image: &mut [u16], numbers: &mut [u32]) -> Loaded
+    ensures { λ r. ⌜ Fitting (SpaceIn (now (image .entry)) (now (numbers .entry))) (r .fits) (LoadIs (now (text .entry)) (stored (now (image .exit)) (now (numbers .exit))) (usesIn (now (image .exit))) (topsIn (now (image .exit))) r) ⌝ }
+{
+    let r = text_decode::read_text(text, image, numbers);
     if !r.fits {
         return unfit();
     }
@@ -87,26 +110,16 @@ pub fn load(
     if fault != 0 {
         return refused(fault, r.line);
     }
-    if !has_space(rows, uses, tops, r.rows) {
+    let p = image::lay_out(image.len());
+    if !has_space(p, r.rows) {
         return unfit();
     }
-    let f = types_pass_two::pass_two(
-        rows,
-        parts,
-        r.rows,
-        blocks,
-        r.blocks,
-        instrs,
-        r.instrs,
-        operands,
-        numbers,
-        args,
-    );
+    let f = second_pass(image, numbers, p, r);
     let number = f.number;
     if number != 0 {
         return refused(number, f.line);
     }
-    crate::prepare::prepare(rows, parts, r.rows, uses, tops);
+    crate::prepare::prepare(image, p, r.rows);
     Loaded {
         fits: true,
         fault: 0,

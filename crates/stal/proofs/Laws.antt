@@ -1,12 +1,14 @@
 -- From the answers of checker and execute to numbers.
 use Prim.Native.Nat.{ℕ}
 use mathlib.Core.Path.{_≡_, refl, sym, ap, subst, _∙_}
+use mathlib.Core.Bool.{Bool}
 use mathlib.Core.List.{List, [], _∷_}
 use Rattle.valid.specs.Verdict.{check}
 use Rattle.valid_context.specs.premises.Answers.{In}
 use Rattle.valid_verdict.specs.Answers.{Said, accept, refuse, saidOf, saidBy, itemsIn, Names, Answers}
 use Rattle.valid_verdict.specs.declared.Answer.{Answer}
 use Rattle.valid_verdict.specs.declared.Answer.the-variants.{Accepted, Refused, Unfit}
+use Rattle.valid_check.specs.Lent.{AnswersIn}
 use Rattle.exec.specs.Run as exec
 use Rattle.exec_machine.specs.Step.{stateOf}
 use Rattle.exec_outcome.specs.declared.Answer as run
@@ -14,7 +16,7 @@ use Rattle.exec_outcome.specs.declared.Outcome.{Outcome}
 use Rattle.exec_outcome.specs.Answers.{answerIs, outcomeIs}
 use Rattle.stal_numbers.specs.declared.Verdict.{Verdict}
 use Rattle.stal_numbers.specs.declared.Reply.{Reply}
-use Rattle.stal_numbers.specs.Numbers.{verdict, verdictBy, verdictOf, Last, Tells, replyOf, call, callOf}
+use Rattle.stal_numbers.specs.Numbers.{verdict, verdictBy, verdictOf, Last, Tells, TellsIn, replyOf, call, callOf}
 
 -- ---- start and continue
 pub called : (o : Outcome) (r : Reply) (rk rn sk sn hk hn : List ℕ) (e : exec.Outcome) → outcomeIs o rk rn sk sn hk hn ≡ e → r ≡ replyOf (answerIs (o .answer)) → call r (stateOf rk rn sk sn hk hn (o .place)) ≡ callOf e
@@ -51,3 +53,9 @@ tells-by text a h =
 
 pub tells : (text : List ℕ) (a : Answer) (v : Verdict) → Answers text a → v ≡ verdictBy a → Tells text v
 tells text a v h e = subst (λ (w : Verdict). Tells text w) (sym e) (tells-by text a h)
+
+pub tells-in : (long : Bool) (text : List ℕ) (a : Answer) (v : Verdict) → AnswersIn long text a → v ≡ verdictBy a → TellsIn long text v
+tells-in long text a v h e = record {
+  told = λ w. tells text a v (h .answered w) e;
+  short = λ w. e ∙ ap verdictBy (h .short w);
+}

@@ -1,6 +1,7 @@
 -- What the library's calls answer, as numbers and lent words.
 use Prim.Native.Nat.{ℕ}
 use mathlib.Core.Path.{_≡_}
+use mathlib.Core.Bool.{Bool, true, false}
 use mathlib.Core.List.{List, [], _∷_}
 use Rattle.valid.specs.Verdict.{check}
 use Rattle.valid_context.specs.premises.Answers.{In}
@@ -34,6 +35,11 @@ Last (refuse n l) (y ∷ ys) x = In x (y ∷ ys)
 pub record Tells (text : List ℕ) (v : Verdict) : Type 0 where
   pub said : v ≡ verdictOf (saidOf (check text)) (v .second)
   pub last : Last (saidOf (check text)) (itemsIn (check text)) (v .second)
+
+-- the same with working memory lent: check's answer if it is long enough, else 16, line 0, no item
+pub record TellsIn (long : Bool) (text : List ℕ) (v : Verdict) : Type 0 where
+  pub told : long ≡ true → Tells text v
+  pub short : long ≡ false → v ≡ verdict 16 0 100
 
 -- the same from the checker's own answer
 abbrev pub verdictBy : Answer → Verdict

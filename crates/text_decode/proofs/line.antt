@@ -1,3 +1,4 @@
+pub mod ImageLaws
 pub mod Walk
 pub mod FormLaws
 pub mod FieldLaws
@@ -6,3 +7,5 @@ pub mod OperandLaws
 pub mod LineLaws
 pub mod Words
 pub mod StopLaws
+pub mod OperandImage
+pub mod FormImage

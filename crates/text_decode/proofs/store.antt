@@ -1,3 +1,4 @@
 pub mod PutLaws
 pub mod EntryLaws
 pub mod LineLaws
+pub mod LineImage

@@ -6,37 +6,28 @@ pub mod line;
 pub mod state;
 pub mod store;
 
-ghost use Rattle.text_decode.specs.store.Store.{store, Room};
+ghost use Rattle.text_decode.specs.store.Store.{stored, Room};
 ghost use Rattle.text_decode.specs.Decoded.{Fitting, ReadIs};
 use crate::state::Read;
 
-// One pass over the text, line by line, into the tables. What stands behind the last LF is a line of no form.
-pub fn read_text(
-    text: &[u8],
-    rows: &mut [u16],
-    parts: &mut [u16],
-    operands: &mut [u16],
-    numbers: &mut [u32],
-    args: &mut [u16],
-    instrs: &mut [u16],
-    blocks: &mut [u16],
-) -> Read
-    ensures { λ r. ⌜ Fitting (Room (store (now (rows .entry)) (now (parts .entry)) (now (operands .entry)) (now (numbers .entry)) (now (args .entry)) (now (instrs .entry)) (now (blocks .entry)))) (r .fits) (ReadIs (now (text .entry)) (store (now (rows .exit)) (now (parts .exit)) (now (operands .exit)) (now (numbers .exit)) (now (args .exit)) (now (instrs .exit)) (now (blocks .exit))) r) ⌝ }
+// One pass over the text, line by line, into the image. What stands behind the last LF is a line of no form.
+pub fn read_text(text: &[u8], image: &mut [u16], numbers: &mut [u32]) -> Read
+    ensures { λ r. ⌜ Fitting (Room (stored (now (image .entry)) (now (numbers .entry)))) (r .fits) (ReadIs (now (text .entry)) (stored (now (image .exit)) (now (numbers .exit))) r) ⌝ }
 {
     if 65536 < text.len() {
         return crate::state::faulty(3, 0);
     }
+    let p = image::lay_out(image.len());
     let end = text_lines::last_end(text);
     let mut u = crate::state::unused();
     let mut at = 0;
     let mut line = 1;
     let mut place: u8 = 0;
     while at < end {
-        if !crate::state::has_room(rows, parts, operands, numbers, args, instrs, blocks, u) {
+        if !crate::state::has_room(p, numbers.len(), u) {
             return crate::state::unfit();
         }
-        let s = &text[at..];
-        let x = crate::store::read_line(s, rows, parts, operands, numbers, args, instrs, blocks, u);
+        let x = crate::store::read_line(&text[at..], image, p, numbers, u);
         let l = x.line;
         let f = crate::state::line_fault(l, place, u);
         if f != 0 {

@@ -6,11 +6,13 @@ ghost use mathlib.Core.Bool.{true, _&&_};
 ghost use mathlib.Core.List.{[], _∷_};
 ghost use Prim.Native.Nat.{_+_, _*_, _≤_, _<_};
 ghost use lib.ListN.{length, getD, set};
+ghost use Rattle.image.specs.Sections.{Ordered, Outside, partSection, operandSection, argSection};
 ghost use Rattle.text_lines.specs.Parts.{lineIn, fieldIn, InLine, StopAt};
 ghost use Rattle.text_fields.specs.numbers.Numbers.{ScanIs};
 ghost use Rattle.text_decode.specs.line.Fields.{fieldsFrom, plainField, mostOf, partNumber};
 ghost use Rattle.text_decode.specs.line.Forms.{formOf, fewest};
-ghost use Rattle.text_decode.specs.line.Answers.{noSlot, SlotIs, SlotsAre, PartsRead, withOperand, operandTable, OperandRoom, OperandsRead, AtEnd, noEntry, PlainIs, RowIs, FormIs};
+ghost use Rattle.text_decode.specs.line.Answers.{noSlot, SlotIs, SlotsAre, PartsRead, withOperand, operandsIn, OperandRoom, OperandsRead, AtEnd, noEntry, PlainIs, RowIs, FormIs};
+use image::Places;
 use text_fields::numbers::Number;
 use text_fields::numbers::Scan;
 use text_fields::plain_operands::OperandRead;
@@ -314,14 +316,17 @@ fn read_operands(
     rest: &[u8],
     at: usize,
     most: u16,
-    operands: &mut [u16],
+    image: &mut [u16],
+    p: Places,
     numbers: &mut [u32],
-    args: &mut [u16],
     v: usize,
 ) -> Count
-    requires { ⌜ OperandRoom (v + most) (length (now operands)) (length (now numbers)) (length (now args)) × (most ≤ 16) × StopAt (now rest) at ⌝ }
-    ensures { λ r. ⌜ OperandsRead (fieldsFrom (lineIn (now (rest .entry))) (at + 1)) most v (operandTable (now (operands .entry)) (now (numbers .entry)) (now (args .entry))) (operandTable (now (operands .exit)) (now (numbers .exit)) (now (args .exit))) r × AtEnd (now (rest .entry)) (r .ok) (r .next) ⌝ }
+    requires { ⌜ Ordered p (length (now image)) × OperandRoom (v + most) (length (operandSection p (now image))) (length (now numbers)) (length (argSection p (now image))) × (most ≤ 16) × StopAt (now rest) at ⌝ }
+    ensures { λ r. ⌜ OperandsRead (fieldsFrom (lineIn (now (rest .entry))) (at + 1)) most v (operandsIn p (now (image .entry)) (now (numbers .entry))) (operandsIn p (now (image .exit)) (now (numbers .exit))) r × AtEnd (now (rest .entry)) (r .ok) (r .next) × Outside (p .operands) (p .uses) (now (image .entry)) (now (image .exit)) ⌝ }
 {
+    let from = p.operands;
+    let mid = p.args;
+    let to = p.uses;
     let mut i = at;
     let mut n: u16 = 0;
     while rest[i] == b',' {
@@ -333,7 +338,7 @@ fn read_operands(
             };
         }
         let w = v + (n as usize);
-        let x = text_fields::operand_at(rest, i + 1, args, 8 * w);
+        let x = text_fields::operand_at(rest, i + 1, &mut image[mid..to], 8 * w);
         let o = x.read;
         if 3 <= o.kind {
             return Count {
@@ -342,7 +347,7 @@ fn read_operands(
                 next: i,
             };
         }
-        put_operand(o, operands, numbers, w);
+        put_operand(o, &mut image[from..mid], numbers, w);
         n += 1;
         i = x.next;
     }
@@ -368,13 +373,13 @@ fn read_plain(
     rest: &[u8],
     at: usize,
     code: usize,
-    operands: &mut [u16],
+    image: &mut [u16],
+    p: Places,
     numbers: &mut [u32],
-    args: &mut [u16],
     v: usize,
 ) -> Said
-    requires { ⌜ (code < 34) × (code ≡ 3 → ⊥) × (code ≡ 5 → ⊥) × OperandRoom (v + 16) (length (now operands)) (length (now numbers)) (length (now args)) × StopAt (now rest) at ⌝ }
-    ensures { λ r. ⌜ PlainIs code (fieldsFrom (lineIn (now (rest .entry))) (at + 1)) v (operandTable (now (operands .entry)) (now (numbers .entry)) (now (args .entry))) (operandTable (now (operands .exit)) (now (numbers .exit)) (now (args .exit))) r × AtEnd (now (rest .entry)) (r .ok) (r .next) ⌝ }
+    requires { ⌜ Ordered p (length (now image)) × (code < 34) × (code ≡ 3 → ⊥) × (code ≡ 5 → ⊥) × OperandRoom (v + 16) (length (operandSection p (now image))) (length (now numbers)) (length (argSection p (now image))) × StopAt (now rest) at ⌝ }
+    ensures { λ r. ⌜ PlainIs code (fieldsFrom (lineIn (now (rest .entry))) (at + 1)) v (operandsIn p (now (image .entry)) (now (numbers .entry))) (operandsIn p (now (image .exit)) (now (numbers .exit))) r × AtEnd (now (rest .entry)) (r .ok) (r .next) × Outside (p .operands) (p .uses) (now (image .entry)) (now (image .exit)) ⌝ }
 {
     let f = form_at(code);
     let x = read_slots(rest, at, f);
@@ -382,7 +387,7 @@ fn read_plain(
         return no_entry();
     }
     let most = f.most;
-    let n = read_operands(rest, x.next, most, operands, numbers, args, v);
+    let n = read_operands(rest, x.next, most, image, p, numbers, v);
     if !n.ok {
         return no_entry();
     }
@@ -456,26 +461,27 @@ fn read_code(rest: &[u8], at: usize, parts: &mut [u16], p: usize) -> Said
     }
 }
 
-// The fields behind the stop at `at` of a line of the form at place `code`: a row's parts are written from p on, operands from v on.
+// The fields behind the stop at `at` of a line of the form at place `code`: a row's parts are written from k on, operands from v on.
 pub(crate) fn read_form(
     rest: &[u8],
     at: usize,
     code: usize,
-    parts: &mut [u16],
-    p: usize,
-    operands: &mut [u16],
+    image: &mut [u16],
+    p: Places,
+    k: usize,
     numbers: &mut [u32],
-    args: &mut [u16],
     v: usize,
 ) -> Said
-    requires { ⌜ (code < 34) × (p + 17 ≤ length (now parts)) × (p < 65536) × OperandRoom (v + 16) (length (now operands)) (length (now numbers)) (length (now args)) × StopAt (now rest) at ⌝ }
-    ensures { λ r. ⌜ FormIs code (fieldsFrom (lineIn (now (rest .entry))) (at + 1)) p v (now (parts .entry)) (now (parts .exit)) (operandTable (now (operands .entry)) (now (numbers .entry)) (now (args .entry))) (operandTable (now (operands .exit)) (now (numbers .exit)) (now (args .exit))) r × AtEnd (now (rest .entry)) (r .ok) (r .next) ⌝ }
+    requires { ⌜ Ordered p (length (now image)) × (code < 34) × (k + 17 ≤ length (partSection p (now image))) × (k < 65536) × OperandRoom (v + 16) (length (operandSection p (now image))) (length (now numbers)) (length (argSection p (now image))) × StopAt (now rest) at ⌝ }
+    ensures { λ r. ⌜ FormIs code (fieldsFrom (lineIn (now (rest .entry))) (at + 1)) k v (partSection p (now (image .entry))) (partSection p (now (image .exit))) (operandsIn p (now (image .entry)) (now (numbers .entry))) (operandsIn p (now (image .exit)) (now (numbers .exit))) r × AtEnd (now (rest .entry)) (r .ok) (r .next) × Outside (p .parts) (p .uses) (now (image .entry)) (now (image .exit)) ⌝ }
 {
+    let from = p.parts;
+    let to = p.operands;
     if code == 3 {
-        return read_tuple(rest, at, parts, p);
+        return read_tuple(rest, at, &mut image[from..to], k);
     }
     if code == 5 {
-        return read_code(rest, at, parts, p);
+        return read_code(rest, at, &mut image[from..to], k);
     }
-    read_plain(rest, at, code, operands, numbers, args, v)
+    read_plain(rest, at, code, image, p, numbers, v)
 }

@@ -4,12 +4,16 @@
 // that what is in use is not more than a text can have.
 ghost use mathlib.Core.Path.{_≡_};
 ghost use mathlib.Core.Bool.{true};
-ghost use Prim.Native.Nat.{_≤_};
-ghost use Rattle.text_decode.specs.store.Store.{store, RoomFor, Few};
+ghost use mathlib.Core.List.{List};
+ghost use Prim.Native.Nat.{ℕ, _≤_};
+ghost use lib.ListN.{length};
+ghost use Rattle.image.specs.Sections.{Ordered};
+ghost use Rattle.text_decode.specs.store.Store.{storeIn, RoomFor, Few};
 ghost use Rattle.text_decode.specs.store.Lines.{operandCount, usedAfter};
 ghost use Rattle.text_decode.specs.state.State.{faultOf, lineFault, placeBehind, noneUsed, unfitRead, faultyRead, lastRead};
 use crate::store::Line;
 use crate::store::Used;
+use image::Places;
 
 // Whether the text fits the tables; the fault of pass one and its line, 0 and 0 for none; then how many rows, blocks and instructions
 // there are.
@@ -154,37 +158,28 @@ pub(crate) fn unused() -> Used
     }
 }
 
-// Whether the tables have room for one line more behind what is in use.
-pub(crate) fn has_room(
-    rows: &[u16],
-    parts: &[u16],
-    operands: &[u16],
-    numbers: &[u32],
-    args: &[u16],
-    instrs: &[u16],
-    blocks: &[u16],
-    u: Used,
-) -> bool
-    requires { ⌜ Few u ⌝ }
-    ensures { λ r. ⌜ (r ≡ true → RoomFor u (store (now (rows .entry)) (now (parts .entry)) (now (operands .entry)) (now (numbers .entry)) (now (args .entry)) (now (instrs .entry)) (now (blocks .entry)))) × (RoomFor u (store (now (rows .entry)) (now (parts .entry)) (now (operands .entry)) (now (numbers .entry)) (now (args .entry)) (now (instrs .entry)) (now (blocks .entry))) → r ≡ true) ⌝ }
+// Whether the image, with its sections at these places, and `numbers` numbers have room for one line more behind what is in use.
+pub(crate) fn has_room(p: Places, numbers: usize, u: Used) -> bool
+    requires { ⌜ ((n : ℕ) × Ordered p n) × Few u ⌝ }
+    ensures { λ r. ⌜ ((l ns : List ℕ) → Ordered p (length l) → length ns ≡ numbers → (r ≡ true → RoomFor u (storeIn p l ns)) × (RoomFor u (storeIn p l ns) → r ≡ true)) ⌝ }
 {
-    if rows.len() < 4 * (u.rows + 1) {
+    if p.blocks - p.rows < 4 * (u.rows + 1) {
         return false;
     }
-    if parts.len() < 17 * (u.rows + 1) {
+    if p.operands - p.parts < 17 * (u.rows + 1) {
         return false;
     }
-    if operands.len() < 4 * (u.operands + 16) {
+    if p.args - p.operands < 4 * (u.operands + 16) {
         return false;
     }
-    if numbers.len() < u.operands + 16 {
+    if numbers < u.operands + 16 {
         return false;
     }
-    if args.len() < 8 * (u.operands + 16) {
+    if p.uses - p.args < 8 * (u.operands + 16) {
         return false;
     }
-    if instrs.len() < 8 * (u.instrs + 1) {
+    if p.parts - p.instrs < 8 * (u.instrs + 1) {
         return false;
     }
-    2 * (u.blocks + 1) <= blocks.len()
+    2 * (u.blocks + 1) <= p.instrs - p.blocks
 }

@@ -1,4 +1,4 @@
-// One line of a text into the tables: what its fields say is stored at the first places that are not in use. Promises: behind the line the
+// One line of a text into the image: what its fields say is stored at the first places that are not in use. Promises: behind the line the
 // tables say what it says (`LineIs` of specs/store/Lines.antt), what was in use is kept, and the answer says where a line of some form
 // ends. Asked: that the line has an LF, and room for one line more behind what is in use (`RoomFor`).
 ghost use mathlib.Core.Path.{_≡_};
@@ -6,12 +6,14 @@ ghost use mathlib.Core.List.{[], _∷_};
 ghost use Prim.Native.Nat.{_+_, _*_, _≤_, _<_};
 ghost use lib.ListN.{length};
 ghost use lib.Seq.{sets};
+ghost use Rattle.image.specs.Sections.{Ordered, Outside, rowSection, blockSection, instrSection, partSection, operandSection, argSection};
 ghost use Rattle.text_lines.specs.Parts.{lineIn, InLine, StopAt};
 ghost use Rattle.text_decode.specs.line.Fields.{fieldsFrom};
-ghost use Rattle.text_decode.specs.line.Answers.{operandTable, OperandRoom, AtEnd, FormIs};
-ghost use Rattle.text_decode.specs.store.Store.{store, RoomFor, Few};
+ghost use Rattle.text_decode.specs.line.Answers.{operandsIn, OperandRoom, AtEnd, FormIs};
+ghost use Rattle.text_decode.specs.store.Store.{storeIn, RoomFor, Few};
 ghost use Rattle.text_decode.specs.store.Lines.{noLine, LineIs, LineEnds, Stored};
 use crate::line::Said;
+use image::Places;
 
 // How many places of the tables are in use.
 pub struct Used {
@@ -70,26 +72,29 @@ fn put_instr(instrs: &mut [u16], j: usize, code: u16, s: Said, v: u16)
 }
 
 // Stores what the fields of a line say, at the first place that is not in use.
-fn put_line(
-    code: usize,
-    s: Said,
-    rows: &mut [u16],
-    instrs: &mut [u16],
-    blocks: &mut [u16],
-    u: Used,
-) -> Line
-    requires { ⌜ (code < 34) × (4 * (u .rows + 1) ≤ length (now rows)) × (8 * (u .instrs + 1) ≤ length (now instrs)) × (2 * (u .blocks + 1) ≤ length (now blocks)) × Few u ⌝ }
-    ensures { λ r. ⌜ Stored code s u (now (rows .entry)) (now (instrs .entry)) (now (blocks .entry)) (now (rows .exit)) (now (instrs .exit)) (now (blocks .exit)) r ⌝ }
+fn put_line(code: usize, s: Said, image: &mut [u16], p: Places, u: Used) -> Line
+    requires { ⌜ Ordered p (length (now image)) × (code < 34) × (4 * (u .rows + 1) ≤ length (rowSection p (now image))) × (8 * (u .instrs + 1) ≤ length (instrSection p (now image))) × (2 * (u .blocks + 1) ≤ length (blockSection p (now image))) × Few u ⌝ }
+    ensures { λ r. ⌜ Stored code s u (rowSection p (now (image .entry))) (instrSection p (now (image .entry))) (blockSection p (now (image .entry))) (rowSection p (now (image .exit))) (instrSection p (now (image .exit))) (blockSection p (now (image .exit))) r × Outside (p .rows) (p .parts) (now (image .entry)) (now (image .exit)) ⌝ }
 {
+    let rows = p.rows;
+    let blocks = p.blocks;
+    let instrs = p.instrs;
+    let parts = p.parts;
     if code < 10 {
-        put_row(rows, u.rows, code as u16, s.a, s.b);
+        put_row(&mut image[rows..blocks], u.rows, code as u16, s.a, s.b);
         return Line::Row;
     }
     if code == 10 {
-        put_block(blocks, u.blocks, s.a, u.instrs as u16);
+        put_block(&mut image[blocks..instrs], u.blocks, s.a, u.instrs as u16);
         return Line::Block;
     }
-    put_instr(instrs, u.instrs, (code - 11) as u16, s, u.operands as u16);
+    put_instr(
+        &mut image[instrs..parts],
+        u.instrs,
+        (code - 11) as u16,
+        s,
+        u.operands as u16,
+    );
     if code < 32 {
         return Line::Instruction(s.count as usize);
     }
@@ -101,18 +106,17 @@ fn read_rest(
     text: &[u8],
     f: usize,
     code: usize,
-    parts: &mut [u16],
-    operands: &mut [u16],
+    image: &mut [u16],
+    p: Places,
     numbers: &mut [u32],
-    args: &mut [u16],
     u: Used,
 ) -> Said
-    requires { ⌜ (code < 34) × StopAt (now text) f × (17 * (u .rows + 1) ≤ length (now parts)) × OperandRoom (u .operands + 16) (length (now operands)) (length (now numbers)) (length (now args)) × Few u ⌝ }
-    ensures { λ r. ⌜ FormIs code (fieldsFrom (lineIn (now (text .entry))) (f + 1)) (17 * u .rows) (u .operands) (now (parts .entry)) (now (parts .exit)) (operandTable (now (operands .entry)) (now (numbers .entry)) (now (args .entry))) (operandTable (now (operands .exit)) (now (numbers .exit)) (now (args .exit))) r × AtEnd (now (text .entry)) (r .ok) (f + r .next) ⌝ }
+    requires { ⌜ Ordered p (length (now image)) × (code < 34) × StopAt (now text) f × (17 * (u .rows + 1) ≤ length (partSection p (now image))) × OperandRoom (u .operands + 16) (length (operandSection p (now image))) (length (now numbers)) (length (argSection p (now image))) × Few u ⌝ }
+    ensures { λ r. ⌜ FormIs code (fieldsFrom (lineIn (now (text .entry))) (f + 1)) (17 * u .rows) (u .operands) (partSection p (now (image .entry))) (partSection p (now (image .exit))) (operandsIn p (now (image .entry)) (now (numbers .entry))) (operandsIn p (now (image .exit)) (now (numbers .exit))) r × AtEnd (now (text .entry)) (r .ok) (f + r .next) × Outside (p .parts) (p .uses) (now (image .entry)) (now (image .exit)) ⌝ }
 {
-    let p = 17 * u.rows;
+    let k = 17 * u.rows;
     let v = u.operands;
-    crate::line::read_form(&text[f..], 0, code, parts, p, operands, numbers, args, v)
+    crate::line::read_form(&text[f..], 0, code, image, p, k, numbers, v)
 }
 
 fn no_line() -> LineRead
@@ -122,31 +126,27 @@ fn no_line() -> LineRead
     LineRead { line: l, next: 0 }
 }
 
-// The first line of the text, read into the first places of the tables that are not in use.
+// The first line of the text, read into the first places of the image that are not in use.
 pub(crate) fn read_line(
     text: &[u8],
-    rows: &mut [u16],
-    parts: &mut [u16],
-    operands: &mut [u16],
+    image: &mut [u16],
+    p: Places,
     numbers: &mut [u32],
-    args: &mut [u16],
-    instrs: &mut [u16],
-    blocks: &mut [u16],
     u: Used,
 ) -> LineRead
-    requires { ⌜ RoomFor u (store (now rows) (now parts) (now operands) (now numbers) (now args) (now instrs) (now blocks)) × Few u × InLine (now text) 0 ⌝ }
-    ensures { λ r. ⌜ LineIs (lineIn (now (text .entry))) u (store (now (rows .entry)) (now (parts .entry)) (now (operands .entry)) (now (numbers .entry)) (now (args .entry)) (now (instrs .entry)) (now (blocks .entry))) (store (now (rows .exit)) (now (parts .exit)) (now (operands .exit)) (now (numbers .exit)) (now (args .exit)) (now (instrs .exit)) (now (blocks .exit))) (r .line) × LineEnds (now (text .entry)) r ⌝ }
+    requires { ⌜ Ordered p (length (now image)) × RoomFor u (storeIn p (now image) (now numbers)) × Few u × InLine (now text) 0 ⌝ }
+    ensures { λ r. ⌜ LineIs (lineIn (now (text .entry))) u (storeIn p (now (image .entry)) (now (numbers .entry))) (storeIn p (now (image .exit)) (now (numbers .exit))) (r .line) × LineEnds (now (text .entry)) r × Outside (p .rows) (p .uses) (now (image .entry)) (now (image .exit)) ⌝ }
 {
     let f = text_lines::field_end(text, 0);
     let code = text_fields::names::name_code(&text[0..f]);
     if 34 <= code {
         return no_line();
     }
-    let s = read_rest(text, f, code, parts, operands, numbers, args, u);
+    let s = read_rest(text, f, code, image, p, numbers, u);
     if !s.ok {
         return no_line();
     }
-    let l = put_line(code, s, rows, instrs, blocks, u);
+    let l = put_line(code, s, image, p, u);
     LineRead {
         line: l,
         next: f + s.next,

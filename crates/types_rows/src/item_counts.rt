@@ -1,19 +1,19 @@
 // The count of items of each stack row (entry 3 of its row), from the counts of lower rows.
-// Promised: the counts, and that the rows are as before. Asked: rows within pass two's limit of size.
+// Promised: the counts, and that the rows are as before. Asked: rows within pass two's limit of size. The parts of rows are not read:
+// they stand in the contracts alone, and what is promised is so for all parts with which the rows are within that limit.
 use crate::Stk;
 ghost use mathlib.Core.Path.{_≡_};
-ghost use Prim.Native.Nat.{ℕ, _+_, _*_, _≤_, _<_};
+ghost use mathlib.Core.List.{List};
+ghost use Prim.Native.Nat.{ℕ, _*_, _≤_, _<_};
 ghost use lib.ListN.{length};
 ghost use Rattle.types.specs.Types.{items};
-ghost use Rattle.types.specs.Rows.{sizeOf, sizesOf};
-ghost use Rattle.tables.specs.Tables.{rowAt, rowsIn};
 ghost use Rattle.types_rows.specs.Read.{tab, meanS, itemsAt};
-ghost use Rattle.types_rows.specs.item_counts.Counts.{CountsFilled};
+ghost use Rattle.types_rows.specs.item_counts.Counts.{SizesFit, CountsFilled};
 
 // The items of stack row h, from the counts of lower rows.
-fn count_row(rows: &[u16], parts: &[u16], h: usize) -> usize
-    requires { ⌜ (h ≤ 65536) × ((x : ℕ) → x < h → itemsAt (now rows) x ≡ items (meanS (tab (now rows) (now parts)) x)) ⌝ }
-    ensures { λ out. ⌜ out ≡ items (meanS (tab (now (rows .entry)) (now (parts .entry))) h) ⌝ }
+fn count_row(rows: &[u16], h: usize) -> usize
+    requires { ⌜ h ≤ 65536 ⌝ }
+    ensures { λ out. ⌜ ((parts : List ℕ) → ((x : ℕ) → x < h → itemsAt (now (rows .entry)) x ≡ items (meanS (tab (now (rows .entry)) parts) x)) → out ≡ items (meanS (tab (now (rows .entry)) parts) h)) ⌝ }
 {
     let n = crate::read_stack(rows, h, 0, 0, 0);
     match n {
@@ -26,13 +26,13 @@ fn count_row(rows: &[u16], parts: &[u16], h: usize) -> usize
 }
 
 // Writes the count of its items into each of the first n rows; a value row has none.
-pub fn count_items(rows: &mut [u16], parts: &[u16], n: usize)
-    requires { ⌜ (n ≤ 65536) × (4 * n ≤ length (now rows)) × ((x : ℕ) → x < n → sizeOf (sizesOf (rowsIn (tab (now rows) (now parts)) x)) (rowAt (tab (now rows) (now parts)) x) ≤ 4096) ⌝ }
-    ensures { λ _. ⌜ CountsFilled (now (rows .entry)) (now (rows .exit)) (now (parts .entry)) n ⌝ }
+pub fn count_items(rows: &mut [u16], n: usize)
+    requires { ⌜ (n ≤ 65536) × (4 * n ≤ length (now rows)) × ((parts : List ℕ) × SizesFit (now rows) parts n) ⌝ }
+    ensures { λ _. ⌜ ((parts : List ℕ) → SizesFit (now (rows .entry)) parts n → CountsFilled (now (rows .entry)) (now (rows .exit)) parts n) ⌝ }
 {
     let mut r = 0;
     while r < n {
-        let c = count_row(rows, parts, r + 1);
+        let c = count_row(rows, r + 1);
         rows[4 * r + 3] = crate::measure::narrow(c);
         r += 1;
     }

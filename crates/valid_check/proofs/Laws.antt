@@ -1,26 +1,31 @@
 -- The counts of a text's blocks and instructions, and the tables of a loaded text, as pass three asks for them.
 use Prim.Native.Nat.{ℕ, zero, suc, _+_, _-_, _≤_, _<_}
 use native.Mathlib.Omega.{arith}
+use native.Mathlib.Nat.{le-refl}
 use mathlib.Core.Path.{_≡_, refl, ap, ap₂, sym, _∙_}
-use mathlib.Core.Bool.{Bool, true, false, cond}
+use mathlib.Core.Bool.{Bool, true, false, cond, _&&_, true≢false}
 use mathlib.Core.Option.{Option, none, some}
 use mathlib.Core.List.{List, [], _∷_}
-use lib.Dec.{eqb, ltb}
+use lib.Dec.{eqb, leb, ltb}
 use lib.ListN.{length}
-use borrow.Author.Tests.{eq-eqb, lt-ltb, le-ltb, ltb-true, ltb-false}
+use borrow.Author.Tests.{eq-eqb, lt-ltb, le-ltb, ltb-true, ltb-false, lt-leb, le-leb, leb-true}
 use Rattle.syntax.specs.Syntax.{value, stack}
 use Rattle.syntax.specs.Fault.{Refusal}
 use Rattle.text.specs.PassOne.{Listing}
 use Rattle.types.specs.Types.{items, Arg}
 use Rattle.types.specs.Rows.{typeAt, typesOf}
-use Rattle.tables.specs.Tables.{cell, rowsIn, OperandTable, instrsFrom, blocksFrom}
+use Rattle.tables.specs.Tables.{RowTable, cell, rowsIn, OperandTable, instrsFrom, blocksFrom}
 use Rattle.tables.proofs.Steps.{length-instrs, endOf, end-inner, end-last, listingAt, blocks-step}
 use Rattle.types_rows.specs.Read.{tab}
 use Rattle.valid.specs.Program.{blocksOf, programFrom, programOf}
 use Rattle.valid.specs.Verdict.{instrCount}
 use Rattle.valid.proofs.Order.{body-of}
 use Rattle.valid_context.specs.premises.Answers.{Holds}
-use Rattle.text_decode.specs.store.Store.{Store, rowTable, operandsOf}
+use Rattle.image.specs.declared.Places.{Places}
+use Rattle.image.specs.Sections.{part, Ordered, Outside, rowSection, partSection, useSection, topSection}
+use Rattle.image.specs.Layout.{placesOf}
+use Rattle.image.proofs.Laws.{before, large-shared}
+use Rattle.text_decode.specs.store.Store.{Store, rowTable, operandsOf, storeIn}
 use Rattle.load.specs.declared.Loaded.{Loaded}
 use Rattle.load.specs.Loaded.{IsLoaded}
 use Rattle.valid_share.specs.Shared.{Shared}
@@ -30,7 +35,10 @@ use Rattle.valid_pass_three.specs.body.Tables.{Tables}
 use Rattle.valid_check.proofs.Few.{few-items}
 use Rattle.valid_pass_three.proofs.Blocks.{no-block, length-all}
 use Rattle.valid_verdict.proofs.finding.Laws.{refuses-none}
-use Rattle.valid_verdict.specs.Answers.{low, third}
+use Rattle.valid_verdict.specs.Answers.{low, third, Answers}
+use Rattle.valid_verdict.specs.declared.Answer.{Answer}
+use Rattle.valid_verdict.specs.declared.Answer.the-variants.{Refused}
+use Rattle.valid_check.specs.Lent.{SharedFor, enough, AnswersIn}
 
 -- ---- counts
 module _ (T : List Arg) (β ι : List ℕ) (ω : OperandTable) (ni nb : ℕ) where
@@ -157,3 +165,66 @@ module _ (text : List ℕ) (σ : Store) (uses tops : List ℕ) (r : Loaded) (d :
 
 pub none-low : (text : List ℕ) (r : Loaded) → cond (eqb (r .fault) 0) none (some (record { number = r .fault; line = r .line; items = [] })) ≡ low text → r .fault ≡ 0 → none ≡ low text
 none-low text r e z = ap (λ (b : Bool). cond b none (some (record { number = r .fault; line = r .line; items = [] }))) (sym (eq-eqb (r .fault) 0 z)) ∙ e
+
+-- ---- in an image: only the rows once more were written
+module _ (p : Places) (l l′ : List ℕ) (o : Ordered p (length l)) (w : Outside (p .shared) (p .end) l l′) where
+  kept : (c d : ℕ) → c ≤ d → d ≤ p .shared → part c d l′ ≡ part c d l
+  kept c d cd h = before (p .shared) (p .end) l l′ (omega arith) w c d cd h
+
+  pub loaded-still : (text ns : List ℕ) (r : Loaded) → IsLoaded text (storeIn p l ns) (useSection p l) (topSection p l) r → IsLoaded text (storeIn p l′ ns) (useSection p l′) (topSection p l′) r
+  loaded-still text ns r d =
+      rw (kept (p .rows) (p .blocks) (o .rows) (omega arith), kept (p .blocks) (p .instrs) (o .blocks) (omega arith), kept (p .instrs) (p .parts) (o .instrs) (omega arith), kept (p .parts) (p .operands) (o .parts) (omega arith), kept (p .operands) (p .args) (o .operands) (omega arith), kept (p .args) (p .uses) (o .args) (omega arith), kept (p .uses) (p .tops) (o .uses) (omega arith), kept (p .tops) (p .shared) (o .tops) (le-refl (p .shared))) d
+
+  pub shared-still : (n : ℕ) (τ : RowTable) → Shared (tab (rowSection p l) (partSection p l)) τ n → Shared (tab (rowSection p l′) (partSection p l′)) τ n
+  shared-still n τ s = rw (kept (p .rows) (p .blocks) (o .rows) (omega arith), kept (p .parts) (p .operands) (o .parts) (omega arith)) s
+
+-- ---- working memory that is long enough
+pub short-image : (i n p w : ℕ) → i < 259998 → false ≡ enough i n p w
+unfolding enough
+short-image i n p w h = let e : leb 259998 i ≡ false = lt-leb 259998 i h in rw e refl
+
+pub short-numbers : (i n p w : ℕ) → 259998 ≤ i → n < 16400 → false ≡ enough i n p w
+unfolding enough
+short-numbers i n p w g h =
+    let e : leb 259998 i ≡ true = le-leb 259998 i g in
+    let f : leb 16400 n ≡ false = lt-leb 16400 n h in
+    rw e (rw f refl)
+
+pub short-plan : (i n p w : ℕ) → 259998 ≤ i → 16400 ≤ n → p < 8208 → false ≡ enough i n p w
+unfolding enough
+short-plan i n p w a b h =
+    let e : leb 259998 i ≡ true = le-leb 259998 i a in
+    let f : leb 16400 n ≡ true = le-leb 16400 n b in
+    let g : leb 8208 p ≡ false = lt-leb 8208 p h in
+    rw e (rw f (rw g refl))
+
+pub by-work : (i n p w : ℕ) → 259998 ≤ i → 16400 ≤ n → 8208 ≤ p → leb 4096 w ≡ enough i n p w
+unfolding enough
+by-work i n p w a b c =
+    let e : leb 259998 i ≡ true = le-leb 259998 i a in
+    let f : leb 16400 n ≡ true = le-leb 16400 n b in
+    let g : leb 8208 p ≡ true = le-leb 8208 p c in
+    rw e (rw f (rw g refl))
+
+both : (a b : Bool) → a && b ≡ true → (a ≡ true) × (b ≡ true)
+both true b e = (refl, e)
+both false b e = absurd (true≢false (sym e))
+
+pub enough-is : (i n p w : ℕ) → enough i n p w ≡ true → (259998 ≤ i) × (16400 ≤ n) × (4096 ≤ w)
+unfolding enough
+enough-is i n p w e =
+    let a = both (leb 259998 i && leb 16400 n && leb 8208 p) (leb 4096 w) e in
+    let b = both (leb 259998 i && leb 16400 n) (leb 8208 p) (a .0) in
+    let c = both (leb 259998 i) (leb 16400 n) (b .0) in
+    (leb-true 259998 i (c .0), leb-true 16400 n (c .1), leb-true 4096 w (a .1))
+
+-- an image of that length has room for the rows once more
+pub shared-for : (i n : ℕ) → 259998 ≤ i → n ≤ 512 → SharedFor n (placesOf i)
+shared-for i n g h = rw (large-shared i g) (record { rows = omega arith; parts = omega arith })
+
+-- the answer with working memory lent, by whether it is long enough
+pub lent-short : (long : Bool) (text : List ℕ) → long ≡ false → AnswersIn long text (Refused 16 0)
+lent-short long text e = record { answered = λ w. absurd (true≢false (sym w ∙ e)); short = λ w. refl }
+
+pub lent-long : (long : Bool) (text : List ℕ) (a : Answer) → long ≡ true → Answers text a → AnswersIn long text a
+lent-long long text a e h = record { answered = λ w. h; short = λ w. absurd (true≢false (sym e ∙ w)) }

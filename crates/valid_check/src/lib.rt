@@ -1,59 +1,73 @@
-// Check a program's text with the tables lent: decode it and make passes one and two (crate load), let rows of equal types be one (crate
-// valid_share), type it (crate valid_pass_three), and answer (crate valid_verdict). Promised: whether the text fits the tables, and if it
-// does, the answer of check. Asked: tables of the rows once more, as long as the first ones, and room for the typing of a block. Module
-// attempt lends tables of one size.
+// Check a program's text with working memory lent, whatever it holds: decode it and make passes one and two (crate load), let rows of
+// equal types be one (crate valid_share), type it (crate valid_pass_three), and answer (crate valid_verdict). Promised: whether the text
+// fits the image, and if it does, the answer of check. Asked: room for the typing of a block. Module attempt puts working memory on the
+// stack, module lent takes it from the caller.
 pub mod attempt;
+pub mod lent;
 
+use image::Counts;
+use image::Places;
 use valid_verdict::Answer;
+use valid_verdict::finding::Finding;
+ghost use mathlib.Core.Path.{_≡_};
 ghost use mathlib.Core.Bool.{true};
-ghost use Prim.Native.Nat.{_≤_};
+ghost use Prim.Native.Nat.{ℕ, _≤_, _<_};
 ghost use lib.ListN.{length};
-ghost use Rattle.text_decode.specs.store.Store.{store};
+ghost use Rattle.syntax.specs.Fault.{lowestLine};
+ghost use Rattle.types.specs.Rows.{typesOf};
+ghost use Rattle.tables.specs.Tables.{cell, rowsIn};
+ghost use Rattle.tables.proofs.Steps.{endOf};
+ghost use Rattle.image.specs.Sections.{Ordered, blockSection};
+ghost use Rattle.valid.specs.Program.{Program, blocksOf};
+ghost use Rattle.valid.specs.PassThree.{passThree};
+ghost use Rattle.valid_context.specs.premises.Bounds.{SmallInstr};
+ghost use Rattle.valid_typing.specs.Image.{rowTable, instrIn, HoldsAt};
+ghost use Rattle.valid_pass_three.specs.body.Tables.{TablesAt};
+ghost use Rattle.valid_pass_three.specs.Blocks.{blocksIn};
+ghost use Rattle.valid_verdict.specs.finding.Found.{Refuses};
 ghost use Rattle.text_decode.specs.Decoded.{Fitting};
-ghost use Rattle.load.specs.Loaded.{Space};
 ghost use Rattle.valid_verdict.specs.Answers.{Answers};
+ghost use Rattle.valid_check.specs.Lent.{Roomy, SharedFor};
 
-// Whether the text fits the tables, and the answer if it does.
+// Whether the text fits the image, and the answer if it does.
 pub struct Tried {
     pub fits: bool,
     pub answer: Answer,
 }
 
-// Check with the tables lent: those of the text, those of the rows once more, what the typing of a block needs.
+// Whether the image has room for n rows once more.
+fn has_shared(p: Places, n: usize) -> bool
+    requires { ⌜ ((l : ℕ) × Ordered p l) × (n ≤ 512) ⌝ }
+    ensures { λ r. ⌜ (r ≡ true → SharedFor n p) × (SharedFor n p → r ≡ true) ⌝ }
+{
+    if p.slots - p.shared < 4 * n + 8 {
+        return false;
+    }
+    17 * n <= p.end - p.slots
+}
+
+// Pass three over the tables in the image. The registers' types and those of sp stand here.
+fn third_pass(image: &[u16], numbers: &[u32], p: Places, c: Counts, work: &mut [u16]) -> Finding
+    requires { ⌜ Ordered p (length (now image)) × TablesAt p (now image) (c .rows) × (0 < c .blocks → (i : ℕ) → i < c .instrs → SmallInstr (instrIn p (now image) (now numbers) i)) × (c .instrs ≤ 1024) × (c .blocks ≤ 64) × (0 < c .blocks → cell 2 (blockSection p (now image)) 0 1 ≡ 0) × ((b : ℕ) → b < c .blocks → (cell 2 (blockSection p (now image)) b 1 ≤ endOf (blockSection p (now image)) (c .instrs) (c .blocks) b) × (endOf (blockSection p (now image)) (c .instrs) (c .blocks) b ≤ c .instrs)) × (4096 ≤ length (now work)) ⌝ }
+    ensures { λ out. ⌜ ((P : Program) → HoldsAt p (now (image .entry)) c P → P .blocks ≡ blocksOf (typesOf (rowsIn (rowTable p (now (image .entry))) (c .rows))) (blocksIn p (now (image .entry)) (now (numbers .entry)) c) → Refuses out (lowestLine 0 (passThree P))) ⌝ }
+{
+    let mut regs = [0u16; 8];
+    let mut sp = [0u16; 64];
+    valid_pass_three::pass_three(image, numbers, p, c, &mut regs, &mut sp, work)
+}
+
+// Check with working memory lent: an image with the rows once more, its numbers, hashes of rows, and what the typing of a block needs.
 pub(crate) fn check_in(
     text: &[u8],
-    rows: &mut [u16],
-    parts: &mut [u16],
-    operands: &mut [u16],
+    image: &mut [u16],
     numbers: &mut [u32],
-    args: &mut [u16],
-    instrs: &mut [u16],
-    blocks: &mut [u16],
-    uses: &mut [u8],
-    tops: &mut [u16],
-    rows2: &mut [u16],
-    parts2: &mut [u16],
-    first: &mut [u16],
     hash: &mut [u32],
-    regs: &mut [u16],
-    sp: &mut [u16],
     work: &mut [u16],
 ) -> Tried
-    requires { ⌜ (length (now rows) ≤ length (now rows2)) × (length (now parts) ≤ length (now parts2)) × (length (now tops) ≤ length (now first)) × (8 ≤ length (now regs)) × (64 ≤ length (now sp)) × (4096 ≤ length (now work)) ⌝ }
-    ensures { λ out. ⌜ Fitting (Space (store (now (rows .entry)) (now (parts .entry)) (now (operands .entry)) (now (numbers .entry)) (now (args .entry)) (now (instrs .entry)) (now (blocks .entry))) (length (now (uses .entry))) (length (now (tops .entry)))) (out .fits) (Answers (now (text .entry)) (out .answer)) ⌝ }
+    requires { ⌜ 4096 ≤ length (now work) ⌝ }
+    ensures { λ out. ⌜ Fitting (Roomy (now (image .entry)) (now (numbers .entry))) (out .fits) (Answers (now (text .entry)) (out .answer)) ⌝ }
 {
-    let r = load::load(
-        text,
-        rows,
-        parts,
-        operands,
-        numbers,
-        args,
-        instrs,
-        blocks,
-        uses,
-        tops,
-    );
+    let r = load::load(text, image, numbers);
     if !r.fits {
         return Tried {
             fits: false,
@@ -67,24 +81,20 @@ pub(crate) fn check_in(
             answer: Answer::Refused(fault, r.line),
         };
     }
-    valid_share::share(rows, parts, r.rows, rows2, parts2, first, hash);
-    let f = valid_pass_three::pass_three(
-        rows2,
-        parts2,
-        r.rows,
-        uses,
-        tops,
-        blocks,
-        r.blocks,
-        instrs,
-        r.instrs,
-        operands,
-        numbers,
-        args,
-        regs,
-        sp,
-        work,
-    );
+    let p = image::lay_out(image.len());
+    if !has_shared(p, r.rows) {
+        return Tried {
+            fits: false,
+            answer: Answer::Refused(0, 0),
+        };
+    }
+    valid_share::share(image, p, r.rows, work, hash);
+    let c = Counts {
+        rows: r.rows,
+        blocks: r.blocks,
+        instrs: r.instrs,
+    };
+    let f = third_pass(image, numbers, p, c, work);
     Tried {
         fits: true,
         answer: valid_verdict::answer_by(f, r.blocks, r.instrs),

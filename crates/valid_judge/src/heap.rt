@@ -1,24 +1,26 @@
 // One instruction of pass three that reads or makes a tuple's component, and `halt`. The types known before it stand in the checker's
 // arrays (crate valid_context), and are there changed to those known after it.
 // Promised of each: the least fault that `judge` of crate valid gives the instruction, 0 if it has none, and then the types after it.
+use image::Places;
+use valid_typing::BlockLetters;
 ghost use mathlib.Core.Path.{_≡_};
 ghost use Prim.Native.Nat.{ℕ, _+_, _-_, _≤_, _<_};
-ghost use mathlib.Core.List.{List, map};
+ghost use mathlib.Core.List.{List};
 ghost use lib.ListN.{length};
 ghost use Rattle.syntax.specs.Syntax.{Kind, value, stack, ld, st, halt};
 ghost use Rattle.types.specs.Types.{Ty, Arg};
 ghost use Rattle.types.specs.Rows.{typeAt};
 ghost use Rattle.types.specs.Equal.{same};
-ghost use Rattle.tables.specs.Tables.{span, letterOf};
 ghost use Rattle.valid.specs.Program.{Program};
 ghost use Rattle.valid.specs.PassThree.{itemAt, assign};
-ghost use Rattle.types_rows.specs.Read.{tab};
-ghost use Rattle.valid_scope.specs.Scoped.{Scoped};
 ghost use Rattle.valid_context.specs.Context.{regsOf, linked};
 ghost use Rattle.valid_context.specs.Told.{toldOf, answer};
 ghost use Rattle.valid_typing.specs.Typing.{typesIn, Ready};
 ghost use Rattle.valid_typing.proofs.Judging.{ifNone};
 ghost use Rattle.valid_judge.specs.heap.Forms.{held, InRegs};
+ghost use Rattle.image.specs.Sections.{Ordered};
+ghost use Rattle.valid_typing.specs.Image.{ReadyAt, ScopedAt, lettersIn};
+ghost use Rattle.valid_judge.specs.Image.{InRegsAt};
 
 // The link of register r, among those of the n + 2 rows.
 pub(crate) fn link_at(n: usize, regs: &[u16], r: usize) -> usize
@@ -109,30 +111,29 @@ fn same_link(rows: &[u16], parts: &[u16], n: usize, u: usize, t: usize) -> bool
     valid_typing::same_rows(rows, parts, n, u - 1, t)
 }
 
-// halt t, under the q letters at l
+// halt t, under the letters w
 pub(crate) fn stop(
-    rows: &[u16],
-    parts: &[u16],
+    image: &[u16],
+    p: Places,
     n: usize,
-    uses: &[u8],
-    tops: &[u16],
     regs: &[u16],
     t: usize,
-    q: usize,
-    l: usize,
+    w: BlockLetters,
 ) -> usize
-    requires { ⌜ Ready (now rows) (now parts) n × Scoped (tab (now rows) (now parts)) n (now uses) (now tops) ⌝ }
-    ensures { λ out. ⌜ InRegs (now (rows .entry)) (now (parts .entry)) n (map letterOf (span (now (parts .entry)) l q)) (now (regs .entry)) (now (regs .entry)) out (halt t) ⌝ }
+    requires { ⌜ Ordered p (length (now image)) × ReadyAt p (now image) n × ScopedAt p (now image) n ⌝ }
+    ensures { λ out. ⌜ InRegsAt p (now (image .entry)) n (lettersIn p (now (image .entry)) w) (now (regs .entry)) (now (regs .entry)) out (halt t) ⌝ }
 {
+    let shared = p.shared;
+    let slots = p.slots;
+    let end = p.end;
     let u = link_at(n, regs, 0);
-    let f = valid_context::least(
-        valid_typing::formed_row(rows, parts, n, uses, tops, t, q, l),
-        if_none(9, u),
-    );
+    let g = valid_typing::formed_row(image, p, n, t, w);
+    let f = valid_context::least(g, if_none(9, u));
     if f != 0 {
         return f;
     }
-    if same_link(rows, parts, n, u, valid_typing::given_row(n, t)) {
+    let r = valid_typing::given_row(n, t);
+    if same_link(&image[shared..slots], &image[slots..end], n, u, r) {
         return 0;
     }
     10

@@ -2,115 +2,78 @@
 // is taken or not.
 // Promised of each: the least fault that `judge` of crate valid gives the instruction, 0 if it has none, and for fault 10 an item that
 // does not fit: 0 for sp, 1 to 8 for a register, 99 for the operand's resulting row; 100 stands for none.
+use image::Counts;
+use image::Places;
+use valid_typing::BlockLetters;
 use valid_typing::target::Fitted;
-ghost use Prim.Native.Nat.{ℕ, _≤_};
-ghost use mathlib.Core.List.{map};
+ghost use Prim.Native.Nat.{_≤_};
 ghost use lib.ListN.{length};
 ghost use Rattle.syntax.specs.Syntax.{Branch, bop, jmp};
-ghost use Rattle.tables.specs.Tables.{span, letterOf, operandAt};
 ghost use Rattle.valid.specs.Program.{Program};
 ghost use Rattle.valid.specs.PassThree.{judge};
-ghost use Rattle.types_rows.specs.Read.{tab};
-ghost use Rattle.valid_scope.specs.Scoped.{Scoped};
 ghost use Rattle.valid_context.specs.Context.{contextOf};
 ghost use Rattle.valid_context.specs.premises.Bounds.{Short};
-ghost use Rattle.valid_context.specs.premises.Answers.{Holds, Answered};
-ghost use Rattle.valid_typing.specs.Typing.{typesIn, Ready};
-ghost use Rattle.valid_typing.specs.operands.Operands.{operandTable};
+ghost use Rattle.valid_context.specs.premises.Answers.{Answered};
+ghost use Rattle.image.specs.Sections.{Ordered};
+ghost use Rattle.valid_typing.specs.Image.{typesAt, ReadyAt, ScopedAt, operandIn, HoldsAt, lettersIn};
 
-// jmp v, under the q letters at l, with the d items of sp
-pub(crate) fn jump(
-    rows: &[u16],
-    parts: &[u16],
-    n: usize,
-    uses: &[u8],
-    tops: &[u16],
-    blocks: &[u16],
-    nb: usize,
-    operands: &[u16],
-    numbers: &[u32],
-    args: &[u16],
-    v: usize,
-    q: usize,
-    l: usize,
-    regs: &[u16],
-    sp: &[u16],
-    d: usize,
-    back: &mut [u16],
-) -> Fitted
-    requires { ⌜ Ready (now rows) (now parts) n × Scoped (tab (now rows) (now parts)) n (now uses) (now tops) × Short (operandAt (operandTable (now operands) (now numbers) (now args)) v) × (v ≤ 131072) × (8 ≤ length (now back)) ⌝ }
-    ensures { λ out. ⌜ ((P : Program) → Holds (tab (now (rows .entry)) (now (parts .entry))) n (now (blocks .entry)) nb P → Answered (judge P (map letterOf (span (now (parts .entry)) l q)) (contextOf (typesIn (now (rows .entry)) (now (parts .entry)) n) (now (regs .entry)) (now (sp .entry)) d) (jmp (operandAt (operandTable (now (operands .entry)) (now (numbers .entry)) (now (args .entry))) v))) (out .fault) (contextOf (typesIn (now (rows .entry)) (now (parts .entry)) n) (now (regs .entry)) (now (sp .entry)) d) (out .item)) ⌝ }
-{
-    valid_typing::target::target(
-        rows,
-        parts,
-        n,
-        uses,
-        tops,
-        blocks,
-        nb,
-        operands,
-        numbers,
-        args,
-        v,
-        q,
-        l,
-        regs,
-        sp,
-        d,
-        back,
-    )
+// A branch: the register that it tests, and its operand.
+pub struct Tested {
+    pub register: usize,
+    pub operand: usize,
 }
 
-// A branch on register r: r v, under the q letters at l, with the d items of sp
-pub(crate) fn branch(
-    rows: &[u16],
-    parts: &[u16],
-    n: usize,
-    uses: &[u8],
-    tops: &[u16],
-    blocks: &[u16],
-    nb: usize,
-    operands: &[u16],
-    numbers: &[u32],
-    args: &[u16],
+// jmp v, under the letters w, with the d items of sp
+pub(crate) fn jump(
+    image: &[u16],
+    literals: &[u32],
+    p: Places,
+    c: Counts,
     v: usize,
-    q: usize,
-    l: usize,
+    w: BlockLetters,
     regs: &[u16],
     sp: &[u16],
     d: usize,
     back: &mut [u16],
-    r: usize,
 ) -> Fitted
-    requires { ⌜ Ready (now rows) (now parts) n × Scoped (tab (now rows) (now parts)) n (now uses) (now tops) × Short (operandAt (operandTable (now operands) (now numbers) (now args)) v) × (v ≤ 131072) × (8 ≤ length (now back)) ⌝ }
-    ensures { λ out. ⌜ ((P : Program) (o : Branch) → Holds (tab (now (rows .entry)) (now (parts .entry))) n (now (blocks .entry)) nb P → Answered (judge P (map letterOf (span (now (parts .entry)) l q)) (contextOf (typesIn (now (rows .entry)) (now (parts .entry)) n) (now (regs .entry)) (now (sp .entry)) d) (bop o r (operandAt (operandTable (now (operands .entry)) (now (numbers .entry)) (now (args .entry))) v))) (out .fault) (contextOf (typesIn (now (rows .entry)) (now (parts .entry)) n) (now (regs .entry)) (now (sp .entry)) d) (out .item)) ⌝ }
+    requires { ⌜ Ordered p (length (now image)) × ReadyAt p (now image) (c .rows) × ScopedAt p (now image) (c .rows) × Short (operandIn p (now image) (now literals) v) × (v ≤ 131072) × (8 ≤ length (now back)) ⌝ }
+    ensures { λ out. ⌜ ((P : Program) → HoldsAt p (now (image .entry)) c P → Answered (judge P (lettersIn p (now (image .entry)) w) (contextOf (typesAt p (now (image .entry)) (c .rows)) (now (regs .entry)) (now (sp .entry)) d) (jmp (operandIn p (now (image .entry)) (now (literals .entry)) v))) (out .fault) (contextOf (typesAt p (now (image .entry)) (c .rows)) (now (regs .entry)) (now (sp .entry)) d) (out .item)) ⌝ }
 {
-    let f = valid_typing::integer(rows, parts, n, regs, r);
-    let w = valid_typing::target::target(
-        rows,
-        parts,
-        n,
-        uses,
-        tops,
-        blocks,
-        nb,
-        operands,
-        numbers,
-        args,
-        v,
-        q,
-        l,
+    valid_typing::target::target(image, literals, p, c, v, w, regs, sp, d, back)
+}
+
+// A branch x, under the letters w, with the d items of sp
+pub(crate) fn branch(
+    image: &[u16],
+    literals: &[u32],
+    p: Places,
+    c: Counts,
+    x: Tested,
+    w: BlockLetters,
+    regs: &[u16],
+    sp: &[u16],
+    d: usize,
+    back: &mut [u16],
+) -> Fitted
+    requires { ⌜ Ordered p (length (now image)) × ReadyAt p (now image) (c .rows) × ScopedAt p (now image) (c .rows) × Short (operandIn p (now image) (now literals) (x .operand)) × (x .operand ≤ 131072) × (8 ≤ length (now back)) ⌝ }
+    ensures { λ out. ⌜ ((P : Program) (o : Branch) → HoldsAt p (now (image .entry)) c P → Answered (judge P (lettersIn p (now (image .entry)) w) (contextOf (typesAt p (now (image .entry)) (c .rows)) (now (regs .entry)) (now (sp .entry)) d) (bop o (x .register) (operandIn p (now (image .entry)) (now (literals .entry)) (x .operand)))) (out .fault) (contextOf (typesAt p (now (image .entry)) (c .rows)) (now (regs .entry)) (now (sp .entry)) d) (out .item)) ⌝ }
+{
+    let shared = p.shared;
+    let slots = p.slots;
+    let end = p.end;
+    let f = valid_typing::integer(
+        &image[shared..slots],
+        &image[slots..end],
+        c.rows,
         regs,
-        sp,
-        d,
-        back,
+        x.register,
     );
+    let t = valid_typing::target::target(image, literals, p, c, x.operand, w, regs, sp, d, back);
     if f != 0 {
         return Fitted {
-            fault: valid_context::least(f, w.fault),
+            fault: valid_context::least(f, t.fault),
             item: 100,
         };
     }
-    w
+    t
 }

@@ -2,25 +2,27 @@
 // `sst`. The types known before it stand in the checker's arrays (crate valid_context), and are there changed to those known after it.
 // Promised of each: the least fault that `judge` of crate valid gives the instruction, 0 if it has none, and then the types after it;
 // sp stays within 64 items.
+use image::Places;
 use types_rows::Val;
+use valid_typing::BlockLetters;
 ghost use mathlib.Core.Path.{_≡_};
 ghost use Prim.Native.Nat.{ℕ, _+_, _-_, _≤_, _<_};
 ghost use mathlib.Core.Bool.{cond};
-ghost use mathlib.Core.List.{List, map};
+ghost use mathlib.Core.List.{List};
 ghost use lib.ListN.{length};
-ghost use Rattle.syntax.specs.Syntax.{Kind, value, stack, getsp, setsp, salloc, sfree, sld, sst};
+ghost use Rattle.syntax.specs.Syntax.{Kind, value, getsp, setsp, salloc, sfree, sld, sst};
 ghost use Rattle.types.specs.Types.{pointer, Arg};
 ghost use Rattle.types.specs.Rows.{typeAt};
 ghost use Rattle.types.specs.Equal.{same};
-ghost use Rattle.tables.specs.Tables.{span, letterOf};
 ghost use Rattle.valid.specs.Program.{Program};
 ghost use Rattle.valid.specs.PassThree.{judge};
-ghost use Rattle.types_rows.specs.Read.{tab};
-ghost use Rattle.valid_scope.specs.Scoped.{Scoped};
 ghost use Rattle.valid_context.specs.Context.{spOf, contextOf};
 ghost use Rattle.valid_context.specs.Told.{toldOf, answer};
 ghost use Rattle.valid_typing.specs.Typing.{typesIn, Ready};
 ghost use Rattle.valid_judge.specs.stack.Forms.{InStack};
+ghost use Rattle.image.specs.Sections.{Ordered};
+ghost use Rattle.valid_typing.specs.Image.{ReadyAt, ScopedAt, lettersIn};
+ghost use Rattle.valid_judge.specs.Image.{InStackAt};
 
 // The least fault, 0 if there is none, and then how many items sp has.
 pub struct Moved {
@@ -50,30 +52,30 @@ pub(crate) fn points(rows: &[u16], parts: &[u16], n: usize, sp: &[u16], m: usize
     valid_typing::same_items(rows, parts, n, sp, m, x)
 }
 
-// getsp d t, under the q letters at l
+// getsp d t, under the letters w
 pub(crate) fn get_sp(
-    rows: &[u16],
-    parts: &[u16],
+    image: &[u16],
+    p: Places,
     n: usize,
-    uses: &[u8],
-    tops: &[u16],
+    w: BlockLetters,
     regs: &mut [u16],
     sp: &[u16],
     depth: usize,
     d: usize,
     t: usize,
-    q: usize,
-    l: usize,
 ) -> usize
-    requires { ⌜ Ready (now rows) (now parts) n × Scoped (tab (now rows) (now parts)) n (now uses) (now tops) × (8 ≤ length (now regs)) ⌝ }
-    ensures { λ out. ⌜ InStack (now (rows .entry)) (now (parts .entry)) n (map letterOf (span (now (parts .entry)) l q)) (now (regs .entry)) (now (sp .entry)) depth (now (regs .exit)) (now (sp .entry)) depth out (getsp d t) ⌝ }
+    requires { ⌜ Ordered p (length (now image)) × ReadyAt p (now image) n × ScopedAt p (now image) n × (8 ≤ length (now regs)) ⌝ }
+    ensures { λ out. ⌜ InStackAt p (now (image .entry)) n (lettersIn p (now (image .entry)) w) (now (regs .entry)) (now (sp .entry)) depth (now (regs .exit)) (now (sp .entry)) depth out (getsp d t) ⌝ }
 {
+    let shared = p.shared;
+    let slots = p.slots;
+    let end = p.end;
+    let rows = &image[shared..slots];
+    let parts = &image[slots..end];
     let r = valid_typing::given_row(n, t);
     let g = if_not(10, points(rows, parts, n, sp, depth, r));
-    let f = valid_context::least(
-        valid_typing::formed_row(rows, parts, n, uses, tops, t, q, l),
-        g,
-    );
+    let h = valid_typing::formed_row(image, p, n, t, w);
+    let f = valid_context::least(h, g);
     if f != 0 {
         return f;
     }

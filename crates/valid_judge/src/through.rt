@@ -2,25 +2,30 @@
 // the checker's arrays (crate valid_context), and are there changed to those known after it. For a store, the pointer's items are written
 // out into a third array, `work`, where one is replaced and the whole is compared with what the given row points to.
 // Promised of each: the least fault that `judge` of crate valid gives the instruction, 0 if it has none, and then the types after it.
+use image::Places;
+use valid_typing::BlockLetters;
+use valid_typing::Typed;
 ghost use mathlib.Core.Path.{_≡_};
 ghost use Prim.Native.Nat.{ℕ, _+_, _-_, _≤_};
-ghost use mathlib.Core.List.{List, map};
+ghost use mathlib.Core.List.{List};
 ghost use lib.ListN.{length};
 ghost use Rattle.syntax.specs.Syntax.{Kind, stack, slp, ssp};
 ghost use Rattle.types.specs.Types.{items};
 ghost use Rattle.types.specs.Rows.{typesOf};
-ghost use Rattle.tables.specs.Tables.{rowsIn, span, letterOf};
+ghost use Rattle.tables.specs.Tables.{rowsIn};
 ghost use Rattle.valid.specs.Program.{Program};
 ghost use Rattle.valid.specs.Rules.{Context};
 ghost use Rattle.valid.specs.PassThree.{itemAt, pointerAt, newTail};
 ghost use Rattle.types_rows.specs.Read.{tab, meanS};
-ghost use Rattle.valid_scope.specs.Scoped.{Scoped};
 ghost use Rattle.valid_context.specs.Context.{linked, regsOf, spOf, spAbove, contextOf};
 ghost use Rattle.valid_context.specs.Told.{toldOf, answer};
 ghost use Rattle.valid_typing.specs.Typing.{typesIn, Ready, SmallVars, givenRow};
 ghost use Rattle.valid_typing.proofs.Judging.{through};
 ghost use Rattle.valid_judge.specs.stack.Forms.{InStack};
-ghost use Rattle.valid_judge.specs.through.Forms.{Flat, Replaced, IsTail};
+ghost use Rattle.valid_judge.specs.through.Forms.{Replaced, IsTail};
+ghost use Rattle.image.specs.Sections.{Ordered};
+ghost use Rattle.valid_typing.specs.Image.{ReadyAt, ScopedAt, lettersIn};
+ghost use Rattle.valid_judge.specs.Image.{FlatAt, InStackAt};
 
 // slp d s i
 pub(crate) fn load_through(
@@ -78,7 +83,7 @@ fn new_tail(
     10
 }
 
-// The pointer's stack, of link x if f is 0, is a tail of sp, and has a new tail as above.
+// The pointer's stack, which b answers, is a tail of sp, and has a new tail as above.
 fn pass_through(
     rows: &[u16],
     parts: &[u16],
@@ -86,54 +91,58 @@ fn pass_through(
     sp: &[u16],
     depth: usize,
     work: &mut [u16],
-    f: usize,
-    x: usize,
+    b: Typed,
     u: usize,
     i: usize,
     t: usize,
 ) -> usize
-    requires { ⌜ Ready (now rows) (now parts) n × (x ≤ n + 2) × (u ≤ n + 2) × (items (meanS (tab (now rows) (now parts)) x) ≤ length (now work)) × SmallVars (meanS (tab (now rows) (now parts)) x) ⌝ }
-    ensures { λ out. ⌜ ((P : Program) (Δ : List Kind) (regs : List ℕ) (d s : ℕ) → P .types ≡ typesOf (rowsIn (tab (now (rows .entry)) (now (parts .entry))) n) → toldOf (pointerAt P Δ (regsOf (typesIn (now (rows .entry)) (now (parts .entry)) n) regs) d) ≡ answer f (meanS (tab (now (rows .entry)) (now (parts .entry))) x) → itemAt (regsOf (typesIn (now (rows .entry)) (now (parts .entry)) n) regs) s ≡ linked (typesIn (now (rows .entry)) (now (parts .entry)) n) u → toldOf (through P Δ (contextOf (typesIn (now (rows .entry)) (now (parts .entry)) n) regs (now (sp .entry)) depth) d i s t) ≡ answer out (spAbove (typesIn (now (rows .entry)) (now (parts .entry)) n) (now (sp .entry)) (items (meanS (tab (now (rows .entry)) (now (parts .entry))) x)) (depth - items (meanS (tab (now (rows .entry)) (now (parts .entry))) x)), spOf (typesIn (now (rows .entry)) (now (parts .entry)) n) (now (work .exit)) (items (meanS (tab (now (rows .entry)) (now (parts .entry))) x)))) × (out ≡ 0 → IsTail (typesIn (now (rows .entry)) (now (parts .entry)) n) (now (sp .entry)) depth (meanS (tab (now (rows .entry)) (now (parts .entry))) x) × Replaced (typesIn (now (rows .entry)) (now (parts .entry)) n) (meanS (tab (now (rows .entry)) (now (parts .entry))) x) i u (givenRow n t) (spOf (typesIn (now (rows .entry)) (now (parts .entry)) n) (now (work .exit)) (items (meanS (tab (now (rows .entry)) (now (parts .entry))) x)))) ⌝ }
+    requires { ⌜ Ready (now rows) (now parts) n × (b .row ≤ n + 2) × (u ≤ n + 2) × (items (meanS (tab (now rows) (now parts)) (b .row)) ≤ length (now work)) × SmallVars (meanS (tab (now rows) (now parts)) (b .row)) ⌝ }
+    ensures { λ out. ⌜ ((P : Program) (Δ : List Kind) (regs : List ℕ) (d s : ℕ) → P .types ≡ typesOf (rowsIn (tab (now (rows .entry)) (now (parts .entry))) n) → toldOf (pointerAt P Δ (regsOf (typesIn (now (rows .entry)) (now (parts .entry)) n) regs) d) ≡ answer (b .fault) (meanS (tab (now (rows .entry)) (now (parts .entry))) (b .row)) → itemAt (regsOf (typesIn (now (rows .entry)) (now (parts .entry)) n) regs) s ≡ linked (typesIn (now (rows .entry)) (now (parts .entry)) n) u → toldOf (through P Δ (contextOf (typesIn (now (rows .entry)) (now (parts .entry)) n) regs (now (sp .entry)) depth) d i s t) ≡ answer out (spAbove (typesIn (now (rows .entry)) (now (parts .entry)) n) (now (sp .entry)) (items (meanS (tab (now (rows .entry)) (now (parts .entry))) (b .row))) (depth - items (meanS (tab (now (rows .entry)) (now (parts .entry))) (b .row))), spOf (typesIn (now (rows .entry)) (now (parts .entry)) n) (now (work .exit)) (items (meanS (tab (now (rows .entry)) (now (parts .entry))) (b .row))))) × (out ≡ 0 → IsTail (typesIn (now (rows .entry)) (now (parts .entry)) n) (now (sp .entry)) depth (meanS (tab (now (rows .entry)) (now (parts .entry))) (b .row)) × Replaced (typesIn (now (rows .entry)) (now (parts .entry)) n) (meanS (tab (now (rows .entry)) (now (parts .entry))) (b .row)) i u (givenRow n t) (spOf (typesIn (now (rows .entry)) (now (parts .entry)) n) (now (work .exit)) (items (meanS (tab (now (rows .entry)) (now (parts .entry))) (b .row))))) ⌝ }
 {
-    if f != 0 {
-        return f;
+    if b.fault != 0 {
+        return b.fault;
     }
-    let a = crate::stack::if_not(12, valid_typing::is_tail(rows, parts, n, sp, depth, x));
-    valid_context::least(a, new_tail(rows, parts, n, work, x, u, i, t))
+    let a = crate::stack::if_not(12, valid_typing::is_tail(rows, parts, n, sp, depth, b.row));
+    valid_context::least(a, new_tail(rows, parts, n, work, b.row, u, i, t))
 }
 
-// ssp d i s t, under the q letters at l
+// ssp d i s t: the pointer's register, the item, the register that is stored, and the row that is given.
+pub struct PointerStore {
+    pub pointer: usize,
+    pub item: usize,
+    pub source: usize,
+    pub row: usize,
+}
+
+// ssp, under the letters w
 pub(crate) fn store_through(
-    rows: &[u16],
-    parts: &[u16],
+    image: &[u16],
+    p: Places,
     n: usize,
-    uses: &[u8],
-    tops: &[u16],
     regs: &mut [u16],
     sp: &mut [u16],
     work: &mut [u16],
     depth: usize,
-    d: usize,
-    i: usize,
-    s: usize,
-    t: usize,
-    q: usize,
-    l: usize,
+    x: PointerStore,
+    w: BlockLetters,
 ) -> usize
-    requires { ⌜ Ready (now rows) (now parts) n × Scoped (tab (now rows) (now parts)) n (now uses) (now tops) × Flat (now rows) (now parts) n × (8 ≤ length (now regs)) × (depth ≤ length (now sp)) × (4096 ≤ length (now work)) ⌝ }
-    ensures { λ out. ⌜ InStack (now (rows .entry)) (now (parts .entry)) n (map letterOf (span (now (parts .entry)) l q)) (now (regs .entry)) (now (sp .entry)) depth (now (regs .exit)) (now (sp .exit)) depth out (ssp d i s t) ⌝ }
+    requires { ⌜ Ordered p (length (now image)) × ReadyAt p (now image) n × ScopedAt p (now image) n × FlatAt p (now image) n × (8 ≤ length (now regs)) × (depth ≤ length (now sp)) × (4096 ≤ length (now work)) ⌝ }
+    ensures { λ out. ⌜ InStackAt p (now (image .entry)) n (lettersIn p (now (image .entry)) w) (now (regs .entry)) (now (sp .entry)) depth (now (regs .exit)) (now (sp .exit)) depth out (ssp (x .pointer) (x .item) (x .source) (x .row)) ⌝ }
 {
-    let u = crate::heap::link_at(n, regs, s);
-    let p = valid_typing::pointer(rows, parts, n, regs, d);
-    let h = pass_through(rows, parts, n, sp, depth, work, p.fault, p.row, u, i, t);
+    let shared = p.shared;
+    let slots = p.slots;
+    let end = p.end;
+    let rows = &image[shared..slots];
+    let parts = &image[slots..end];
+    let u = crate::heap::link_at(n, regs, x.source);
+    let b = valid_typing::pointer(rows, parts, n, regs, x.pointer);
+    let h = pass_through(rows, parts, n, sp, depth, work, b, u, x.item, x.row);
     let g = valid_context::least(crate::heap::if_none(9, u), h);
-    let f = valid_context::least(
-        valid_typing::formed_row(rows, parts, n, uses, tops, t, q, l),
-        g,
-    );
+    let e = valid_typing::formed_row(image, p, n, x.row, w);
+    let f = valid_context::least(e, g);
     if f != 0 {
         return f;
     }
-    valid_context::set_item(sp, types_rows::item_count(rows, p.row), i, u - 1);
-    crate::heap::set_register(regs, d, valid_typing::given_row(n, t))
+    valid_context::set_item(sp, types_rows::item_count(rows, b.row), x.item, u - 1);
+    crate::heap::set_register(regs, x.pointer, valid_typing::given_row(n, x.row))
 }

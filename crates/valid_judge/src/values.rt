@@ -2,22 +2,23 @@
 // stand in the checker's arrays (crate valid_context), and are there changed to those known after it. `back` is lent for the arguments of
 // an operand.
 // Promised of each: the least fault that `judge` of crate valid gives the instruction, 0 if it has none, and then the types after it.
+use image::Counts;
+use image::Places;
+use valid_typing::BlockLetters;
+use valid_typing::Listed;
 ghost use mathlib.Core.Path.{_≡_};
-ghost use Prim.Native.Nat.{ℕ, _+_, _≤_};
-ghost use mathlib.Core.List.{map};
+ghost use Prim.Native.Nat.{_+_, _≤_};
 ghost use lib.ListN.{length};
 ghost use Rattle.syntax.specs.Syntax.{value, Arith, aop, mov, malloc};
 ghost use Rattle.types.specs.Types.{Ty};
 ghost use Rattle.types.specs.Rows.{typeAt};
-ghost use Rattle.tables.specs.Tables.{span, letterOf, operandAt, operandsAt};
 ghost use Rattle.valid.specs.PassThree.{Judged, _▹_, orFault, asInt};
-ghost use Rattle.types_rows.specs.Read.{tab};
-ghost use Rattle.valid_scope.specs.Scoped.{Scoped};
 ghost use Rattle.valid_context.specs.Told.{toldOf, answer};
 ghost use Rattle.valid_context.specs.premises.Bounds.{Short, AllShort};
 ghost use Rattle.valid_typing.specs.Typing.{typesIn, Ready};
-ghost use Rattle.valid_typing.specs.operands.Operands.{operandTable};
-ghost use Rattle.valid_judge.specs.values.Forms.{InFile};
+ghost use Rattle.image.specs.Sections.{Ordered};
+ghost use Rattle.valid_typing.specs.Image.{ReadyAt, ScopedAt, operandIn, listedIn, lettersIn};
+ghost use Rattle.valid_judge.specs.Image.{InFileAt};
 
 // A premise has the least fault f, or gives the type of row t: that it is the integer type.
 fn int_fault(rows: &[u16], parts: &[u16], n: usize, f: usize, t: usize) -> usize
@@ -30,47 +31,30 @@ fn int_fault(rows: &[u16], parts: &[u16], n: usize, f: usize, t: usize) -> usize
     crate::stack::if_not(9, valid_typing::is_int(rows, parts, n, t))
 }
 
-// add, sub, mul: d s v, under the q letters at l
+// add, sub, mul: d s v, under the letters w
 pub(crate) fn compute(
-    rows: &[u16],
-    parts: &[u16],
-    n: usize,
-    uses: &[u8],
-    tops: &[u16],
-    blocks: &[u16],
-    nb: usize,
-    operands: &[u16],
-    numbers: &[u32],
-    args: &[u16],
+    image: &[u16],
+    literals: &[u32],
+    p: Places,
+    c: Counts,
     v: usize,
-    q: usize,
-    l: usize,
+    w: BlockLetters,
     regs: &mut [u16],
     back: &mut [u16],
     d: usize,
     s: usize,
 ) -> usize
-    requires { ⌜ Ready (now rows) (now parts) n × Scoped (tab (now rows) (now parts)) n (now uses) (now tops) × Short (operandAt (operandTable (now operands) (now numbers) (now args)) v) × (v ≤ 131072) × (8 ≤ length (now regs)) × (8 ≤ length (now back)) ⌝ }
-    ensures { λ out. ⌜ ((o : Arith) → InFile (now (rows .entry)) (now (parts .entry)) n (now (blocks .entry)) nb (map letterOf (span (now (parts .entry)) l q)) (now (regs .entry)) (now (regs .exit)) out (aop o d s (operandAt (operandTable (now (operands .entry)) (now (numbers .entry)) (now (args .entry))) v))) ⌝ }
+    requires { ⌜ Ordered p (length (now image)) × ReadyAt p (now image) (c .rows) × ScopedAt p (now image) (c .rows) × Short (operandIn p (now image) (now literals) v) × (v ≤ 131072) × (8 ≤ length (now regs)) × (8 ≤ length (now back)) ⌝ }
+    ensures { λ out. ⌜ ((o : Arith) → InFileAt p (now (image .entry)) c (lettersIn p (now (image .entry)) w) (now (regs .entry)) (now (regs .exit)) out (aop o d s (operandIn p (now (image .entry)) (now (literals .entry)) v))) ⌝ }
 {
-    let w = valid_typing::operands::operand(
-        rows,
-        parts,
-        n,
-        uses,
-        tops,
-        blocks,
-        nb,
-        operands,
-        numbers,
-        args,
-        v,
-        q,
-        l,
-        regs,
-        back,
-    );
-    let g = int_fault(rows, parts, n, w.fault, w.row);
+    let shared = p.shared;
+    let slots = p.slots;
+    let end = p.end;
+    let rows = &image[shared..slots];
+    let parts = &image[slots..end];
+    let n = c.rows;
+    let t = valid_typing::operands::operand(image, literals, p, c, v, w, regs, back);
+    let g = int_fault(rows, parts, n, t.fault, t.row);
     let f = valid_context::least(valid_typing::integer(rows, parts, n, regs, s), g);
     if f != 0 {
         return f;
@@ -80,167 +64,91 @@ pub(crate) fn compute(
 
 // mov d v
 pub(crate) fn move_to(
-    rows: &[u16],
-    parts: &[u16],
-    n: usize,
-    uses: &[u8],
-    tops: &[u16],
-    blocks: &[u16],
-    nb: usize,
-    operands: &[u16],
-    numbers: &[u32],
-    args: &[u16],
+    image: &[u16],
+    literals: &[u32],
+    p: Places,
+    c: Counts,
     v: usize,
-    q: usize,
-    l: usize,
+    w: BlockLetters,
     regs: &mut [u16],
     back: &mut [u16],
     d: usize,
 ) -> usize
-    requires { ⌜ Ready (now rows) (now parts) n × Scoped (tab (now rows) (now parts)) n (now uses) (now tops) × Short (operandAt (operandTable (now operands) (now numbers) (now args)) v) × (v ≤ 131072) × (8 ≤ length (now regs)) × (8 ≤ length (now back)) ⌝ }
-    ensures { λ out. ⌜ InFile (now (rows .entry)) (now (parts .entry)) n (now (blocks .entry)) nb (map letterOf (span (now (parts .entry)) l q)) (now (regs .entry)) (now (regs .exit)) out (mov d (operandAt (operandTable (now (operands .entry)) (now (numbers .entry)) (now (args .entry))) v)) ⌝ }
+    requires { ⌜ Ordered p (length (now image)) × ReadyAt p (now image) (c .rows) × ScopedAt p (now image) (c .rows) × Short (operandIn p (now image) (now literals) v) × (v ≤ 131072) × (8 ≤ length (now regs)) × (8 ≤ length (now back)) ⌝ }
+    ensures { λ out. ⌜ InFileAt p (now (image .entry)) c (lettersIn p (now (image .entry)) w) (now (regs .entry)) (now (regs .exit)) out (mov d (operandIn p (now (image .entry)) (now (literals .entry)) v)) ⌝ }
 {
-    let w = valid_typing::operands::operand(
-        rows,
-        parts,
-        n,
-        uses,
-        tops,
-        blocks,
-        nb,
-        operands,
-        numbers,
-        args,
-        v,
-        q,
-        l,
-        regs,
-        back,
-    );
-    if w.fault != 0 {
-        return w.fault;
+    let t = valid_typing::operands::operand(image, literals, p, c, v, w, regs, back);
+    if t.fault != 0 {
+        return t.fault;
     }
-    crate::heap::set_register(regs, d, w.row)
+    crate::heap::set_register(regs, d, t.row)
 }
 
-// malloc d t v .. v + c - 1, its operands listed
+// malloc d t o, its operands listed
 fn make_listed(
-    rows: &[u16],
-    parts: &[u16],
-    n: usize,
-    uses: &[u8],
-    tops: &[u16],
-    blocks: &[u16],
-    nb: usize,
-    operands: &[u16],
-    numbers: &[u32],
-    args: &[u16],
-    v: usize,
-    c: usize,
-    q: usize,
-    l: usize,
+    image: &[u16],
+    literals: &[u32],
+    p: Places,
+    c: Counts,
+    o: Listed,
+    w: BlockLetters,
     regs: &mut [u16],
     back: &mut [u16],
     d: usize,
     t: usize,
 ) -> usize
-    requires { ⌜ Ready (now rows) (now parts) n × Scoped (tab (now rows) (now parts)) n (now uses) (now tops) × AllShort (operandsAt (operandTable (now operands) (now numbers) (now args)) v c) × (v + c ≤ 131072) × (c ≤ 16) × (8 ≤ length (now regs)) × (8 ≤ length (now back)) ⌝ }
-    ensures { λ out. ⌜ InFile (now (rows .entry)) (now (parts .entry)) n (now (blocks .entry)) nb (map letterOf (span (now (parts .entry)) l q)) (now (regs .entry)) (now (regs .exit)) out (malloc d t (operandsAt (operandTable (now (operands .entry)) (now (numbers .entry)) (now (args .entry))) v c)) ⌝ }
+    requires { ⌜ Ordered p (length (now image)) × ReadyAt p (now image) (c .rows) × ScopedAt p (now image) (c .rows) × AllShort (listedIn p (now image) (now literals) o) × (o .first + o .count ≤ 131072) × (o .count ≤ 16) × (8 ≤ length (now regs)) × (8 ≤ length (now back)) ⌝ }
+    ensures { λ out. ⌜ InFileAt p (now (image .entry)) c (lettersIn p (now (image .entry)) w) (now (regs .entry)) (now (regs .exit)) out (malloc d t (listedIn p (now (image .entry)) (now (literals .entry)) o)) ⌝ }
 {
+    let shared = p.shared;
+    let slots = p.slots;
+    let end = p.end;
+    let n = c.rows;
     let mut found = [0u16; 16];
     let g = valid_typing::components::operand_list(
-        rows,
-        parts,
-        n,
-        uses,
-        tops,
-        blocks,
-        nb,
-        operands,
-        numbers,
-        args,
-        v,
+        image,
+        literals,
+        p,
         c,
-        q,
-        l,
+        o,
+        w,
         regs,
         back,
         &mut found,
     );
-    let f = valid_context::least(
-        valid_typing::formed_row(rows, parts, n, uses, tops, t, q, l),
-        g,
-    );
+    let f = valid_context::least(valid_typing::formed_row(image, p, n, t, w), g);
     if f != 0 {
         return f;
     }
     let r = valid_typing::given_row(n, t);
-    if valid_typing::components::same_tuple(rows, parts, n, r, &found, c) {
+    let rows = &image[shared..slots];
+    if valid_typing::components::same_tuple(rows, &image[slots..end], n, r, &found, o.count) {
         return crate::heap::set_register(regs, d, r);
     }
     10
 }
 
-// malloc d t v .. v + c - 1
+// malloc d t o
 pub(crate) fn make_tuple(
-    rows: &[u16],
-    parts: &[u16],
-    n: usize,
-    uses: &[u8],
-    tops: &[u16],
-    blocks: &[u16],
-    nb: usize,
-    operands: &[u16],
-    numbers: &[u32],
-    args: &[u16],
-    v: usize,
-    c: usize,
-    q: usize,
-    l: usize,
+    image: &[u16],
+    literals: &[u32],
+    p: Places,
+    c: Counts,
+    o: Listed,
+    w: BlockLetters,
     regs: &mut [u16],
     back: &mut [u16],
     d: usize,
     t: usize,
 ) -> usize
-    requires { ⌜ Ready (now rows) (now parts) n × Scoped (tab (now rows) (now parts)) n (now uses) (now tops) × AllShort (operandsAt (operandTable (now operands) (now numbers) (now args)) v c) × (v + c ≤ 131072) × (c ≤ 16) × (8 ≤ length (now regs)) × (8 ≤ length (now back)) ⌝ }
-    ensures { λ out. ⌜ InFile (now (rows .entry)) (now (parts .entry)) n (now (blocks .entry)) nb (map letterOf (span (now (parts .entry)) l q)) (now (regs .entry)) (now (regs .exit)) out (malloc d t (operandsAt (operandTable (now (operands .entry)) (now (numbers .entry)) (now (args .entry))) v c)) ⌝ }
+    requires { ⌜ Ordered p (length (now image)) × ReadyAt p (now image) (c .rows) × ScopedAt p (now image) (c .rows) × AllShort (listedIn p (now image) (now literals) o) × (o .first + o .count ≤ 131072) × (o .count ≤ 16) × (8 ≤ length (now regs)) × (8 ≤ length (now back)) ⌝ }
+    ensures { λ out. ⌜ InFileAt p (now (image .entry)) c (lettersIn p (now (image .entry)) w) (now (regs .entry)) (now (regs .exit)) out (malloc d t (listedIn p (now (image .entry)) (now (literals .entry)) o)) ⌝ }
 {
-    let r = valid_typing::given_row(n, t);
-    if !valid_typing::plain_components::plain_tuple(
-        rows,
-        parts,
-        n,
-        blocks,
-        nb,
-        operands,
-        numbers,
-        v,
-        c,
-        regs,
-        r,
-    ) {
-        return make_listed(
-            rows,
-            parts,
-            n,
-            uses,
-            tops,
-            blocks,
-            nb,
-            operands,
-            numbers,
-            args,
-            v,
-            c,
-            q,
-            l,
-            regs,
-            back,
-            d,
-            t,
-        );
+    let r = valid_typing::given_row(c.rows, t);
+    if !valid_typing::plain_components::plain_tuple(image, literals, p, c, o, regs, r) {
+        return make_listed(image, literals, p, c, o, w, regs, back, d, t);
     }
-    let f = valid_typing::formed_row(rows, parts, n, uses, tops, t, q, l);
+    let f = valid_typing::formed_row(image, p, c.rows, t, w);
     if f != 0 {
         return f;
     }

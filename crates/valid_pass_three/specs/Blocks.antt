@@ -4,13 +4,18 @@ use mathlib.Core.Bool.{Bool}
 use mathlib.Core.List.{List, _∷_}
 use Rattle.syntax.specs.Syntax.{value}
 use Rattle.syntax.specs.Fault.{Pass}
+use Rattle.text.specs.PassOne.{Listing}
 use Rattle.types.specs.Types.{Arg}
-use Rattle.types.specs.Rows.{typeAt}
-use Rattle.tables.specs.Tables.{cell, OperandTable, instrsFrom}
+use Rattle.types.specs.Rows.{typeAt, typesOf}
+use Rattle.tables.specs.Tables.{cell, OperandTable, rowsIn, instrsFrom, blocksFrom}
 use Rattle.tables.proofs.Steps.{endOf}
+use Rattle.image.specs.declared.Places.{Places}
+use Rattle.image.specs.declared.Counts.{Counts}
+use Rattle.image.specs.Sections.{blockSection, instrSection}
 use Rattle.valid.specs.Program.{Block, Program, blockOf}
 use Rattle.valid.specs.Rules.{atStart}
 use Rattle.valid.specs.PassThree.{holds, bodyFaults, blockFaults}
+use Rattle.valid_typing.specs.Image.{rowTable, operandsIn}
 
 -- a block's line, and its instructions' lines
 abbrev pub blockPass : Program → Bool → Block → Pass
@@ -19,3 +24,11 @@ blockPass P first B = blockFaults first B ∷ bodyFaults P (B .letters) (holds (
 -- block b of nb, T being the types of the rows
 abbrev pub theBlock : List Arg → List ℕ → List ℕ → OperandTable → ℕ → ℕ → ℕ → Block
 theBlock T β ι ω ni nb b = blockOf (typeAt value T (cell 2 β b 0)) (instrsFrom ι ω (cell 2 β b 1) (endOf β ni nb b - cell 2 β b 1))
+
+-- block b of an image
+abbrev pub blockIn : Places → List ℕ → List ℕ → Counts → ℕ → Block
+blockIn p l literals c b = theBlock (typesOf (rowsIn (rowTable p l) (c .rows))) (blockSection p l) (instrSection p l) (operandsIn p l literals) (c .instrs) (c .blocks) b
+
+-- its blocks
+abbrev pub blocksIn : Places → List ℕ → List ℕ → Counts → List Listing
+blocksIn p l literals c = blocksFrom (blockSection p l) (instrSection p l) (operandsIn p l literals) (c .instrs) 0 (c .blocks)

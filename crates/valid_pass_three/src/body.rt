@@ -3,29 +3,50 @@
 // with a fault nothing is looked at, so the first one found is the lowest. Promised: the lowest line with a fault, its least fault and, for
 // 10 at a jump or branch, an item that does not fit, as `bodyFaults` of crate valid has them. Asked: what crate load leaves in the tables
 // (specs/body/Tables.antt), and room in the arrays.
+use image::Counts;
+use image::Places;
 use types_rows::Slot;
+use valid_typing::BlockLetters;
 use valid_verdict::finding::Finding;
 ghost use mathlib.Core.Path.{_≡_};
 ghost use mathlib.Core.Bool.{true};
-ghost use mathlib.Core.List.{List, map};
+ghost use mathlib.Core.List.{List};
 ghost use Prim.Native.Nat.{ℕ, _+_, _-_, _≤_, _<_};
 ghost use lib.ListN.{length};
 ghost use Rattle.syntax.specs.Syntax.{stack};
 ghost use Rattle.syntax.specs.Fault.{lowestLine};
 ghost use Rattle.types.specs.Types.{Ty, items};
-ghost use Rattle.tables.specs.Tables.{span, letterOf, lettersAt, instrAt, instrsFrom};
+ghost use Rattle.tables.specs.Tables.{lettersAt};
 ghost use Rattle.valid.specs.Program.{Program};
 ghost use Rattle.valid.specs.Rules.{atStart};
 ghost use Rattle.valid.specs.PassThree.{holds, bodyFaults};
+ghost use Rattle.image.specs.Sections.{Ordered, slotSection};
 ghost use Rattle.types_rows.specs.Read.{tab, meanV, meanS, partsOf, onSlot, OkSlot};
 ghost use Rattle.valid_context.specs.Context.{onLink, regsOf, contextOf};
 ghost use Rattle.valid_typing.specs.Typing.{typesIn, Ready};
 ghost use Rattle.valid_context.specs.premises.Bounds.{SmallInstr};
-ghost use Rattle.valid_context.specs.premises.Answers.{Holds};
-ghost use Rattle.valid_typing.specs.operands.Operands.{operandTable};
+ghost use Rattle.valid_typing.specs.Image.{rowTable, typesAt, instrIn, HoldsAt, lettersIn};
 ghost use Rattle.valid_scope.specs.entry.Entry.{blockAt};
 ghost use Rattle.valid_verdict.specs.finding.Found.{Refuses};
-ghost use Rattle.valid_pass_three.specs.body.Tables.{Tables};
+ghost use Rattle.valid_pass_three.specs.body.Tables.{TablesAt, instrsIn};
+
+// A block of a code row: the row's link, its stack's, where its registers start; its instructions from first to end - 1, of which
+// instruction i stands on line base + i.
+pub struct CodeBlock {
+    pub link: usize,
+    pub stack: usize,
+    pub start: usize,
+    pub first: usize,
+    pub end: usize,
+    pub base: usize,
+}
+
+// Its instructions alone, one after the other.
+pub struct BodyLines {
+    pub first: usize,
+    pub end: usize,
+    pub base: usize,
+}
 
 // The link of a register that a code row names.
 fn link_of(n: usize, s: Slot) -> usize
@@ -51,120 +72,77 @@ fn enter(rows: &[u16], parts: &[u16], n: usize, h: usize, p: usize, regs: &mut [
     }
 }
 
-// Instructions j to e - 1 of a block, under the q letters at l, with the types before them in the arrays and d items of sp; instruction i
-// stands on line base + i.
+// The instructions of a block from i = first to end - 1, under its letters, with the types before them in the arrays and d items of sp;
+// instruction i stands on line base + i.
 fn body(
-    rows: &[u16],
-    parts: &[u16],
-    n: usize,
-    uses: &[u8],
-    tops: &[u16],
-    blocks: &[u16],
-    nb: usize,
-    instrs: &[u16],
-    operands: &[u16],
-    numbers: &[u32],
-    args: &[u16],
-    j: usize,
-    e: usize,
-    base: usize,
-    q: usize,
-    l: usize,
+    image: &[u16],
+    literals: &[u32],
+    p: Places,
+    c: Counts,
+    x: BodyLines,
+    w: BlockLetters,
     regs: &mut [u16],
     sp: &mut [u16],
     work: &mut [u16],
     d: usize,
 ) -> Finding
-    requires { ⌜ Tables (now rows) (now parts) n (now uses) (now tops) × ((i : ℕ) → j ≤ i → i < e → SmallInstr (instrAt (now instrs) (operandTable (now operands) (now numbers) (now args)) i)) × (e ≤ 65535) × (base ≤ 262144) × (8 ≤ length (now regs)) × (64 ≤ length (now sp)) × (4096 ≤ length (now work)) × (d ≤ 64) ⌝ }
-    ensures { λ out. ⌜ ((P : Program) → Holds (tab (now (rows .entry)) (now (parts .entry))) n (now (blocks .entry)) nb P → Refuses out (lowestLine (base + j) (bodyFaults P (map letterOf (span (now (parts .entry)) l q)) (holds (contextOf (typesIn (now (rows .entry)) (now (parts .entry)) n) (now (regs .entry)) (now (sp .entry)) d)) (instrsFrom (now (instrs .entry)) (operandTable (now (operands .entry)) (now (numbers .entry)) (now (args .entry))) j (e - j))))) ⌝ }
+    requires { ⌜ Ordered p (length (now image)) × TablesAt p (now image) (c .rows) × ((i : ℕ) → x .first ≤ i → i < x .end → SmallInstr (instrIn p (now image) (now literals) i)) × (x .end ≤ 65535) × (x .base ≤ 262144) × (8 ≤ length (now regs)) × (64 ≤ length (now sp)) × (4096 ≤ length (now work)) × (d ≤ 64) ⌝ }
+    ensures { λ out. ⌜ ((P : Program) → HoldsAt p (now (image .entry)) c P → Refuses out (lowestLine (x .base + x .first) (bodyFaults P (lettersIn p (now (image .entry)) w) (holds (contextOf (typesAt p (now (image .entry)) (c .rows)) (now (regs .entry)) (now (sp .entry)) d)) (instrsIn p (now (image .entry)) (now (literals .entry)) (x .first) (x .end - x .first))))) ⌝ }
 {
-    let mut i = j;
+    // The loop's invariant speaks of locals, and of no parameter that is a struct.
+    let t = p;
+    let k = c;
+    let y = x;
+    let u = w;
+    let mut i = y.first;
     let mut depth = d;
-    while i < e {
-        let w = valid_judge::judge(
-            rows,
-            parts,
-            n,
-            uses,
-            tops,
-            blocks,
-            nb,
-            instrs,
-            operands,
-            numbers,
-            args,
-            i,
-            q,
-            l,
-            regs,
-            sp,
-            work,
-            depth,
-        );
-        let number = w.fault;
+    while i < y.end {
+        let v = valid_judge::judge(image, literals, t, k, i, u, regs, sp, work, depth);
+        let number = v.fault;
         if number != 0 {
-            let line = base + i;
-            let item = w.item;
+            let line = y.base + i;
+            let item = v.item;
             return Finding { number, line, item };
         }
-        depth = w.depth;
+        depth = v.depth;
         i += 1;
     }
     valid_verdict::finding::nothing()
 }
 
-// A block of the code row of link h with the stack x and its registers at p: its instructions s to e - 1, from the types that the row
-// says on.
+// A block of a code row, from the types that the row says on.
 pub(crate) fn code_block(
-    rows: &[u16],
-    parts: &[u16],
-    n: usize,
-    uses: &[u8],
-    tops: &[u16],
-    blocks: &[u16],
-    nb: usize,
-    instrs: &[u16],
-    operands: &[u16],
-    numbers: &[u32],
-    args: &[u16],
-    h: usize,
-    x: usize,
-    p: usize,
-    s: usize,
-    e: usize,
-    base: usize,
+    image: &[u16],
+    literals: &[u32],
+    p: Places,
+    c: Counts,
+    x: CodeBlock,
     regs: &mut [u16],
     sp: &mut [u16],
     work: &mut [u16],
 ) -> Finding
-    requires { ⌜ Tables (now rows) (now parts) n (now uses) (now tops) × ((i : ℕ) → s ≤ i → i < e → SmallInstr (instrAt (now instrs) (operandTable (now operands) (now numbers) (now args)) i)) × (e ≤ 65535) × (base ≤ 262144) × (8 ≤ length (now regs)) × (64 ≤ length (now sp)) × (4096 ≤ length (now work)) ⌝ }
-    requires { ⌜ (0 < h) × (h ≤ n + 1) × (x < h) × (p ≤ 65535) × (items (meanS (tab (now rows) (now parts)) x) ≤ 64) ⌝ }
-    ensures { λ out. ⌜ ((P : Program) → Holds (tab (now (rows .entry)) (now (parts .entry))) n (now (blocks .entry)) nb P → Refuses out (lowestLine (base + s) (bodyFaults P (lettersAt (now (parts .entry)) p) (holds (atStart (blockAt (tab (now (rows .entry)) (now (parts .entry))) h x p (instrsFrom (now (instrs .entry)) (operandTable (now (operands .entry)) (now (numbers .entry)) (now (args .entry))) s (e - s))))) (instrsFrom (now (instrs .entry)) (operandTable (now (operands .entry)) (now (numbers .entry)) (now (args .entry))) s (e - s))))) ⌝ }
+    requires { ⌜ Ordered p (length (now image)) × TablesAt p (now image) (c .rows) × ((i : ℕ) → x .first ≤ i → i < x .end → SmallInstr (instrIn p (now image) (now literals) i)) × (x .end ≤ 65535) × (x .base ≤ 262144) × (8 ≤ length (now regs)) × (64 ≤ length (now sp)) × (4096 ≤ length (now work)) ⌝ }
+    requires { ⌜ (0 < x .link) × (x .link ≤ c .rows + 1) × (x .stack < x .link) × (x .start ≤ 65535) × (items (meanS (rowTable p (now image)) (x .stack)) ≤ 64) ⌝ }
+    ensures { λ out. ⌜ ((P : Program) → HoldsAt p (now (image .entry)) c P → Refuses out (lowestLine (x .base + x .first) (bodyFaults P (lettersAt (slotSection p (now (image .entry))) (x .start)) (holds (atStart (blockAt (rowTable p (now (image .entry))) (x .link) (x .stack) (x .start) (instrsIn p (now (image .entry)) (now (literals .entry)) (x .first) (x .end - x .first))))) (instrsIn p (now (image .entry)) (now (literals .entry)) (x .first) (x .end - x .first))))) ⌝ }
 {
-    enter(rows, parts, n, h, p, regs);
-    valid_typing::flatten(rows, parts, n, sp, x);
-    let q = types_rows::letter_count(parts, p);
-    let d = types_rows::item_count(rows, x);
-    body(
-        rows,
-        parts,
-        n,
-        uses,
-        tops,
-        blocks,
-        nb,
-        instrs,
-        operands,
-        numbers,
-        args,
-        s,
-        e,
-        base,
-        q,
-        p + 9,
-        regs,
-        sp,
-        work,
-        d,
-    )
+    let shared = p.shared;
+    let slots = p.slots;
+    let end = p.end;
+    let rows = &image[shared..slots];
+    let parts = &image[slots..end];
+    let n = c.rows;
+    enter(rows, parts, n, x.link, x.start, regs);
+    valid_typing::flatten(rows, parts, n, sp, x.stack);
+    let count = types_rows::letter_count(parts, x.start);
+    let d = types_rows::item_count(rows, x.stack);
+    let w = BlockLetters {
+        count,
+        start: x.start + 9,
+    };
+    let y = BodyLines {
+        first: x.first,
+        end: x.end,
+        base: x.base,
+    };
+    body(image, literals, p, c, y, w, regs, sp, work, d)
 }

@@ -1,28 +1,34 @@
-// Pass three over the tables: each block's line (module entry of valid_scope), and its instructions (module body). Behind a line with a
-// fault nothing is looked at, so the first one found is the lowest. Promised: the lowest line with a fault, its least fault and, for 10 at
-// a jump or branch, an item that does not fit, as `passThree` of crate valid has them. Asked: what crate load leaves in the tables.
+// Pass three over the tables, which are sections of one image (crate image), the rows as the checker shares them: each block's line (module
+// entry of valid_scope), and its instructions (module body). Behind a line with a fault nothing is looked at, so the first one found is the
+// lowest. Promised: the lowest line with a fault, its least fault and, for 10 at a jump or branch, an item that does not fit, as
+// `passThree` of crate valid has them. Asked: what crate load leaves in the tables.
 pub mod body;
 
+use crate::body::CodeBlock;
+use image::Counts;
+use image::Places;
 use types_rows::Val;
 use valid_verdict::finding::Finding;
 use valid_verdict::finding::on_line;
 ghost use mathlib.Core.Path.{_≡_};
+ghost use mathlib.Core.List.{List};
 ghost use Prim.Native.Nat.{ℕ, _+_, _≤_, _<_};
 ghost use lib.Dec.{eqb};
 ghost use lib.ListN.{length};
+ghost use Rattle.syntax.specs.Syntax.{value, Instr};
 ghost use Rattle.syntax.specs.Fault.{lowestLine};
-ghost use Rattle.types.specs.Rows.{typesOf};
-ghost use Rattle.tables.specs.Tables.{cell, rowsIn, instrAt, blocksFrom};
+ghost use Rattle.syntax.proofs.Least.{leastOf};
+ghost use Rattle.types.specs.Rows.{typeAt, typesOf};
+ghost use Rattle.tables.specs.Tables.{cell, rowsIn};
 ghost use Rattle.tables.proofs.Steps.{endOf};
-ghost use Rattle.valid.specs.Program.{Program, blocksOf};
-ghost use Rattle.valid.specs.PassThree.{passThree};
-ghost use Rattle.types_rows.specs.Read.{tab};
+ghost use Rattle.valid.specs.Program.{Program, blockOf, blocksOf};
+ghost use Rattle.valid.specs.PassThree.{blockFaults, passThree};
+ghost use Rattle.image.specs.Sections.{Ordered, blockSection};
 ghost use Rattle.valid_context.specs.premises.Bounds.{SmallInstr};
-ghost use Rattle.valid_context.specs.premises.Answers.{Holds};
-ghost use Rattle.valid_typing.specs.operands.Operands.{operandTable};
+ghost use Rattle.valid_typing.specs.Image.{rowTable, instrIn, HoldsAt};
 ghost use Rattle.valid_verdict.specs.finding.Found.{Refuses};
-ghost use Rattle.valid_pass_three.specs.body.Tables.{Tables};
-ghost use Rattle.valid_pass_three.specs.Blocks.{blockPass, theBlock};
+ghost use Rattle.valid_pass_three.specs.body.Tables.{TablesAt};
+ghost use Rattle.valid_pass_three.specs.Blocks.{blockPass, blockIn, blocksIn};
 
 // Where block b of nb ends.
 fn block_end(blocks: &[u16], nb: usize, ni: usize, b: usize) -> usize
@@ -35,110 +41,94 @@ fn block_end(blocks: &[u16], nb: usize, ni: usize, b: usize) -> usize
     ni
 }
 
+// The least fault of the line of a block with the row r, of n rows; 0 for none.
+fn line_fault(image: &[u16], p: Places, n: usize, r: usize, first: bool) -> usize
+    requires { ⌜ Ordered p (length (now image)) × TablesAt p (now image) n × (r ≤ 65535) ⌝ }
+    ensures { λ out. ⌜ ((xs : List Instr) → out ≡ leastOf (blockFaults first (blockOf (typeAt value (typesOf (rowsIn (rowTable p (now (image .entry))) n)) r) xs))) ⌝ }
+{
+    let uses = p.uses;
+    let tops = p.tops;
+    let shared = p.shared;
+    let slots = p.slots;
+    let end = p.end;
+    valid_scope::entry::block_fault(
+        &image[shared..slots],
+        &image[slots..end],
+        n,
+        &image[uses..tops],
+        &image[tops..shared],
+        r,
+        first,
+    )
+}
+
 // Block b's line and its instructions.
 fn block(
-    rows: &[u16],
-    parts: &[u16],
-    n: usize,
-    uses: &[u8],
-    tops: &[u16],
-    blocks: &[u16],
-    nb: usize,
-    instrs: &[u16],
-    ni: usize,
-    operands: &[u16],
-    numbers: &[u32],
-    args: &[u16],
+    image: &[u16],
+    literals: &[u32],
+    p: Places,
+    c: Counts,
     b: usize,
     regs: &mut [u16],
     sp: &mut [u16],
     work: &mut [u16],
 ) -> Finding
-    requires { ⌜ Tables (now rows) (now parts) n (now uses) (now tops) × ((i : ℕ) → i < ni → SmallInstr (instrAt (now instrs) (operandTable (now operands) (now numbers) (now args)) i)) × (ni ≤ 1024) × (b ≤ 64) × (endOf (now blocks) ni nb b ≤ ni) × (8 ≤ length (now regs)) × (64 ≤ length (now sp)) × (4096 ≤ length (now work)) ⌝ }
-    ensures { λ out. ⌜ ((P : Program) → Holds (tab (now (rows .entry)) (now (parts .entry))) n (now (blocks .entry)) nb P → Refuses out (lowestLine (n + b + cell 2 (now (blocks .entry)) b 1 + 1) (blockPass P (eqb b 0) (theBlock (typesOf (rowsIn (tab (now (rows .entry)) (now (parts .entry))) n)) (now (blocks .entry)) (now (instrs .entry)) (operandTable (now (operands .entry)) (now (numbers .entry)) (now (args .entry))) ni nb b)))) ⌝ }
+    requires { ⌜ Ordered p (length (now image)) × TablesAt p (now image) (c .rows) × ((i : ℕ) → i < c .instrs → SmallInstr (instrIn p (now image) (now literals) i)) × (c .instrs ≤ 1024) × (b ≤ 64) × (endOf (blockSection p (now image)) (c .instrs) (c .blocks) b ≤ c .instrs) × (8 ≤ length (now regs)) × (64 ≤ length (now sp)) × (4096 ≤ length (now work)) ⌝ }
+    ensures { λ out. ⌜ ((P : Program) → HoldsAt p (now (image .entry)) c P → Refuses out (lowestLine (c .rows + b + cell 2 (blockSection p (now (image .entry))) b 1 + 1) (blockPass P (eqb b 0) (blockIn p (now (image .entry)) (now (literals .entry)) c b)))) ⌝ }
 {
-    let c = types_rows::at(blocks, 2 * b);
-    let s = types_rows::at(blocks, 2 * b + 1);
-    let line = n + b + s + 1;
-    let h = types_rows::link(n + 1, c);
-    let v = types_rows::read_value(rows, h, 0, 0, 0);
-    let Val::Code(x, p) = v else {
+    let blocks = p.blocks;
+    let instrs = p.instrs;
+    let shared = p.shared;
+    let slots = p.slots;
+    let table = &image[blocks..instrs];
+    let n = c.rows;
+    let r = types_rows::at(table, 2 * b);
+    let first = types_rows::at(table, 2 * b + 1);
+    let line = n + b + first + 1;
+    let link = types_rows::link(n + 1, r);
+    let v = types_rows::read_value(&image[shared..slots], link, 0, 0, 0);
+    let Val::Code(stack, start) = v else {
         return on_line(7, line);
     };
-    let f = valid_scope::entry::block_fault(rows, parts, n, uses, tops, c, b == 0);
+    let f = line_fault(image, p, n, r, b == 0);
     if f != 0 {
         return on_line(f, line);
     }
-    let e = block_end(blocks, nb, ni, b);
+    let end = block_end(table, c.blocks, c.instrs, b);
     let base = n + b + 2;
-    crate::body::code_block(
-        rows,
-        parts,
-        n,
-        uses,
-        tops,
-        blocks,
-        nb,
-        instrs,
-        operands,
-        numbers,
-        args,
-        h,
-        x,
-        p,
-        s,
-        e,
+    let x = CodeBlock {
+        link,
+        stack,
+        start,
+        first,
+        end,
         base,
-        regs,
-        sp,
-        work,
-    )
+    };
+    crate::body::code_block(image, literals, p, c, x, regs, sp, work)
 }
 
-// The lowest line with a fault, of n rows, nb blocks and ni instructions.
+// The lowest line with a fault, of the rows, blocks and instructions that c counts.
 pub fn pass_three(
-    rows: &[u16],
-    parts: &[u16],
-    n: usize,
-    uses: &[u8],
-    tops: &[u16],
-    blocks: &[u16],
-    nb: usize,
-    instrs: &[u16],
-    ni: usize,
-    operands: &[u16],
-    numbers: &[u32],
-    args: &[u16],
+    image: &[u16],
+    literals: &[u32],
+    p: Places,
+    c: Counts,
     regs: &mut [u16],
     sp: &mut [u16],
     work: &mut [u16],
 ) -> Finding
-    requires { ⌜ Tables (now rows) (now parts) n (now uses) (now tops) × (0 < nb → (i : ℕ) → i < ni → SmallInstr (instrAt (now instrs) (operandTable (now operands) (now numbers) (now args)) i)) × (ni ≤ 1024) × (nb ≤ 64) × (0 < nb → cell 2 (now blocks) 0 1 ≡ 0) × ((b : ℕ) → b < nb → (cell 2 (now blocks) b 1 ≤ endOf (now blocks) ni nb b) × (endOf (now blocks) ni nb b ≤ ni)) × (8 ≤ length (now regs)) × (64 ≤ length (now sp)) × (4096 ≤ length (now work)) ⌝ }
-    ensures { λ out. ⌜ ((P : Program) → Holds (tab (now (rows .entry)) (now (parts .entry))) n (now (blocks .entry)) nb P → P .blocks ≡ blocksOf (typesOf (rowsIn (tab (now (rows .entry)) (now (parts .entry))) n)) (blocksFrom (now (blocks .entry)) (now (instrs .entry)) (operandTable (now (operands .entry)) (now (numbers .entry)) (now (args .entry))) ni 0 nb) → Refuses out (lowestLine 0 (passThree P))) ⌝ }
+    requires { ⌜ Ordered p (length (now image)) × TablesAt p (now image) (c .rows) × (0 < c .blocks → (i : ℕ) → i < c .instrs → SmallInstr (instrIn p (now image) (now literals) i)) × (c .instrs ≤ 1024) × (c .blocks ≤ 64) × (0 < c .blocks → cell 2 (blockSection p (now image)) 0 1 ≡ 0) × ((b : ℕ) → b < c .blocks → (cell 2 (blockSection p (now image)) b 1 ≤ endOf (blockSection p (now image)) (c .instrs) (c .blocks) b) × (endOf (blockSection p (now image)) (c .instrs) (c .blocks) b ≤ c .instrs)) × (8 ≤ length (now regs)) × (64 ≤ length (now sp)) × (4096 ≤ length (now work)) ⌝ }
+    ensures { λ out. ⌜ ((P : Program) → HoldsAt p (now (image .entry)) c P → P .blocks ≡ blocksOf (typesOf (rowsIn (rowTable p (now (image .entry))) (c .rows))) (blocksIn p (now (image .entry)) (now (literals .entry)) c) → Refuses out (lowestLine 0 (passThree P))) ⌝ }
 {
-    if nb == 0 {
-        return on_line(8, n + 1);
+    if c.blocks == 0 {
+        return on_line(8, c.rows + 1);
     }
+    // The loop's invariant speaks of locals, and of no parameter that is a struct.
+    let t = p;
+    let k = c;
     let mut b = 0;
-    while b < nb {
-        let f = block(
-            rows,
-            parts,
-            n,
-            uses,
-            tops,
-            blocks,
-            nb,
-            instrs,
-            ni,
-            operands,
-            numbers,
-            args,
-            b,
-            regs,
-            sp,
-            work,
-        );
+    while b < k.blocks {
+        let f = block(image, literals, t, k, b, regs, sp, work);
         let number = f.number;
         if number != 0 {
             return f;

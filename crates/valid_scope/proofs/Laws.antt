@@ -10,7 +10,7 @@ use lib.Dec.{eqb, ltb}
 use lib.ListN.{length, getD, getElem?, set}
 use lib.Seq.{getD-set-same, getD-set-other}
 use borrow.Author.Tests.{eq-eqb, ne-eqb, eqb-true, ltb-true, ltb-false, not-true}
-use Rattle.syntax.specs.Syntax.{Kind}
+use Rattle.syntax.specs.Syntax.{Kind, Row}
 use Rattle.types.specs.Types.{Arg, arg, aStack}
 use Rattle.types.specs.Rows.{typesOf, rowRefs}
 use Rattle.types.proofs.Equal.{none-true}
@@ -39,8 +39,9 @@ module _ (rows ps : List ℕ) (r : ℕ) {c a b : ℕ} (p : c ≡ cell 4 rows r 0
   pub row-respects : (uses tops : List ℕ) {x : Bool} → x ≡ rowRespected uses tops (rowFrom ps c a b) → x ≡ rowRespected uses tops (rowAt (tab rows ps) r)
   row-respects uses tops h = h ∙ ap (rowRespected uses tops) row-from
 
-  pub use-now : (uses : List ℕ) (k : ℕ) {u : ℕ} → Checked (tab rows ps) r → Free (tab rows ps) r uses → u ≡ rowUse uses k (rowFrom ps c a b) → u ≡ freeIn k (rowType (tab rows ps) r)
-  use-now uses k z f h = h ∙ ap (rowUse uses k) row-from ∙ type-use (tab rows ps) r uses k z f
+-- what is found of row r in the table
+pub use-now : (τ : RowTable) (r : ℕ) (uses : List ℕ) (k : ℕ) {x : Row} {u : ℕ} → Checked τ r → Free τ r uses → x ≡ rowAt τ r → u ≡ rowUse uses k x → u ≡ freeIn k (rowType τ r)
+use-now τ r uses k z f e h = h ∙ ap (rowUse uses k) e ∙ type-use τ r uses k z f
 
 -- ---- the table of uses
 -- the entries below k of row r

@@ -167,7 +167,7 @@ pub fn block_fault(
     rows: &[u16],
     parts: &[u16],
     n: usize,
-    uses: &[u8],
+    uses: &[u16],
     tops: &[u16],
     c: usize,
     first: bool,

@@ -2,26 +2,28 @@
 // are filled once, each row from the rows that it names (module variables). `uses` has 64 entries a row, one for each variable: how it is
 // free in the row. `tops` has one entry a row: one more than the highest free variable, or 255 if some variable is bound inside the row by
 // a letter of the other kind. The rows before a row give a bound, past which no variable is free in them: only the variables below it are
-// looked for. Promises: `find_all` makes tables that are right for the types of the rows (`Scoped`, specs/Scoped.antt), and from such
-// tables `formed` answers whether the type of a row is well-formed under the letters given (`formedArg` of crate valid). Laws for callers:
-// proofs/Callers.antt.
+// looked for. The tables are sections of the image, as the rows are. Promises: `find_all` makes tables that are right for the types of the
+// rows (`Scoped`, specs/Scoped.antt), and writes nothing else; from such tables `formed` answers whether the type of a row is well-formed
+// under the letters given (`formedArg` of crate valid). Laws for callers: proofs/Callers.antt.
 pub mod entry;
 pub mod variables;
 
+use image::Places;
 ghost use mathlib.Core.Path.{_≡_};
 ghost use mathlib.Core.Bool.{cond};
-ghost use mathlib.Core.List.{map};
-ghost use Prim.Native.Nat.{ℕ, suc, _+_, _*_, _^_, _<_, _≤_};
+ghost use mathlib.Core.List.{List, map};
+ghost use Prim.Native.Nat.{ℕ, suc, _+_, _-_, _*_, _^_, _<_, _≤_};
 ghost use lib.Dec.{eqb, ltb};
 ghost use lib.ListN.{length, getD};
 ghost use Rattle.syntax.specs.Syntax.{value};
 ghost use Rattle.types.specs.Types.{junk, arg};
 ghost use Rattle.types.specs.Rows.{typesOf};
 ghost use Rattle.valid.specs.PassThree.{formedArg};
-ghost use Rattle.tables.specs.Tables.{span, letterOf, rowAt, rowsIn};
+ghost use Rattle.tables.specs.Tables.{span, letterOf, rowFrom, rowAt, rowsIn};
 ghost use Rattle.types_rows.specs.Read.{tab};
+ghost use Rattle.image.specs.Sections.{rowSection, partSection, useSection, topSection, Ordered, Outside};
 ghost use Rattle.valid_scope.specs.variables.Free.{topOf, freeIn};
-ghost use Rattle.valid_scope.specs.variables.Uses.{rowRespected};
+ghost use Rattle.valid_scope.specs.variables.Uses.{rowUse, rowRespected};
 ghost use Rattle.valid_scope.specs.Scoped.{rowType, Free, Within, Cleared, Scoped, Checked};
 
 fn narrow(x: usize) -> u16
@@ -32,7 +34,7 @@ fn narrow(x: usize) -> u16
 }
 
 // Each variable that is bound inside row r is of its letter.
-fn row_respected(rows: &[u16], parts: &[u16], uses: &[u8], tops: &[u16], r: usize) -> bool
+fn row_respected(rows: &[u16], parts: &[u16], uses: &[u16], tops: &[u16], r: usize) -> bool
     requires { ⌜ 64 * r + 64 ≤ 2 ^ 64 ⌝ }
     ensures { λ out. ⌜ out ≡ rowRespected (now (uses .entry)) (now (tops .entry)) (rowAt (tab (now (rows .entry)) (now (parts .entry))) r) ⌝ }
 {
@@ -47,7 +49,7 @@ fn row_respected(rows: &[u16], parts: &[u16], uses: &[u8], tops: &[u16], r: usiz
 }
 
 // One more than the highest variable used, after variable k of use u.
-fn raised(top: usize, u: u8, k: usize) -> usize
+fn raised(top: usize, u: u16, k: usize) -> usize
     requires { ⌜ k < 64 ⌝ }
     ensures { λ out. ⌜ out ≡ cond (eqb u 0) top (suc k) ⌝ }
 {
@@ -72,7 +74,7 @@ fn limit_of(c: usize, bound: usize) -> usize
 }
 
 // Entries `from` to `to` become 0.
-fn clear(uses: &mut [u8], from: usize, to: usize)
+fn clear(uses: &mut [u16], from: usize, to: usize)
     requires { ⌜ to ≤ length (now uses) ⌝ }
     ensures { λ _. ⌜ Cleared (now (uses .entry)) (now (uses .exit)) from to ⌝ }
 {
@@ -83,24 +85,64 @@ fn clear(uses: &mut [u8], from: usize, to: usize)
     }
 }
 
-// Fills the uses of row r, none from `bound` on being free in the rows before it; answers one more than its highest free variable.
-fn fill_uses(rows: &[u16], parts: &[u16], uses: &mut [u8], r: usize, bound: usize) -> usize
-    requires { ⌜ (64 * r + 64 ≤ length (now uses)) × Checked (tab (now rows) (now parts)) r × Free (tab (now rows) (now parts)) r (now uses) × (bound ≤ 64) × Within (tab (now rows) (now parts)) r bound ⌝ }
-    ensures { λ out. ⌜ (out ≡ topOf (λ k. freeIn k (rowType (tab (now (rows .entry)) (now (parts .entry))) r)) 64) × Free (tab (now (rows .entry)) (now (parts .entry))) (suc r) (now (uses .exit)) ⌝ }
+// The kind of a row and its two numbers.
+struct Form {
+    kind: usize,
+    first: usize,
+    second: usize,
+}
+
+// Those of row r.
+fn form_at(rows: &[u16], r: usize) -> Form
+    requires { ⌜ 64 * r + 64 ≤ 2 ^ 64 ⌝ }
+    ensures { λ out. ⌜ ((parts : List ℕ) → rowFrom parts (out .kind) (out .first) (out .second) ≡ rowAt (tab (now (rows .entry)) parts) r) × (out .first ≤ 65535) × (out .second ≤ 65535) ⌝ }
 {
-    let c = crate::variables::entry(rows, r, 0);
-    let a = crate::variables::entry(rows, r, 1);
-    let b = crate::variables::entry(rows, r, 2);
-    let limit = limit_of(c, bound);
+    Form {
+        kind: crate::variables::entry(rows, r, 0),
+        first: crate::variables::entry(rows, r, 1),
+        second: crate::variables::entry(rows, r, 2),
+    }
+}
+
+// How variable k is free in a row of this form.
+fn use_in(image: &[u16], p: Places, f: Form, k: usize) -> u16
+    requires { ⌜ Ordered p (length (now image)) × (f .first ≤ 65535) × (f .second ≤ 65535) × (k ≤ 65535) ⌝ }
+    ensures { λ out. ⌜ out ≡ rowUse (useSection p (now (image .entry))) k (rowFrom (partSection p (now (image .entry))) (f .kind) (f .first) (f .second)) ⌝ }
+{
+    let parts = p.parts;
+    let past = p.operands;
+    let uses = p.uses;
+    let tops = p.tops;
+    crate::variables::form_use(
+        &image[parts..past],
+        &image[uses..tops],
+        f.kind,
+        f.first,
+        f.second,
+        k,
+    )
+}
+
+// Fills the uses of row r, none from `bound` on being free in the rows before it; answers one more than its highest free variable.
+fn fill_uses(image: &mut [u16], p: Places, r: usize, bound: usize) -> usize
+    requires { ⌜ Ordered p (length (now image)) × (64 * r + 64 ≤ p .tops - p .uses) × Checked (tab (rowSection p (now image)) (partSection p (now image))) r × Free (tab (rowSection p (now image)) (partSection p (now image))) r (useSection p (now image)) × (bound ≤ 64) × Within (tab (rowSection p (now image)) (partSection p (now image))) r bound ⌝ }
+    ensures { λ out. ⌜ (out ≡ topOf (λ k. freeIn k (rowType (tab (rowSection p (now (image .entry))) (partSection p (now (image .entry)))) r)) 64) × Free (tab (rowSection p (now (image .entry))) (partSection p (now (image .entry)))) (suc r) (useSection p (now (image .exit))) × Outside (p .uses) (p .tops) (now (image .entry)) (now (image .exit)) ⌝ }
+{
+    let rows = p.rows;
+    let blocks = p.blocks;
+    let uses = p.uses;
+    let tops = p.tops;
+    let f = form_at(&image[rows..blocks], r);
+    let limit = limit_of(f.kind, bound);
     let mut top = 0;
     let mut k = 0;
     while k < limit {
-        let u = crate::variables::form_use(parts, uses, c, a, b, k);
-        uses[64 * r + k] = u;
+        let u = use_in(image, p, f, k);
+        image[uses + (64 * r + k)] = u;
         top = raised(top, u, k);
         k += 1;
     }
-    clear(uses, 64 * r + limit, 64 * r + 64);
+    clear(&mut image[uses..tops], 64 * r + limit, 64 * r + 64);
     top
 }
 
@@ -124,32 +166,38 @@ fn mark(respected: bool, top: usize) -> u16
 }
 
 // Fills the entries of row r, those of the rows before it being there; from bound to bound.
-fn find_uses(
-    rows: &[u16],
-    parts: &[u16],
-    uses: &mut [u8],
-    tops: &mut [u16],
-    r: usize,
-    bound: usize,
-) -> usize
-    requires { ⌜ (64 * r + 64 ≤ length (now uses)) × (r < length (now tops)) × Checked (tab (now rows) (now parts)) r × Scoped (tab (now rows) (now parts)) r (now uses) (now tops) × (bound ≤ 64) × Within (tab (now rows) (now parts)) r bound ⌝ }
-    ensures { λ out. ⌜ Scoped (tab (now (rows .entry)) (now (parts .entry))) (suc r) (now (uses .exit)) (now (tops .exit)) × (out ≤ 64) × Within (tab (now (rows .entry)) (now (parts .entry))) (suc r) out ⌝ }
+fn find_uses(image: &mut [u16], p: Places, r: usize, bound: usize) -> usize
+    requires { ⌜ Ordered p (length (now image)) × (64 * r + 64 ≤ p .tops - p .uses) × (r < p .shared - p .tops) × Checked (tab (rowSection p (now image)) (partSection p (now image))) r × Scoped (tab (rowSection p (now image)) (partSection p (now image))) r (useSection p (now image)) (topSection p (now image)) × (bound ≤ 64) × Within (tab (rowSection p (now image)) (partSection p (now image))) r bound ⌝ }
+    ensures { λ out. ⌜ Scoped (tab (rowSection p (now (image .entry))) (partSection p (now (image .entry)))) (suc r) (useSection p (now (image .exit))) (topSection p (now (image .exit))) × (out ≤ 64) × Within (tab (rowSection p (now (image .entry))) (partSection p (now (image .entry)))) (suc r) out × Outside (p .uses) (p .shared) (now (image .entry)) (now (image .exit)) ⌝ }
 {
-    let respected = row_respected(rows, parts, uses, tops, r);
-    let top = fill_uses(rows, parts, uses, r, bound);
-    tops[r] = mark(respected, top);
+    let rows = p.rows;
+    let past_rows = p.blocks;
+    let parts = p.parts;
+    let past_parts = p.operands;
+    let uses = p.uses;
+    let tops = p.tops;
+    let end = p.shared;
+    let respected = row_respected(
+        &image[rows..past_rows],
+        &image[parts..past_parts],
+        &image[uses..tops],
+        &image[tops..end],
+        r,
+    );
+    let top = fill_uses(image, p, r, bound);
+    image[tops + r] = mark(respected, top);
     larger(bound, top)
 }
 
 // Fills the entries of the n rows.
-pub fn find_all(rows: &[u16], parts: &[u16], uses: &mut [u8], tops: &mut [u16], n: usize)
-    requires { ⌜ (64 * n ≤ length (now uses)) × (n ≤ length (now tops)) × ((r : ℕ) → r < n → Checked (tab (now rows) (now parts)) r) ⌝ }
-    ensures { λ _. ⌜ Scoped (tab (now (rows .entry)) (now (parts .entry))) n (now (uses .exit)) (now (tops .exit)) ⌝ }
+pub fn find_all(image: &mut [u16], p: Places, n: usize)
+    requires { ⌜ Ordered p (length (now image)) × (64 * n ≤ p .tops - p .uses) × (n ≤ p .shared - p .tops) × ((r : ℕ) → r < n → Checked (tab (rowSection p (now image)) (partSection p (now image))) r) ⌝ }
+    ensures { λ _. ⌜ Scoped (tab (rowSection p (now (image .entry))) (partSection p (now (image .entry)))) n (useSection p (now (image .exit))) (topSection p (now (image .exit))) × Outside (p .uses) (p .shared) (now (image .entry)) (now (image .exit)) ⌝ }
 {
     let mut bound = 0;
     let mut r = 0;
     while r < n {
-        bound = find_uses(rows, parts, uses, tops, r, bound);
+        bound = find_uses(image, p, r, bound);
         r += 1;
     }
 }
@@ -160,7 +208,7 @@ pub fn formed(
     rows: &[u16],
     parts: &[u16],
     n: usize,
-    uses: &[u8],
+    uses: &[u16],
     tops: &[u16],
     r: usize,
     q: usize,

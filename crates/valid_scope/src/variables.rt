@@ -37,7 +37,7 @@ pub(crate) fn entry(rows: &[u16], r: usize, j: usize) -> usize
 // ---- free variables
 
 // How variable k is free in row t.
-pub(crate) fn use_at(uses: &[u8], k: usize, t: usize) -> u8
+pub(crate) fn use_at(uses: &[u16], k: usize, t: usize) -> u16
     requires { ⌜ 64 * t + 64 ≤ 2 ^ 64 ⌝ }
     ensures { λ out. ⌜ out ≡ useAt (now (uses .entry)) k t ⌝ }
 {
@@ -52,7 +52,7 @@ pub(crate) fn use_at(uses: &[u8], k: usize, t: usize) -> u8
 }
 
 // One use beside another.
-fn both(u: u8, w: u8) -> u8
+fn both(u: u16, w: u16) -> u16
     ensures { λ out. ⌜ out ≡ both u w ⌝ }
 {
     if u == 0 {
@@ -68,7 +68,7 @@ fn both(u: u8, w: u8) -> u8
 }
 
 // How variable k is free in variable a, which is of use u.
-fn own(a: usize, k: usize, u: u8) -> u8
+fn own(a: usize, k: usize, u: u16) -> u16
     ensures { λ out. ⌜ out ≡ cond (eqb a k) u 0 ⌝ }
 {
     if a == k {
@@ -79,7 +79,7 @@ fn own(a: usize, k: usize, u: u8) -> u8
 
 // How variable k is free in part i. A component stands in `parts` as its row, a register as one more than its row, or 0 if nothing is
 // known of it: with `off` added, 1 or 0, they read alike.
-fn part_use(parts: &[u16], uses: &[u8], i: usize, off: usize, k: usize) -> u8
+fn part_use(parts: &[u16], uses: &[u16], i: usize, off: usize, k: usize) -> u16
     requires { ⌜ off ≤ 1 ⌝ }
     ensures { λ out. ⌜ out ≡ partUse (now (uses .entry)) k (knownOf (getD (now (parts .entry)) i 0 + off)) ⌝ }
 {
@@ -91,7 +91,7 @@ fn part_use(parts: &[u16], uses: &[u8], i: usize, off: usize, k: usize) -> u8
 }
 
 // How variable k is free in the n parts from p on.
-fn parts_use(parts: &[u16], uses: &[u8], p: usize, n: usize, off: usize, k: usize) -> u8
+fn parts_use(parts: &[u16], uses: &[u16], p: usize, n: usize, off: usize, k: usize) -> u16
     requires { ⌜ (p ≤ 65535) × (n ≤ 65535) × (off ≤ 1) ⌝ }
     ensures { λ out. ⌜ out ≡ partsUse (now (uses .entry)) k (partsAt (now (parts .entry)) p n off) ⌝ }
 {
@@ -105,7 +105,7 @@ fn parts_use(parts: &[u16], uses: &[u8], p: usize, n: usize, off: usize, k: usiz
 }
 
 // How variable k is free in the stack s and the eight registers at p of a code row, under its letters.
-fn code_use(parts: &[u16], uses: &[u8], s: usize, p: usize, k: usize) -> u8
+fn code_use(parts: &[u16], uses: &[u16], s: usize, p: usize, k: usize) -> u16
     requires { ⌜ (s ≤ 65535) × (p ≤ 65535) ⌝ }
     ensures { λ out. ⌜ out ≡ codeUse (now (uses .entry)) s (partsAt (now (parts .entry)) p 8 0) k ⌝ }
 {
@@ -113,7 +113,7 @@ fn code_use(parts: &[u16], uses: &[u8], s: usize, p: usize, k: usize) -> u8
 }
 
 // How variable k is free in a row of kind c with the numbers a and b.
-pub(crate) fn form_use(parts: &[u16], uses: &[u8], c: usize, a: usize, b: usize, k: usize) -> u8
+pub(crate) fn form_use(parts: &[u16], uses: &[u16], c: usize, a: usize, b: usize, k: usize) -> u16
     requires { ⌜ (a ≤ 65535) × (b ≤ 65535) × (k ≤ 65535) ⌝ }
     ensures { λ out. ⌜ out ≡ rowUse (now (uses .entry)) k (rowFrom (now (parts .entry)) c a b) ⌝ }
 {
@@ -142,7 +142,7 @@ pub(crate) fn form_use(parts: &[u16], uses: &[u8], c: usize, a: usize, b: usize,
 // ---- bound variables
 
 // The use of a variable with this letter: 0 is v, all else s.
-fn letter(x: usize) -> u8
+fn letter(x: usize) -> u16
     ensures { λ out. ⌜ out ≡ useOf (letterOf x) ⌝ }
 {
     if x == 0 {
@@ -152,7 +152,7 @@ fn letter(x: usize) -> u8
 }
 
 // Variable k, of use u, is one of the q letters at l and of its letter, or it is not used.
-pub(crate) fn is_bound(parts: &[u16], u: u8, k: usize, q: usize, l: usize) -> bool
+pub(crate) fn is_bound(parts: &[u16], u: u16, k: usize, q: usize, l: usize) -> bool
     ensures { λ out. ⌜ out ≡ fits u (getElem? (map letterOf (span (now (parts .entry)) l q)) k) ⌝ }
 {
     if u == 0 {
@@ -200,7 +200,7 @@ fn parts_respected(parts: &[u16], tops: &[u16], p: usize, n: usize, off: usize) 
 }
 
 // Each variable of the stack s and the registers at p that the code row itself binds is of its letter.
-fn letters_respected(parts: &[u16], uses: &[u8], s: usize, p: usize) -> bool
+fn letters_respected(parts: &[u16], uses: &[u16], s: usize, p: usize) -> bool
     requires { ⌜ (s ≤ 65535) × (p ≤ 65535) ⌝ }
     ensures { λ out. ⌜ out ≡ fitTo (lettersAt (now (parts .entry)) p) (codeUse (now (uses .entry)) s (partsAt (now (parts .entry)) p 8 0)) (getD (now (parts .entry)) (p + 8) 0) ⌝ }
 {
@@ -216,7 +216,7 @@ fn letters_respected(parts: &[u16], uses: &[u8], s: usize, p: usize) -> bool
 }
 
 // Each variable that is bound inside the code row with the stack s and the registers at p is of its letter.
-fn code_respected(parts: &[u16], uses: &[u8], tops: &[u16], s: usize, p: usize) -> bool
+fn code_respected(parts: &[u16], uses: &[u16], tops: &[u16], s: usize, p: usize) -> bool
     requires { ⌜ (s ≤ 65535) × (p ≤ 65535) ⌝ }
     ensures { λ out. ⌜ out ≡ rowRespected (now (uses .entry)) (now (tops .entry)) (codeRowAt (now (parts .entry)) s p) ⌝ }
 {
@@ -242,7 +242,7 @@ fn both_respected(tops: &[u16], a: usize, b: usize) -> bool
 // The same inside a row of kind c with the numbers a and b.
 pub(crate) fn form_respected(
     parts: &[u16],
-    uses: &[u8],
+    uses: &[u16],
     tops: &[u16],
     c: usize,
     a: usize,

@@ -1,16 +1,16 @@
 // Rows of equal types shared, for pass three: a second table of the same rows, in which each reference names one row for all rows of its
 // type (module rename). Rows with the same number are equal at once (crate types_equal), so that types that a text builds many times are
 // compared once. Promised: every row of the new table has the type that it had; its counts, the two rows behind, and what passes one and
-// two have seen hold of it as before (`Shared`). Asked: room, the tables of module prepare of load, and that passes one and two found no
-// fault in the rows. Which rows are compared is found by hashes (module row_hash), of which nothing is promised: a row is named for another
-// only if they compare equal.
+// two have seen hold of it as before (`Shared`); of the image only the two sections of the new table are written. Asked: room, the tables
+// of module prepare of load, and that passes one and two found no fault in the rows. Which rows are compared is found by hashes (module
+// row_hash), of which nothing is promised: a row is named for another only if they compare equal.
 pub mod rename;
 pub mod row_hash;
 
 ghost use mathlib.Core.Path.{_≡_};
 ghost use mathlib.Core.Bool.{true};
 ghost use mathlib.Core.List.{[]};
-ghost use Prim.Native.Nat.{ℕ, _+_, _*_, _≤_, _<_};
+ghost use Prim.Native.Nat.{ℕ, _+_, _-_, _*_, _≤_, _<_};
 ghost use lib.ListN.{length, getD};
 ghost use Rattle.syntax.specs.Syntax.{value};
 ghost use Rattle.syntax.specs.Fault.{Clear};
@@ -18,9 +18,11 @@ ghost use Rattle.types.specs.Types.{junk, arg};
 ghost use Rattle.types.specs.Rows.{typesOf, rowsFaults};
 ghost use Rattle.tables.specs.Tables.{cell, rowAt, rowsIn};
 ghost use Rattle.types_rows.specs.Read.{tab, Counted};
+ghost use Rattle.image.specs.Sections.{rowSection, partSection, sharedSection, slotSection, Ordered, Outside};
 ghost use Rattle.valid_context.specs.premises.Bounds.{SmallRow};
 ghost use Rattle.valid_share.specs.rename.Renamed.{newPart};
 ghost use Rattle.valid_share.specs.Shared.{Firsts, Alike, Lower, Shared};
+use image::Places;
 
 // Rows c and r, of m rows, are of the same type.
 fn same_type(rows: &[u16], parts: &[u16], m: usize, c: usize, r: usize) -> bool
@@ -200,22 +202,25 @@ fn find_first(
 }
 
 // Rows n and n + 1 are `I` and `N`. `first` and `work` are written too; in `work` two entries a row serve, fewer cost time only.
-pub fn share(
-    rows: &[u16],
-    parts: &[u16],
-    n: usize,
-    rows2: &mut [u16],
-    parts2: &mut [u16],
-    first: &mut [u16],
-    work: &mut [u32],
-)
-    requires { ⌜ (n ≤ 512) × (4 * n + 8 ≤ length (now rows2)) × (17 * n ≤ length (now parts2)) × (n ≤ length (now first)) ⌝ }
-    requires { ⌜ Counted (tab (now rows) (now parts)) (n + 2) × (cell 4 (now rows) n 0 ≡ 0) × (cell 4 (now rows) (n + 1) 0 ≡ 1) ⌝ }
-    requires { ⌜ Clear (rowsFaults [] [] (rowsIn (tab (now rows) (now parts)) n)) × ((r : ℕ) → r < n → SmallRow (rowAt (tab (now rows) (now parts)) r)) ⌝ }
-    ensures { λ _. ⌜ Shared (tab (now (rows .entry)) (now (parts .entry))) (tab (now (rows2 .exit)) (now (parts2 .exit))) n ⌝ }
+pub fn share(image: &mut [u16], p: Places, n: usize, first: &mut [u16], work: &mut [u32])
+    requires { ⌜ Ordered p (length (now image)) × (n ≤ 512) × (4 * n + 8 ≤ p .slots - p .shared) × (17 * n ≤ p .end - p .slots) × (n ≤ length (now first)) ⌝ }
+    requires { ⌜ Counted (tab (rowSection p (now image)) (partSection p (now image))) (n + 2) × (cell 4 (rowSection p (now image)) n 0 ≡ 0) × (cell 4 (rowSection p (now image)) (n + 1) 0 ≡ 1) ⌝ }
+    requires { ⌜ Clear (rowsFaults [] [] (rowsIn (tab (rowSection p (now image)) (partSection p (now image))) n)) × ((r : ℕ) → r < n → SmallRow (rowAt (tab (rowSection p (now image)) (partSection p (now image))) r)) ⌝ }
+    ensures { λ _. ⌜ Shared (tab (rowSection p (now (image .entry))) (partSection p (now (image .entry)))) (tab (sharedSection p (now (image .exit))) (slotSection p (now (image .exit)))) n × Outside (p .shared) (p .end) (now (image .entry)) (now (image .exit)) ⌝ }
 {
+    let rows = p.rows;
+    let blocks = p.blocks;
+    let parts = p.parts;
+    let operands = p.operands;
     let mut chains = [0u16; 768];
-    find_first(rows, parts, n, first, work, &mut chains);
-    crate::rename::fill_rows(rows, first, n + 2, rows2);
-    crate::rename::fill_parts(rows, parts, first, n, parts2);
+    find_first(
+        &image[rows..blocks],
+        &image[parts..operands],
+        n,
+        first,
+        work,
+        &mut chains,
+    );
+    crate::rename::fill_rows(image, p, first, n + 2);
+    crate::rename::fill_parts(image, p, first, n);
 }

@@ -1,12 +1,24 @@
 // A second table of the same rows, in which each reference is replaced by the row that `first` names for it, if that is lower; the parts of
-// row r stand at 17 r. Promised: each entry and each part of the new table is the renamed one (`FilledRows`, `FilledParts` of
-// specs/rename/Renamed.antt). Asked: room, and at most 514 rows.
+// row r stand at 17 r. Both tables are sections of one image (crate image). Promised: each entry and each part of the new table is the
+// renamed one (`FilledRows`, `FilledParts` of specs/rename/Renamed.antt), and nothing else is written. Asked: room, and at most 514 rows.
 ghost use mathlib.Core.Path.{_≡_};
 ghost use mathlib.Core.Bool.{true};
-ghost use Prim.Native.Nat.{_+_, _*_, _≤_, _<_};
+ghost use mathlib.Core.List.{[], _∷_};
+ghost use Prim.Native.Nat.{_+_, _-_, _*_, _≤_, _<_};
 ghost use lib.ListN.{length};
+ghost use lib.Seq.{sets};
 ghost use Rattle.tables.specs.Tables.{cell};
-ghost use Rattle.valid_share.specs.rename.Renamed.{firstOf, newA, newB, newSlot, newPart, entryAt, partAt, FilledRows, FilledParts, FilledRow, HasParts, FilledIf};
+ghost use Rattle.image.specs.Sections.{part, rowSection, partSection, sharedSection, slotSection, Ordered, Outside};
+ghost use Rattle.valid_share.specs.rename.Renamed.{firstOf, newA, newB, newSlot, newPart, NewEntries, partAt, FilledRows, FilledParts, FilledRow, HasParts, FilledIf};
+use image::Places;
+
+// The entries of a row.
+struct Entries {
+    kind: u16,
+    a: u16,
+    b: u16,
+    count: u16,
+}
 
 // x in 16 bits.
 pub(crate) fn narrow(x: usize) -> u16
@@ -90,29 +102,48 @@ pub(crate) fn new_part(
     x
 }
 
-// The four entries of row r.
-fn fill_entries(rows: &[u16], first: &[u16], r: usize, rows2: &mut [u16])
-    requires { ⌜ (r < 514) × (4 * r + 4 ≤ length (now rows2)) ⌝ }
-    ensures { λ _. ⌜ FilledRow (4 * r) 4 (entryAt (now (first .entry)) (now (rows .entry)) r) (now (rows2 .entry)) (now (rows2 .exit)) ⌝ }
+// The four entries of row r in the new table.
+fn new_entries(rows: &[u16], first: &[u16], r: usize) -> Entries
+    requires { ⌜ r < 514 ⌝ }
+    ensures { λ out. ⌜ NewEntries (now (first .entry)) (now (rows .entry)) r out ⌝ }
 {
     let k = types_rows::entry(rows, r, 0);
     let a = new_a(first, r, k, types_rows::entry(rows, r, 1));
     let b = new_b(first, r, k, types_rows::entry(rows, r, 2));
     let c = types_rows::entry(rows, r, 3);
-    rows2[4 * r] = narrow(k);
-    rows2[4 * r + 1] = narrow(a);
-    rows2[4 * r + 2] = narrow(b);
-    rows2[4 * r + 3] = narrow(c);
+    Entries {
+        kind: narrow(k),
+        a: narrow(a),
+        b: narrow(b),
+        count: narrow(c),
+    }
+}
+
+// Writes them as row r of the new table.
+fn put_entries(rows2: &mut [u16], r: usize, e: Entries)
+    requires { ⌜ (r < 514) × (4 * r + 4 ≤ length (now rows2)) ⌝ }
+    ensures { λ _. ⌜ now (rows2 .exit) ≡ sets (now (rows2 .entry)) (4 * r) (e .kind ∷ e .a ∷ e .b ∷ e .count ∷ []) ⌝ }
+{
+    let i = 4 * r;
+    rows2[i] = e.kind;
+    rows2[i + 1] = e.a;
+    rows2[i + 2] = e.b;
+    rows2[i + 3] = e.count;
 }
 
 // The entries of the m rows.
-pub(crate) fn fill_rows(rows: &[u16], first: &[u16], m: usize, rows2: &mut [u16])
-    requires { ⌜ (m ≤ 514) × (4 * m ≤ length (now rows2)) ⌝ }
-    ensures { λ _. ⌜ FilledRows (now (first .entry)) (now (rows .entry)) m (now (rows2 .exit)) ⌝ }
+pub(crate) fn fill_rows(image: &mut [u16], p: Places, first: &[u16], m: usize)
+    requires { ⌜ Ordered p (length (now image)) × (m ≤ 514) × (4 * m ≤ p .slots - p .shared) ⌝ }
+    ensures { λ _. ⌜ FilledRows (now (first .entry)) (rowSection p (now (image .entry))) m (sharedSection p (now (image .exit))) × Outside (p .shared) (p .slots) (now (image .entry)) (now (image .exit)) ⌝ }
 {
+    let rows = p.rows;
+    let blocks = p.blocks;
+    let shared = p.shared;
+    let slots = p.slots;
     let mut r = 0;
     while r < m {
-        fill_entries(rows, first, r, rows2);
+        let e = new_entries(&image[rows..blocks], first, r);
+        put_entries(&mut image[shared..slots], r, e);
         r += 1;
     }
 }
@@ -127,43 +158,73 @@ fn has_parts(k: usize) -> bool
     k == 5
 }
 
-// The 17 parts of row r.
-fn fill_row(rows: &[u16], parts: &[u16], first: &[u16], r: usize, parts2: &mut [u16])
-    requires { ⌜ (r ≤ 512) × (17 * r + 17 ≤ length (now parts2)) ⌝ }
-    ensures { λ _. ⌜ FilledRow (17 * r) 17 (partAt (now (first .entry)) (now (rows .entry)) (now (parts .entry)) r) (now (parts2 .entry)) (now (parts2 .exit)) ⌝ }
+// The 17 parts of a row of the kind k with the numbers a and b, from the section of parts, at `base`.
+fn fill_row(
+    image: &mut [u16],
+    first: &[u16],
+    parts: usize,
+    operands: usize,
+    base: usize,
+    k: usize,
+    a: usize,
+    b: usize,
+)
+    requires { ⌜ (parts ≤ operands) × (operands ≤ base) × (base + 17 ≤ length (now image)) × (a ≤ 65535) × (b ≤ 65535) ⌝ }
+    ensures { λ _. ⌜ FilledRow base 17 (newPart (now (first .entry)) (part parts operands (now (image .entry))) k a b) (now (image .entry)) (now (image .exit)) × Outside base (base + 17) (now (image .entry)) (now (image .exit)) ⌝ }
 {
-    let k = types_rows::entry(rows, r, 0);
-    let a = types_rows::entry(rows, r, 1);
-    let b = types_rows::entry(rows, r, 2);
-    let base = 17 * r;
     let mut j = 0;
     while j < 17 {
-        let x = new_part(parts, first, k, a, b, j);
-        parts2[base + j] = narrow(x);
+        let x = new_part(&image[parts..operands], first, k, a, b, j);
+        image[base + j] = narrow(x);
         j += 1;
     }
 }
 
-// The same if row r has parts.
-fn fill_if(rows: &[u16], parts: &[u16], first: &[u16], r: usize, parts2: &mut [u16])
-    requires { ⌜ (r ≤ 512) × (17 * r + 17 ≤ length (now parts2)) ⌝ }
-    ensures { λ _. ⌜ FilledIf (cell 4 (now (rows .entry)) r 0) (17 * r) 17 (partAt (now (first .entry)) (now (rows .entry)) (now (parts .entry)) r) (now (parts2 .entry)) (now (parts2 .exit)) ⌝ }
+// The same of row r, from the sections of rows and parts, if it has parts.
+fn fill_if(
+    image: &mut [u16],
+    first: &[u16],
+    rows: usize,
+    blocks: usize,
+    parts: usize,
+    operands: usize,
+    base: usize,
+    r: usize,
+)
+    requires { ⌜ (rows ≤ blocks) × (blocks ≤ parts) × (parts ≤ operands) × (operands ≤ base) × (base + 17 ≤ length (now image)) × (r ≤ 512) ⌝ }
+    ensures { λ _. ⌜ FilledIf (cell 4 (part rows blocks (now (image .entry))) r 0) base 17 (partAt (now (first .entry)) (part rows blocks (now (image .entry))) (part parts operands (now (image .entry))) r) (now (image .entry)) (now (image .exit)) × Outside base (base + 17) (now (image .entry)) (now (image .exit)) ⌝ }
 {
-    let k = types_rows::entry(rows, r, 0);
+    let k = types_rows::entry(&image[rows..blocks], r, 0);
     if !has_parts(k) {
         return;
     }
-    fill_row(rows, parts, first, r, parts2);
+    let a = types_rows::entry(&image[rows..blocks], r, 1);
+    let b = types_rows::entry(&image[rows..blocks], r, 2);
+    fill_row(image, first, parts, operands, base, k, a, b);
 }
 
 // The parts of the n rows.
-pub(crate) fn fill_parts(rows: &[u16], parts: &[u16], first: &[u16], n: usize, parts2: &mut [u16])
-    requires { ⌜ (n ≤ 512) × (17 * n ≤ length (now parts2)) ⌝ }
-    ensures { λ _. ⌜ FilledParts (now (first .entry)) (now (rows .entry)) (now (parts .entry)) n (now (parts2 .exit)) ⌝ }
+pub(crate) fn fill_parts(image: &mut [u16], p: Places, first: &[u16], n: usize)
+    requires { ⌜ Ordered p (length (now image)) × (n ≤ 512) × (17 * n ≤ p .end - p .slots) ⌝ }
+    ensures { λ _. ⌜ FilledParts (now (first .entry)) (rowSection p (now (image .entry))) (partSection p (now (image .entry))) n (slotSection p (now (image .exit))) × Outside (p .slots) (p .end) (now (image .entry)) (now (image .exit)) ⌝ }
 {
+    let rows = p.rows;
+    let blocks = p.blocks;
+    let parts = p.parts;
+    let operands = p.operands;
+    let slots = p.slots;
     let mut r = 0;
     while r < n {
-        fill_if(rows, parts, first, r, parts2);
+        fill_if(
+            image,
+            first,
+            rows,
+            blocks,
+            parts,
+            operands,
+            slots + 17 * r,
+            r,
+        );
         r += 1;
     }
 }

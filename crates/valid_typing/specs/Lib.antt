@@ -3,3 +3,4 @@ pub mod operands
 pub mod components
 pub mod plain_components
 pub mod target
+pub mod Image

@@ -3,9 +3,11 @@
 // Promised: the fault of the premise as crate valid defines it (`base`), 0 if it holds, and then a row that has the type it gives.
 // Asked: the tables of module prepare of load (`Ready` of this crate).
 use crate::Typed;
+use image::Counts;
+use image::Places;
 ghost use mathlib.Core.Path.{_≡_};
 ghost use Prim.Native.Nat.{ℕ, _+_, _≤_};
-ghost use lib.ListN.{getD};
+ghost use lib.ListN.{length, getD};
 ghost use mathlib.Core.List.{List};
 ghost use Rattle.syntax.specs.Syntax.{Kind, value, reg, lab};
 ghost use Rattle.types.specs.Rows.{typeAt};
@@ -17,6 +19,8 @@ ghost use Rattle.valid_context.specs.Context.{regsOf};
 ghost use Rattle.valid_context.specs.Told.{toldOf, answer};
 ghost use Rattle.valid_context.specs.premises.Answers.{Holds};
 ghost use Rattle.valid_typing.specs.Typing.{typesIn, Ready};
+ghost use Rattle.image.specs.Sections.{Ordered};
+ghost use Rattle.valid_typing.specs.Image.{typesAt, ReadyAt, HoldsAt};
 
 fn wide(x: u32) -> usize
     ensures { λ out. ⌜ (out ≡ x) × (out ≤ 4294967295) ⌝ }
@@ -79,23 +83,26 @@ fn label_type(n: usize, blocks: &[u16], nb: usize, l: usize) -> Typed
 
 // The type of a base: of kind 0 a register, of kind 1 a literal, else a label.
 pub(crate) fn base_type(
-    rows: &[u16],
-    parts: &[u16],
-    n: usize,
-    blocks: &[u16],
-    nb: usize,
+    image: &[u16],
+    p: Places,
+    c: Counts,
     regs: &[u16],
     kind: usize,
     number: usize,
 ) -> Typed
-    requires { ⌜ Ready (now rows) (now parts) n × (number ≤ 4294967295) ⌝ }
-    ensures { λ out. ⌜ ((P : Program) (Δ : List Kind) → Holds (tab (now (rows .entry)) (now (parts .entry))) n (now (blocks .entry)) nb P → toldOf (base P Δ (regsOf (typesIn (now (rows .entry)) (now (parts .entry)) n) (now (regs .entry))) (baseOf kind number)) ≡ answer (out .fault) (typeAt value (typesIn (now (rows .entry)) (now (parts .entry)) n) (out .row))) × (out .row ≤ n + 1) ⌝ }
+    requires { ⌜ Ordered p (length (now image)) × ReadyAt p (now image) (c .rows) × (number ≤ 4294967295) ⌝ }
+    ensures { λ out. ⌜ ((P : Program) (Δ : List Kind) → HoldsAt p (now (image .entry)) c P → toldOf (base P Δ (regsOf (typesAt p (now (image .entry)) (c .rows)) (now (regs .entry))) (baseOf kind number)) ≡ answer (out .fault) (typeAt value (typesAt p (now (image .entry)) (c .rows)) (out .row))) × (out .row ≤ c .rows + 1) ⌝ }
 {
     if kind == 0 {
-        return register_type(n, regs, number);
+        return register_type(c.rows, regs, number);
     }
     if kind == 1 {
-        return Typed { fault: 0, row: n };
+        return Typed {
+            fault: 0,
+            row: c.rows,
+        };
     }
-    label_type(n, blocks, nb, number)
+    let blocks = p.blocks;
+    let instrs = p.instrs;
+    label_type(c.rows, &image[blocks..instrs], c.blocks, number)
 }

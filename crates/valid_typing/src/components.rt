@@ -1,71 +1,53 @@
 // Pass three's look at the components that `malloc` takes: the types of a list of operands, and whether a row is the tuple of them.
 // Promised: the least fault of the list as crate valid defines it (`operands`), 0 if there is none, and then the rows of its types; and
 // the test `same` of crate types against the tuple. Asked: the tables of module prepare of load, and operands with at most eight arguments.
+use crate::BlockLetters;
+use crate::Listed;
+use image::Counts;
+use image::Places;
 use types_rows::Val;
 ghost use mathlib.Core.Path.{_≡_};
 ghost use mathlib.Core.Bool.{false};
-ghost use mathlib.Core.List.{map};
 ghost use Prim.Native.Nat.{_+_, _≤_, _<_};
 ghost use lib.ListN.{length};
 ghost use Rattle.syntax.specs.Syntax.{value};
 ghost use Rattle.types.specs.Types.{tuple};
 ghost use Rattle.types.specs.Rows.{typeAt};
 ghost use Rattle.types.specs.Equal.{same};
-ghost use Rattle.tables.specs.Tables.{span, letterOf, operandsAt};
 ghost use Rattle.valid.specs.Program.{Program};
-ghost use Rattle.valid_scope.specs.Scoped.{Scoped};
+ghost use Rattle.image.specs.Sections.{Ordered};
 ghost use Rattle.types_rows.specs.Read.{tab, partsOf, meanV};
 ghost use Rattle.valid_context.specs.Context.{regsOf};
 ghost use Rattle.valid_context.specs.Told.{toldOf, answer};
 ghost use Rattle.valid_context.specs.premises.Bounds.{AllShort};
-ghost use Rattle.valid_context.specs.premises.Answers.{Holds};
 ghost use Rattle.valid_typing.specs.Typing.{typesIn, Ready};
-ghost use Rattle.valid_typing.specs.operands.Operands.{operandTable};
+ghost use Rattle.valid_typing.specs.Image.{typesAt, ReadyAt, ScopedAt, listedIn, HoldsAt, lettersIn};
 ghost use Rattle.valid_typing.specs.components.Components.{typesFrom, components};
 
-// The types of operands v to v + c - 1 under the q letters at l; their rows are put into `found`.
+// The types of the operands o under the letters w; their rows are put into `found`.
 pub fn operand_list(
-    rows: &[u16],
-    parts: &[u16],
-    n: usize,
-    uses: &[u8],
-    tops: &[u16],
-    blocks: &[u16],
-    nb: usize,
-    operands: &[u16],
-    numbers: &[u32],
-    args: &[u16],
-    v: usize,
-    c: usize,
-    q: usize,
-    l: usize,
+    image: &[u16],
+    literals: &[u32],
+    p: Places,
+    c: Counts,
+    o: Listed,
+    w: BlockLetters,
     regs: &[u16],
     back: &mut [u16],
     found: &mut [u16],
 ) -> usize
-    requires { ⌜ Ready (now rows) (now parts) n × Scoped (tab (now rows) (now parts)) n (now uses) (now tops) × AllShort (operandsAt (operandTable (now operands) (now numbers) (now args)) v c) × (v + c ≤ 131072) × (8 ≤ length (now back)) × (c ≤ length (now found)) ⌝ }
-    ensures { λ out. ⌜ ((P : Program) → Holds (tab (now (rows .entry)) (now (parts .entry))) n (now (blocks .entry)) nb P → toldOf (components P (map letterOf (span (now (parts .entry)) l q)) (regsOf (typesIn (now (rows .entry)) (now (parts .entry)) n) (now (regs .entry))) (operandsAt (operandTable (now (operands .entry)) (now (numbers .entry)) (now (args .entry))) v c)) ≡ answer out (typesFrom (typesIn (now (rows .entry)) (now (parts .entry)) n) (now (found .exit)) 0 c)) ⌝ }
+    requires { ⌜ Ordered p (length (now image)) × ReadyAt p (now image) (c .rows) × ScopedAt p (now image) (c .rows) × AllShort (listedIn p (now image) (now literals) o) × (o .first + o .count ≤ 131072) × (8 ≤ length (now back)) × (o .count ≤ length (now found)) ⌝ }
+    ensures { λ out. ⌜ ((P : Program) → HoldsAt p (now (image .entry)) c P → toldOf (components P (lettersIn p (now (image .entry)) w) (regsOf (typesAt p (now (image .entry)) (c .rows)) (now (regs .entry))) (listedIn p (now (image .entry)) (now (literals .entry)) o)) ≡ answer out (typesFrom (typesAt p (now (image .entry)) (c .rows)) (now (found .exit)) 0 (o .count))) ⌝ }
 {
+    // The loop's invariant speaks of locals, and of no parameter that is a struct.
+    let t = p;
+    let k = c;
+    let u = w;
+    let v = o.first;
     let mut f = 0;
-    let mut i = c;
+    let mut i = o.count;
     while i > 0 {
-        let r = crate::operands::operand(
-            rows,
-            parts,
-            n,
-            uses,
-            tops,
-            blocks,
-            nb,
-            operands,
-            numbers,
-            args,
-            v + i - 1,
-            q,
-            l,
-            regs,
-            back,
-        );
+        let r = crate::operands::operand(image, literals, t, k, v + i - 1, u, regs, back);
         found[i - 1] = r.row as u16;
         f = valid_context::least(r.fault, f);
         i -= 1;

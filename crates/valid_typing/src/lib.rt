@@ -3,13 +3,15 @@
 // tables (crate types_rows), registers and sp from the checker's arrays (crate valid_context); two more rows, `I` and `N`, stand behind the
 // program's own, so that each type that the checker holds is the type of a row. Promised of each: its premise's least fault, 0 if it holds,
 // and what the premise gives, as an equation with the definition. Above these stand operands (modules bases, operands), the components of a
-// tuple (components, plain_components) and targets (target).
+// tuple (components, plain_components) and targets (target). A function that reads more tables than the rows' is lent the image that they
+// are sections of (crate image), and reads the rows as the checker shares them.
 pub mod bases;
 pub mod components;
 pub mod operands;
 pub mod plain_components;
 pub mod target;
 
+use image::Places;
 use types_rows::Item;
 use types_rows::Stk;
 use types_rows::Val;
@@ -29,8 +31,10 @@ ghost use Rattle.valid.specs.PassThree.{asInt, asCode, integerAt, pointerAt, it
 ghost use Rattle.valid_scope.specs.Scoped.{Scoped};
 ghost use Rattle.types_rows.specs.Read.{tab, meanV, meanS};
 ghost use Rattle.valid_context.specs.Context.{regsOf, spOf, spAbove, linked};
+ghost use Rattle.image.specs.Sections.{Ordered, argSection, sharedSection, slotSection};
 ghost use Rattle.valid_context.specs.Told.{toldOf, answer};
 ghost use Rattle.valid_typing.specs.Typing.{typesIn, Ready, componentAt, codeIn, itemIs, LowItem, LinkIs, SmallVars, SmallItem, EntryIs, givenRow, givenArg, argsIn, fitsLetter, lettersLess};
+ghost use Rattle.valid_typing.specs.Image.{rowTable, ScopedAt, lettersIn};
 
 // What a premise answers: its least fault, or 0 and a row.
 pub struct Typed {
@@ -43,6 +47,18 @@ pub struct Coded {
     pub is: bool,
     pub link: usize,
     pub stack: usize,
+    pub start: usize,
+}
+
+// Operands of the table that stand one behind the other: the first, and how many.
+pub struct Listed {
+    pub first: usize,
+    pub count: usize,
+}
+
+// The letters of a block: how many, and where they start in the table.
+pub struct BlockLetters {
+    pub count: usize,
     pub start: usize,
 }
 
@@ -390,7 +406,7 @@ fn formed_arg(
     rows: &[u16],
     parts: &[u16],
     n: usize,
-    uses: &[u8],
+    uses: &[u16],
     tops: &[u16],
     t: usize,
     q: usize,
@@ -405,57 +421,64 @@ fn formed_arg(
     true
 }
 
-// The type of row t is formed under the q letters at l.
-pub fn formed_row(
-    rows: &[u16],
-    parts: &[u16],
-    n: usize,
-    uses: &[u8],
-    tops: &[u16],
-    t: usize,
-    q: usize,
-    l: usize,
-) -> usize
-    requires { ⌜ (n ≤ 512) × Scoped (tab (now rows) (now parts)) n (now uses) (now tops) ⌝ }
-    ensures { λ out. ⌜ ((P : Program) → P .types ≡ typesOf (rowsIn (tab (now (rows .entry)) (now (parts .entry))) n) → toldOf (formed P (map letterOf (span (now (parts .entry)) l q)) t) ≡ answer out tt) ⌝ }
+// The type of row t is formed under the letters w.
+pub fn formed_row(image: &[u16], p: Places, n: usize, t: usize, w: BlockLetters) -> usize
+    requires { ⌜ Ordered p (length (now image)) × (n ≤ 512) × ScopedAt p (now image) n ⌝ }
+    ensures { λ out. ⌜ ((P : Program) → P .types ≡ typesOf (rowsIn (rowTable p (now (image .entry))) n) → toldOf (formed P (lettersIn p (now (image .entry)) w) t) ≡ answer out tt) ⌝ }
 {
+    let uses = p.uses;
+    let tops = p.tops;
+    let shared = p.shared;
+    let slots = p.slots;
+    let end = p.end;
+    let rows = &image[shared..slots];
     if is_stack_row(rows, n, t) {
         return 0;
     }
-    if formed_arg(rows, parts, n, uses, tops, t, q, l) {
+    if formed_arg(
+        rows,
+        &image[slots..end],
+        n,
+        &image[uses..tops],
+        &image[tops..shared],
+        t,
+        w.count,
+        w.start,
+    ) {
         return 0;
     }
     7
 }
 
-// The c arguments that stand in `args` from a on are formed under the q letters at l.
+// The c arguments that stand in the table from a on are formed under the letters w.
 pub(crate) fn formed_args(
-    rows: &[u16],
-    parts: &[u16],
+    image: &[u16],
+    p: Places,
     n: usize,
-    uses: &[u8],
-    tops: &[u16],
-    args: &[u16],
     a: usize,
     c: usize,
-    q: usize,
-    l: usize,
+    w: BlockLetters,
 ) -> bool
-    requires { ⌜ Scoped (tab (now rows) (now parts)) n (now uses) (now tops) × (a + c ≤ 4294967295) ⌝ }
-    ensures { λ out. ⌜ out ≡ formedArgs (map letterOf (span (now (parts .entry)) l q)) (argsIn (now (rows .entry)) (now (parts .entry)) n (span (now (args .entry)) a c)) ⌝ }
+    requires { ⌜ Ordered p (length (now image)) × ScopedAt p (now image) n × (a + c ≤ 4294967295) ⌝ }
+    ensures { λ out. ⌜ out ≡ formedArgs (lettersIn p (now (image .entry)) w) (argsIn (sharedSection p (now (image .entry))) (slotSection p (now (image .entry))) n (span (argSection p (now (image .entry))) a c)) ⌝ }
 {
+    let from = p.args;
+    let to = p.uses;
+    let top = p.tops;
+    let shared = p.shared;
+    let slots = p.slots;
+    let end = p.end;
+    let args = &image[from..to];
+    let uses = &image[to..top];
+    let tops = &image[top..shared];
+    let rows = &image[shared..slots];
+    let parts = &image[slots..end];
+    let q = w.count;
+    let l = w.start;
     let mut i = 0;
     while i < c {
-        if !formed_arg(
-            rows,
-            parts,
-            n,
-            uses,
-            tops,
-            types_rows::at(args, a + i),
-            q,
-            l,
-        ) {
+        let t = types_rows::at(args, a + i);
+        if !formed_arg(rows, parts, n, uses, tops, t, q, l) {
             return false;
         }
         i += 1;

@@ -2,7 +2,10 @@
 // Types are given as rows: rows n and n + 1 are made I and N, so that every type the checker holds is the type of one of n + 2 rows.
 // Promised: the least fault of the premise as crate valid defines it (`operand`), 0 if it holds, and then a row that has the type it
 // gives. Asked: the tables of module prepare of load, and operands with at most eight arguments.
+use crate::BlockLetters;
 use crate::Typed;
+use image::Counts;
+use image::Places;
 ghost use mathlib.Core.Path.{_≡_};
 ghost use mathlib.Core.Bool.{true};
 ghost use mathlib.Core.List.{map};
@@ -13,167 +16,141 @@ ghost use Rattle.syntax.specs.Syntax.{Kind, value, inst};
 ghost use Rattle.syntax.specs.Fault.{Fault, numberOf};
 ghost use Rattle.types.specs.Types.{junk, arg, aStack, Wf};
 ghost use Rattle.types.specs.Rows.{typeAt, allBelow};
-ghost use Rattle.tables.specs.Tables.{span, letterOf, baseOf, operandAt};
+ghost use Rattle.tables.specs.Tables.{span, baseOf};
 ghost use Rattle.valid.specs.Program.{Program};
 ghost use Rattle.valid.specs.PassThree.{applied, operand};
-ghost use Rattle.valid_scope.specs.Scoped.{Scoped};
-ghost use Rattle.types_rows.specs.Read.{tab};
+ghost use Rattle.image.specs.Sections.{Ordered, argSection};
 ghost use Rattle.valid_context.specs.Context.{regsOf};
 ghost use Rattle.valid_context.specs.Told.{toldOf, answer};
 ghost use Rattle.valid_context.specs.premises.Bounds.{Short};
-ghost use Rattle.valid_context.specs.premises.Answers.{Holds};
-ghost use Rattle.valid_typing.specs.Typing.{typesIn, Ready, givenRow};
-ghost use Rattle.valid_typing.specs.operands.Operands.{operandTable};
+ghost use Rattle.valid_typing.specs.Typing.{givenRow};
+ghost use Rattle.valid_typing.specs.Image.{typesAt, ReadyAt, ScopedAt, operandIn, HoldsAt, lettersIn};
+
+// A base with arguments: its kind and number, where its arguments start in the table and how many, and the resulting row.
+pub struct BaseArgs {
+    pub kind: usize,
+    pub number: usize,
+    pub first: usize,
+    pub count: usize,
+    pub row: usize,
+}
 
 // Row t is known to have no free variable.
-fn is_closed(rows: &[u16], parts: &[u16], n: usize, uses: &[u8], tops: &[u16], t: usize) -> bool
-    requires { ⌜ Scoped (tab (now rows) (now parts)) n (now uses) (now tops) ⌝ }
-    ensures { λ out. ⌜ (out ≡ true → Wf [] aStack (typeAt value (typesIn (now (rows .entry)) (now (parts .entry)) n) t)) ⌝ }
+fn is_closed(image: &[u16], p: Places, n: usize, t: usize) -> bool
+    requires { ⌜ Ordered p (length (now image)) × ScopedAt p (now image) n ⌝ }
+    ensures { λ out. ⌜ (out ≡ true → Wf [] aStack (typeAt value (typesAt p (now (image .entry)) n) t)) ⌝ }
 {
     if t < n {
-        return valid_scope::formed(rows, parts, n, uses, tops, t, 0, 0);
+        let uses = p.uses;
+        let tops = p.tops;
+        let shared = p.shared;
+        let slots = p.slots;
+        let end = p.end;
+        return valid_scope::formed(
+            &image[shared..slots],
+            &image[slots..end],
+            n,
+            &image[uses..tops],
+            &image[tops..shared],
+            t,
+            0,
+            0,
+        );
     }
     false
 }
 
-// The least fault of a base that carries the arguments `args` (rows, in the order of their variables) and names the resulting row t.
-fn fill_fault(
-    rows: &[u16],
-    parts: &[u16],
-    n: usize,
-    uses: &[u8],
-    tops: &[u16],
-    blocks: &[u16],
-    nb: usize,
-    regs: &[u16],
-    kind: usize,
-    number: usize,
-    args: &[u16],
-    t: usize,
-) -> usize
-    requires { ⌜ Ready (now rows) (now parts) n × (number ≤ 4294967295) × (allBelow (n + 2) (now args) ≡ true) × Scoped (tab (now rows) (now parts)) n (now uses) (now tops) ⌝ }
-    ensures { λ out. ⌜ ((P : Program) (Δ : List Kind) (f : Fault) → Holds (tab (now (rows .entry)) (now (parts .entry))) n (now (blocks .entry)) nb P → numberOf f ≡ 10 → toldOf (applied P Δ f (regsOf (typesIn (now (rows .entry)) (now (parts .entry)) n) (now (regs .entry))) (baseOf kind number) (map (λ (x : ℕ). getD (typesIn (now (rows .entry)) (now (parts .entry)) n) x (arg value junk)) (now (args .entry))) t) ≡ answer out tt) ⌝ }
+// The least fault of a base that carries the arguments `args` (rows, in the order of their variables) and names the resulting row.
+fn fill_fault(image: &[u16], p: Places, c: Counts, regs: &[u16], o: BaseArgs, args: &[u16]) -> usize
+    requires { ⌜ Ordered p (length (now image)) × ReadyAt p (now image) (c .rows) × (o .number ≤ 4294967295) × (allBelow (c .rows + 2) (now args) ≡ true) × ScopedAt p (now image) (c .rows) ⌝ }
+    ensures { λ out. ⌜ ((P : Program) (Δ : List Kind) (f : Fault) → HoldsAt p (now (image .entry)) c P → numberOf f ≡ 10 → toldOf (applied P Δ f (regsOf (typesAt p (now (image .entry)) (c .rows)) (now (regs .entry))) (baseOf (o .kind) (o .number)) (map (λ (x : ℕ). getD (typesAt p (now (image .entry)) (c .rows)) x (arg value junk)) (now (args .entry))) (o .row)) ≡ answer out tt) ⌝ }
 {
-    let b = crate::bases::base_type(rows, parts, n, blocks, nb, regs, kind, number);
+    let shared = p.shared;
+    let slots = p.slots;
+    let end = p.end;
+    let rows = &image[shared..slots];
+    let parts = &image[slots..end];
+    let n = c.rows;
+    let b = crate::bases::base_type(image, p, c, regs, o.kind, o.number);
     if b.fault != 0 {
         return b.fault;
     }
-    let c = crate::code(rows, parts, n, b.row);
-    if !c.is {
+    let k = crate::code(rows, parts, n, b.row);
+    if !k.is {
         return 9;
     }
-    if !crate::letters_fit(rows, parts, n, args, c.start) {
+    if !crate::letters_fit(rows, parts, n, args, k.start) {
         return 14;
     }
-    let closed = is_closed(rows, parts, n, uses, tops, b.row);
-    if types_equal::filling::filled(
-        rows,
-        parts,
-        n + 2,
-        b.row,
-        closed,
-        args,
-        crate::given_row(n, t),
-    ) {
+    let closed = is_closed(image, p, n, b.row);
+    let r = crate::given_row(n, o.row);
+    if types_equal::filling::filled(rows, parts, n + 2, b.row, closed, args, r) {
         return 0;
     }
     10
 }
 
-// A base with the c arguments that stand in `args` from a on, and the resulting row t.
+// A base with its arguments and the resulting row, under the letters w.
 fn instance(
-    rows: &[u16],
-    parts: &[u16],
-    n: usize,
-    uses: &[u8],
-    tops: &[u16],
-    blocks: &[u16],
-    nb: usize,
+    image: &[u16],
+    p: Places,
+    c: Counts,
     regs: &[u16],
-    kind: usize,
-    number: usize,
-    args: &[u16],
-    a: usize,
-    c: usize,
-    t: usize,
-    q: usize,
-    l: usize,
+    o: BaseArgs,
+    w: BlockLetters,
     back: &mut [u16],
 ) -> usize
-    requires { ⌜ Ready (now rows) (now parts) n × Scoped (tab (now rows) (now parts)) n (now uses) (now tops) × (number ≤ 4294967295) × (c ≤ 8) × (8 ≤ length (now back)) × (a ≤ 1048576) ⌝ }
-    ensures { λ out. ⌜ ((P : Program) (f : Fault) → Holds (tab (now (rows .entry)) (now (parts .entry))) n (now (blocks .entry)) nb P → numberOf f ≡ 10 → toldOf (operand P (map letterOf (span (now (parts .entry)) l q)) f (regsOf (typesIn (now (rows .entry)) (now (parts .entry)) n) (now (regs .entry))) (inst (baseOf kind number) (span (now (args .entry)) a c) t)) ≡ answer out (typeAt value (typesIn (now (rows .entry)) (now (parts .entry)) n) (givenRow n t))) ⌝ }
+    requires { ⌜ Ordered p (length (now image)) × ReadyAt p (now image) (c .rows) × ScopedAt p (now image) (c .rows) × (o .number ≤ 4294967295) × (o .count ≤ 8) × (8 ≤ length (now back)) × (o .first ≤ 1048576) ⌝ }
+    ensures { λ out. ⌜ ((P : Program) (f : Fault) → HoldsAt p (now (image .entry)) c P → numberOf f ≡ 10 → toldOf (operand P (lettersIn p (now (image .entry)) w) f (regsOf (typesAt p (now (image .entry)) (c .rows)) (now (regs .entry))) (inst (baseOf (o .kind) (o .number)) (span (argSection p (now (image .entry))) (o .first) (o .count)) (o .row))) ≡ answer out (typeAt value (typesAt p (now (image .entry)) (c .rows)) (givenRow (c .rows) (o .row)))) ⌝ }
 {
-    crate::reversed(args, a, c, n, back);
-    let h = fill_fault(
-        rows,
-        parts,
-        n,
-        uses,
-        tops,
-        blocks,
-        nb,
-        regs,
-        kind,
-        number,
-        &back[..c],
-        t,
-    );
-    let g = crate::formed_row(rows, parts, n, uses, tops, t, q, l);
-    if crate::formed_args(rows, parts, n, uses, tops, args, a, c, q, l) {
+    let args = p.args;
+    let uses = p.uses;
+    let n = c.rows;
+    let k = o.count;
+    crate::reversed(&image[args..uses], o.first, k, n, back);
+    let h = fill_fault(image, p, c, regs, o, &back[..k]);
+    let g = crate::formed_row(image, p, n, o.row, w);
+    if crate::formed_args(image, p, n, o.first, k, w) {
         return valid_context::least(g, h);
     }
     valid_context::least(7, valid_context::least(g, h))
 }
 
-// The type of operand v under the q letters at l.
+// The type of operand v under the letters w.
 pub fn operand(
-    rows: &[u16],
-    parts: &[u16],
-    n: usize,
-    uses: &[u8],
-    tops: &[u16],
-    blocks: &[u16],
-    nb: usize,
-    operands: &[u16],
-    numbers: &[u32],
-    args: &[u16],
+    image: &[u16],
+    literals: &[u32],
+    p: Places,
+    c: Counts,
     v: usize,
-    q: usize,
-    l: usize,
+    w: BlockLetters,
     regs: &[u16],
     back: &mut [u16],
 ) -> Typed
-    requires { ⌜ Ready (now rows) (now parts) n × Scoped (tab (now rows) (now parts)) n (now uses) (now tops) × Short (operandAt (operandTable (now operands) (now numbers) (now args)) v) × (v ≤ 131072) × (8 ≤ length (now back)) ⌝ }
-    ensures { λ out. ⌜ ((P : Program) (f : Fault) → Holds (tab (now (rows .entry)) (now (parts .entry))) n (now (blocks .entry)) nb P → numberOf f ≡ 10 → toldOf (operand P (map letterOf (span (now (parts .entry)) l q)) f (regsOf (typesIn (now (rows .entry)) (now (parts .entry)) n) (now (regs .entry))) (operandAt (operandTable (now (operands .entry)) (now (numbers .entry)) (now (args .entry))) v)) ≡ answer (out .fault) (typeAt value (typesIn (now (rows .entry)) (now (parts .entry)) n) (out .row))) × (out .row ≤ n + 1) ⌝ }
+    requires { ⌜ Ordered p (length (now image)) × ReadyAt p (now image) (c .rows) × ScopedAt p (now image) (c .rows) × Short (operandIn p (now image) (now literals) v) × (v ≤ 131072) × (8 ≤ length (now back)) ⌝ }
+    ensures { λ out. ⌜ ((P : Program) (f : Fault) → HoldsAt p (now (image .entry)) c P → numberOf f ≡ 10 → toldOf (operand P (lettersIn p (now (image .entry)) w) f (regsOf (typesAt p (now (image .entry)) (c .rows)) (now (regs .entry))) (operandIn p (now (image .entry)) (now (literals .entry)) v)) ≡ answer (out .fault) (typeAt value (typesAt p (now (image .entry)) (c .rows)) (out .row))) × (out .row ≤ c .rows + 1) ⌝ }
 {
-    let kind = crate::bases::entry(operands, v, 0);
-    let c = crate::bases::entry(operands, v, 1);
-    let number = crate::bases::number_at(numbers, v);
-    if c == 0 {
-        return crate::bases::base_type(rows, parts, n, blocks, nb, regs, kind, number);
+    let operands = p.operands;
+    let args = p.args;
+    let table = &image[operands..args];
+    let kind = crate::bases::entry(table, v, 0);
+    let count = crate::bases::entry(table, v, 1);
+    let number = crate::bases::number_at(literals, v);
+    if count == 0 {
+        return crate::bases::base_type(image, p, c, regs, kind, number);
     }
-    let t = crate::bases::entry(operands, v, 2);
-    let f = instance(
-        rows,
-        parts,
-        n,
-        uses,
-        tops,
-        blocks,
-        nb,
-        regs,
+    let row = crate::bases::entry(table, v, 2);
+    let first = 8 * v;
+    let o = BaseArgs {
         kind,
         number,
-        args,
-        8 * v,
-        c,
-        t,
-        q,
-        l,
-        back,
-    );
+        first,
+        count,
+        row,
+    };
+    let f = instance(image, p, c, regs, o, w, back);
     Typed {
         fault: f,
-        row: crate::given_row(n, t),
+        row: crate::given_row(c.rows, row),
     }
 }

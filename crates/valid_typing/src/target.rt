@@ -2,25 +2,27 @@
 // registers, where the code names one, have the same types now.
 // Promised: the premise's least fault as crate valid defines it, 0 if the target fits, and for fault 10 one of the items that do not fit:
 // 99 for the resulting row, 0 for sp, 1 to 8 for a register.
+use crate::BlockLetters;
+use image::Counts;
+use image::Places;
 ghost use mathlib.Core.Path.{_≡_};
 ghost use mathlib.Core.Bool.{true};
-ghost use mathlib.Core.List.{List, map};
+ghost use mathlib.Core.List.{List};
 ghost use Prim.Native.Nat.{ℕ, _+_, _≤_};
 ghost use lib.ListN.{length};
 ghost use Rattle.syntax.specs.Syntax.{Kind, value, Operand};
 ghost use Rattle.syntax.specs.Fault.{unfit};
 ghost use Rattle.types.specs.Rows.{typeAt};
-ghost use Rattle.tables.specs.Tables.{span, letterOf, operandAt};
 ghost use Rattle.valid.specs.Program.{Program};
 ghost use Rattle.valid.specs.PassThree.{operand, unfits, targetOf};
-ghost use Rattle.valid_scope.specs.Scoped.{Scoped};
+ghost use Rattle.image.specs.Sections.{Ordered};
 ghost use Rattle.types_rows.specs.Read.{tab, slotAt, partsOf, meanV};
 ghost use Rattle.valid_context.specs.Context.{regsOf, contextOf};
 ghost use Rattle.valid_context.specs.Told.{toldOf, answer};
 ghost use Rattle.valid_context.specs.premises.Bounds.{Short};
-ghost use Rattle.valid_context.specs.premises.Answers.{Holds, Answered};
+ghost use Rattle.valid_context.specs.premises.Answers.{Answered};
 ghost use Rattle.valid_typing.specs.Typing.{typesIn, Ready};
-ghost use Rattle.valid_typing.specs.operands.Operands.{operandTable};
+ghost use Rattle.valid_typing.specs.Image.{typesAt, ReadyAt, ScopedAt, operandIn, HoldsAt, lettersIn};
 ghost use Rattle.valid_typing.specs.target.Fits.{slotFits, firstItem};
 
 // The least fault of a target, 0 for none, and for fault 10 an item that does not fit, else 100.
@@ -110,46 +112,23 @@ fn aimed(
     }
 }
 
-// The target that operand v is, under the q letters at l, with the registers' links and the d items of sp.
+// The target that operand v is, under the letters w, with the registers' links and the d items of sp.
 pub fn target(
-    rows: &[u16],
-    parts: &[u16],
-    n: usize,
-    uses: &[u8],
-    tops: &[u16],
-    blocks: &[u16],
-    nb: usize,
-    operands: &[u16],
-    numbers: &[u32],
-    args: &[u16],
+    image: &[u16],
+    literals: &[u32],
+    p: Places,
+    c: Counts,
     v: usize,
-    q: usize,
-    l: usize,
+    w: BlockLetters,
     regs: &[u16],
     sp: &[u16],
     d: usize,
     back: &mut [u16],
 ) -> Fitted
-    requires { ⌜ Ready (now rows) (now parts) n × Scoped (tab (now rows) (now parts)) n (now uses) (now tops) × Short (operandAt (operandTable (now operands) (now numbers) (now args)) v) × (v ≤ 131072) × (8 ≤ length (now back)) ⌝ }
-    ensures { λ out. ⌜ ((P : Program) → Holds (tab (now (rows .entry)) (now (parts .entry))) n (now (blocks .entry)) nb P → Answered (targetOf P (map letterOf (span (now (parts .entry)) l q)) (contextOf (typesIn (now (rows .entry)) (now (parts .entry)) n) (now (regs .entry)) (now (sp .entry)) d) (operandAt (operandTable (now (operands .entry)) (now (numbers .entry)) (now (args .entry))) v)) (out .fault) tt (out .item)) ⌝ }
+    requires { ⌜ Ordered p (length (now image)) × ReadyAt p (now image) (c .rows) × ScopedAt p (now image) (c .rows) × Short (operandIn p (now image) (now literals) v) × (v ≤ 131072) × (8 ≤ length (now back)) ⌝ }
+    ensures { λ out. ⌜ ((P : Program) → HoldsAt p (now (image .entry)) c P → Answered (targetOf P (lettersIn p (now (image .entry)) w) (contextOf (typesAt p (now (image .entry)) (c .rows)) (now (regs .entry)) (now (sp .entry)) d) (operandIn p (now (image .entry)) (now (literals .entry)) v)) (out .fault) tt (out .item)) ⌝ }
 {
-    let r = crate::operands::operand(
-        rows,
-        parts,
-        n,
-        uses,
-        tops,
-        blocks,
-        nb,
-        operands,
-        numbers,
-        args,
-        v,
-        q,
-        l,
-        regs,
-        back,
-    );
+    let r = crate::operands::operand(image, literals, p, c, v, w, regs, back);
     if r.fault == 10 {
         return Fitted {
             fault: 10,
@@ -162,5 +141,9 @@ pub fn target(
             item: 100,
         };
     }
-    aimed(rows, parts, n, r.row, regs, sp, d)
+    let shared = p.shared;
+    let slots = p.slots;
+    let end = p.end;
+    let rows = &image[shared..slots];
+    aimed(rows, &image[slots..end], c.rows, r.row, regs, sp, d)
 }

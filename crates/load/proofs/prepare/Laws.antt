@@ -1,6 +1,5 @@
 -- Two rows more behind n rows, and counts, leave the n rows as they are.
-use Prim.Native.Nat.{ℕ, zero, suc, _+_, _*_, _≤_, _<_}
-use native.Mathlib.Nat.{zero-add}
+use Prim.Native.Nat.{ℕ, zero, suc, _+_, _-_, _*_, _≤_, _<_}
 use native.Mathlib.Omega.{arith}
 use mathlib.Core.Path.{_≡_, refl, ap, ap₂, sym, subst, _∙_}
 use mathlib.Core.Bool.{Bool, true, false}
@@ -9,17 +8,21 @@ use lib.Dec.{eqb}
 use lib.ListN.{length, getD, set, length-set}
 use lib.Seq.{getD-set-same, getD-set-other}
 use borrow.Author.Tests.{eqb-true, eqb-false}
+use borrow.Rule.Slice.PartMut.{putMid}
 use Rattle.syntax.specs.Syntax.{Row, rowI, rowN, rowE, rowV, rowX, rowP, rowU, rowK, rowA, rowC}
 use Rattle.syntax.specs.Fault.{Clear}
 use Rattle.types.specs.Rows.{rowRefs, total, sizeOf, sizesOf, rowsFaults}
 use Rattle.tables.specs.Tables.{RowTable, cell, rowFrom, rowAt, rowsFrom, rowsIn}
-use Rattle.types_rows.specs.Read.{tab, Counted}
-use Rattle.types_rows.specs.item_counts.Counts.{CountsFilled}
+use Rattle.types_rows.specs.Read.{tab}
+use Rattle.types_rows.specs.item_counts.Counts.{SizesFit, CountsFilled}
+use Rattle.image.specs.declared.Places.{Places}
+use Rattle.image.specs.Sections.{part, rowSection, partSection, useSection, topSection, Ordered, Outside}
+use Rattle.image.proofs.Laws.{part-length, back, lent, then, before, behind}
 use Rattle.valid_scope.specs.Scoped.{SmallVariable, Scoped, Checked}
 use Rattle.valid_scope.proofs.Callers.{checked}
 use Rattle.types_pass_two.proofs.Laws.{size-clear}
 use Rattle.valid_context.specs.premises.Bounds.{SmallRow}
-use Rattle.load.specs.prepare.Prepared.{Prepared}
+use Rattle.load.specs.prepare.Prepared.{Prepared, Kept}
 
 -- ---- rows of which the entries agree
 row-agree : (l m parts : List ℕ) (r : ℕ) → ((k : ℕ) → k < 3 → cell 4 l r k ≡ cell 4 m r k) → rowAt (tab l parts) r ≡ rowAt (tab m parts) r
@@ -149,3 +152,72 @@ module _ (rows parts : List ℕ) (n : ℕ) (room : 4 * n + 8 ≤ length rows) (t
 
   pub prepared-two : (after : List ℕ) → CountsFilled two after parts (n + 2) → (uses tops : List ℕ) → n ≤ 512 → Scoped (tab after parts) n uses tops → Prepared rows after parts n uses tops
   prepared-two after f = all-prepared rows parts n room after (counts after f)
+
+-- ---- the same of rows that are a section of an image: lent once for the two, y, and once for the counts, z
+module _ (p : Places) (l : List ℕ) (n : ℕ) (o : Ordered p (length l)) (room : 4 * n + 8 ≤ p .blocks - p .rows) (y : List ℕ) (e : y ≡ set (set (rowSection p l) (4 * n) 0) (4 * n + 4) 1) where
+  row-room : 4 * n + 8 ≤ length (rowSection p l)
+  row-room = let q = part-length (p .rows) (p .blocks) l (omega arith) in omega arith
+
+  long : length y ≡ length (rowSection p l)
+  long = ap length e ∙ two-length (rowSection p l) [] n row-room
+
+  two-out : Outside (p .rows) (p .blocks) l (putMid (p .rows) (p .blocks - p .rows) l y)
+  two-out = lent (p .rows) (p .blocks) l y (o .rows) (omega arith) long
+
+  two-is : rowSection p (putMid (p .rows) (p .blocks - p .rows) l y) ≡ y
+  two-is = back (p .rows) (p .blocks) l y (omega arith) (long ∙ part-length (p .rows) (p .blocks) l (omega arith))
+
+  pub image-room : 4 * (n + 2) ≤ length (rowSection p (putMid (p .rows) (p .blocks - p .rows) l y))
+  image-room = rw two-is (room-two (rowSection p l) [] n row-room y e)
+
+  pub image-sizes : Clear (rowsFaults [] [] (rowsIn (tab (rowSection p l) (partSection p l)) n)) → SizesFit (rowSection p (putMid (p .rows) (p .blocks - p .rows) l y)) (partSection p l) (n + 2)
+  image-sizes c = rw two-is (small-two (rowSection p l) (partSection p l) n row-room y e c)
+
+  module _ (z : List ℕ) (g : length z ≡ length (rowSection p (putMid (p .rows) (p .blocks - p .rows) l y))) (f : CountsFilled (rowSection p (putMid (p .rows) (p .blocks - p .rows) l y)) z (partSection p l) (n + 2)) where
+    abbrev l₁ : List ℕ
+    l₁ = putMid (p .rows) (p .blocks - p .rows) l y
+
+    abbrev l₂ : List ℕ
+    l₂ = putMid (p .rows) (p .blocks - p .rows) l₁ z
+
+    there : p .blocks ≤ length l₁
+    there = omega (arith, two-out .size)
+
+    pub counts-out : Outside (p .rows) (p .blocks) l l₂
+    counts-out = then two-out (lent (p .rows) (p .blocks) l₁ z (o .rows) there g)
+
+    counts-is : rowSection p l₂ ≡ z
+    counts-is = back (p .rows) (p .blocks) l₁ z (omega (arith, there)) (g ∙ part-length (p .rows) (p .blocks) l₁ there)
+
+    behind-rows : (c d : ℕ) → p .blocks ≤ c → part c d l₂ ≡ part c d l
+    behind-rows c d h = behind (p .rows) (p .blocks) l l₂ counts-out c d h
+
+    parts-kept : partSection p l₂ ≡ partSection p l
+    parts-kept = behind-rows (p .parts) (p .operands) (omega arith)
+
+    filled : CountsFilled y z (partSection p l) (n + 2)
+    filled = rw two-is at f
+
+    pub image-ordered : Ordered p (length l₂)
+    image-ordered = rw (counts-out .size) o
+
+    pub image-checked : Clear (rowsFaults [] [] (rowsIn (tab (rowSection p l) (partSection p l)) n)) → ((r : ℕ) → r < n → SmallRow (rowAt (tab (rowSection p l) (partSection p l)) r)) → (r : ℕ) → r < n → Checked (tab (rowSection p l₂) (partSection p l₂)) r
+    image-checked c s = rw (counts-is, parts-kept) (checked-two (rowSection p l) (partSection p l) n row-room y e z filled c s)
+
+    module _ (l₃ : List ℕ) (q : Outside (p .uses) (p .shared) l₂ l₃) where
+      before-uses : (c d : ℕ) → c ≤ d → d ≤ p .uses → part c d l₃ ≡ part c d l₂
+      before-uses c d h k = before (p .uses) (p .shared) l₂ l₃ (omega (arith, counts-out .size)) q c d h k
+
+      pub image-prepared : n ≤ 512 → Scoped (tab (rowSection p l₂) (partSection p l₂)) n (useSection p l₃) (topSection p l₃) → Prepared (rowSection p l) (rowSection p l₃) (partSection p l) n (useSection p l₃) (topSection p l₃)
+      image-prepared few s = rw (before-uses (p .rows) (p .blocks) (o .rows) (omega arith) ∙ counts-is) (prepared-two (rowSection p l) (partSection p l) n row-room y e z filled (useSection p l₃) (topSection p l₃) few (rw (counts-is, parts-kept) at s))
+
+      pub image-kept : Kept p l l₃
+      image-kept =
+          record {
+            blocks = before-uses (p .blocks) (p .instrs) (o .blocks) (omega arith) ∙ behind-rows (p .blocks) (p .instrs) (omega arith);
+            instrs = before-uses (p .instrs) (p .parts) (o .instrs) (omega arith) ∙ behind-rows (p .instrs) (p .parts) (omega arith);
+            parts = before-uses (p .parts) (p .operands) (o .parts) (omega arith) ∙ behind-rows (p .parts) (p .operands) (omega arith);
+            operands = before-uses (p .operands) (p .args) (o .operands) (omega arith) ∙ behind-rows (p .operands) (p .args) (omega arith);
+            args = before-uses (p .args) (p .uses) (o .args) (omega arith) ∙ behind-rows (p .args) (p .uses) (omega arith);
+            size = q .size ∙ counts-out .size;
+          }

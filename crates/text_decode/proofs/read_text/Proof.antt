@@ -1,202 +1,245 @@
-use borrow.Author.Needs.{needs}
-use mathlib.Core.Path.{refl, ap, sym, subst, _∙_}
-use Prim.Native.Nat.{ℕ, _+_, _-_, _≤_, zero-le}
+use mathlib.Core.Path.{_≡_, refl, ap, sym, subst, _∙_}
+use mathlib.Core.Bool.{true, not}
+use mathlib.Core.List.{List}
+use Prim.Native.Nat.{ℕ, _+_, _-_, _<_, _≤_, zero-le}
 use native.Mathlib.Omega.{arith}
-use lib.ListN.{length, drop}
-use Rattle.text_lines.specs.Parts.{firstPart}
-use Rattle.text_decode.specs.store.Store.{store}
-use Rattle.text_decode.specs.declared.state.Read.{Read}
+use lib.ListN.{length, take, drop}
 use borrow.Author.Tests.{not-false}
+use Rattle.image.specs.Sections.{Ordered}
+use Rattle.text_lines.specs.Parts.{firstPart}
+use Rattle.text_decode.specs.store.Store.{Store, storeIn, stored, RoomFor}
+use Rattle.text_decode.specs.store.Lines.{usedAfter, LineIs}
+use Rattle.text_decode.specs.state.State.{faultyRead, placeBehind, lineFault}
+use Rattle.text_decode.specs.declared.store.Used.{Used}
+use Rattle.text_decode.specs.Decoded.{ReadIs}
+use Rattle.text_decode.specs.declared.state.Read.{Read}
 use Rattle.text_decode.proofs.AnswerLaws.{fits, fits-not, last-fits}
-use Rattle.text_decode.proofs.LoopLaws.{AsLong, as-long, Going, started, read-long, at-end, at-unended, at-fault, turned, lineEnd, line-part, end-before, end-inside, line-as, ends-there, open-end, no-room}
+use Rattle.text_decode.proofs.LoopLaws.{Going, started, read-long, at-end, at-unended, at-fault, turned, lineEnd, line-part, end-before, end-inside, line-as, ends-there, open-end, no-room}
+use Rattle.text_decode.proofs.TextImage.{ordered-in, stored-as, as-long-in, as-long-still}
+use borrow.Author.Needs.{needs}
 use Rattle.text_decode.proofs.read_text.Statement.{statement}
 use Rattle.text_decode.proofs.read_text.Tie as tie
 
 abbrev Inv-loop : tie.InvT-loop
-Inv-loop text rows₀ parts₀ operands₀ numbers₀ args₀ instrs₀ blocks₀ end u₀ at₀ line₀ place₀ rows parts operands numbers args instrs blocks u at line place = Going text at line place u (store rows parts operands numbers args instrs blocks) × AsLong (store rows parts operands numbers args instrs blocks) (store rows₀ parts₀ operands₀ numbers₀ args₀ instrs₀ blocks₀) × (at ≤ end)
+Inv-loop text image₀ numbers₀ p end u₀ at₀ line₀ place₀ image numbers u at line place =
+    Going text at line place u (storeIn p image numbers) × (length image ≡ length image₀) × (length numbers ≡ length numbers₀) × (at ≤ end)
 
 abbrev μ-loop : tie.MeasureT-loop
-μ-loop text rows₀ parts₀ operands₀ numbers₀ args₀ instrs₀ blocks₀ end u₀ at₀ line₀ place₀ rows parts operands numbers args instrs blocks u at line place = length text - at
+μ-loop text image₀ numbers₀ p end u₀ at₀ line₀ place₀ image numbers u at line place = length text - at
 
-faulty-requires : tie.Need-faulty-requires Inv-loop μ-loop
-faulty-requires c κs = search needs
+abbrev Start : Type 0
+Start = tie.Start Inv-loop μ-loop
+
+abbrev After-lay-out : Type 0
+After-lay-out = tie.After-lay-out Inv-loop μ-loop
+
+abbrev After-last-end : Type 0
+After-last-end = tie.After-last-end Inv-loop μ-loop
+
+abbrev At-loop : Type 0
+At-loop = tie.At-loop Inv-loop μ-loop
+
+abbrev After-has-room : Type 0
+After-has-room = tie.After-has-room Inv-loop μ-loop
+
+abbrev After-read-line : Type 0
+After-read-line = tie.After-read-line Inv-loop μ-loop
+
+-- ---- places
+abbrev start-of : At-loop → Start
+start-of g = search
+
+abbrev places-of : At-loop → After-lay-out
+places-of g = search
+
+abbrev end-of : At-loop → After-last-end
+end-of g = search
+
+abbrev loop-of : After-read-line → At-loop
+loop-of t = search
+
+abbrev room-of : After-read-line → After-has-room
+room-of t = search
+
+-- ---- the image in the loop
+
+order-of : (g : At-loop) → Ordered (places-of g .lay-out .result) (length (g .loop .image))
+order-of g = ordered-in (places-of g .lay-out .result) (start-of g .args .image .now) (g .loop .image) (places-of g .lay-out .ensures) (g .loop .inv .1)
+
+same-of : (g : At-loop) → storeIn (places-of g .lay-out .result) (g .loop .image) (g .loop .numbers) ≡ stored (g .loop .image) (g .loop .numbers)
+same-of g = stored-as (places-of g .lay-out .result) (start-of g .args .image .now) (g .loop .image) (places-of g .lay-out .ensures) (g .loop .inv .1) (g .loop .numbers)
+
+-- the line that starts here ends before the last LF
+inside : (t : After-read-line) → loop-of t .loop .at < end-of (loop-of t) .last-end .result
+inside t = search
+
+roomy : (t : After-read-line) → RoomFor (loop-of t .loop .u) (storeIn (places-of (loop-of t) .lay-out .result) (loop-of t .loop .image) (loop-of t .loop .numbers))
+roomy t =
+    let g = loop-of t in
+    room-of t .has-room .ensures (g .loop .image) (g .loop .numbers) (order-of g) refl .0 (not-false (room-of t .has-room .result) (search))
+
+-- what was read, and what is in the image then
+size-of : (t : After-read-line) → length (t .read-line .last .1 .0) ≡ length (start-of (loop-of t) .args .image .now)
+size-of t = t .read-line .ensures .2 .size ∙ loop-of t .loop .inv .1
+
+count-of : (t : After-read-line) → length (t .read-line .last .1 .1 .1 .0) ≡ length (start-of (loop-of t) .args .numbers .now)
+count-of t = t .read-line .kept .1 .1 .1 .0 ∙ loop-of t .loop .inv .2
 
 returns : tie.Need-returns Inv-loop μ-loop
-returns c = fits (ap (λ (x : Read). x .fits) ((c .faulty) .ensures)) (read-long (((c .before .before .before .before .before .before .before .before .before .before .args) .text) .now) (store (((c .before .before .before .before .before .before .before .before .before .before .args) .rows) .now) (((c .before .before .before .before .before .before .before .before .before .before .args) .parts) .now) (((c .before .before .before .before .before .before .before .before .before .before .args) .operands) .now) (((c .before .before .before .before .before .before .before .before .before .before .args) .numbers) .now) (((c .before .before .before .before .before .before .before .before .before .before .args) .args) .now) (((c .before .before .before .before .before .before .before .before .before .before .args) .instrs) .now) (((c .before .before .before .before .before .before .before .before .before .before .args) .blocks) .now)) ((c .before .if1) .taken) ((c .faulty) .result) ((c .faulty) .ensures))
-
-last-end-requires : tie.Need-last-end-requires Inv-loop μ-loop
-last-end-requires c κs = search needs
-
-unused-requires : tie.Need-unused-requires Inv-loop μ-loop
-unused-requires c κs = search needs
+returns c =
+    let s : Start = search in
+    let f : tie.After-faulty Inv-loop μ-loop = search in
+    fits (ap (λ (x : Read). x .fits) (f .faulty .ensures)) (read-long (s .args .text .now) (stored (s .args .image .now) (s .args .numbers .now)) (search) (f .faulty .result) (f .faulty .ensures))
 
 loop-holds : tie.Need-loop-holds Inv-loop μ-loop
-loop-holds c = (started (((c .before .before .before .before .before .before .before .before .before .before .before .args) .text) .now) (store (((c .before .before .before .before .before .before .before .before .before .before .before .args) .rows) .now) (((c .before .before .before .before .before .before .before .before .before .before .before .args) .parts) .now) (((c .before .before .before .before .before .before .before .before .before .before .before .args) .operands) .now) (((c .before .before .before .before .before .before .before .before .before .before .before .args) .numbers) .now) (((c .before .before .before .before .before .before .before .before .before .before .before .args) .args) .now) (((c .before .before .before .before .before .before .before .before .before .before .before .args) .instrs) .now) (((c .before .before .before .before .before .before .before .before .before .before .before .args) .blocks) .now)) ((c .before .before .if1) .left) ((c .unused) .result) ((c .unused) .ensures), as-long (store (((c .before .before .before .before .before .before .before .before .before .before .before .args) .rows) .now) (((c .before .before .before .before .before .before .before .before .before .before .before .args) .parts) .now) (((c .before .before .before .before .before .before .before .before .before .before .before .args) .operands) .now) (((c .before .before .before .before .before .before .before .before .before .before .before .args) .numbers) .now) (((c .before .before .before .before .before .before .before .before .before .before .before .args) .args) .now) (((c .before .before .before .before .before .before .before .before .before .before .before .args) .instrs) .now) (((c .before .before .before .before .before .before .before .before .before .before .before .args) .blocks) .now)), zero-le)
+loop-holds c =
+    let s : Start = search in
+    let p : After-lay-out = search in
+    let u : tie.After-unused Inv-loop μ-loop = search in
+    (started (s .args .text .now) (storeIn (p .lay-out .result) (s .args .image .now) (s .args .numbers .now)) (search) (u .unused .result) (u .unused .ensures), refl, refl, zero-le)
 
 has-room-requires : tie.Need-has-room-requires Inv-loop μ-loop
-has-room-requires c κs = (c .before .before .before .before .before .before .before .before .loop) .inv .0 .few
-
-unfit-requires : tie.Need-unfit-requires Inv-loop μ-loop
-unfit-requires c κs = search needs
-
-same-length : tie.Need-same-length Inv-loop μ-loop
-same-length c = (c .before .before .before .before .before .before .before .before .before .before .before .loop) .inv .1 .rows
-
-same-length-2 : tie.Need-same-length-2 Inv-loop μ-loop
-same-length-2 c = (c .before .before .before .before .before .before .before .before .before .before .before .loop) .inv .1 .parts
-
-same-length-3 : tie.Need-same-length-3 Inv-loop μ-loop
-same-length-3 c = (c .before .before .before .before .before .before .before .before .before .before .before .loop) .inv .1 .operands
-
-same-length-4 : tie.Need-same-length-4 Inv-loop μ-loop
-same-length-4 c = (c .before .before .before .before .before .before .before .before .before .before .before .loop) .inv .1 .numbers
-
-same-length-5 : tie.Need-same-length-5 Inv-loop μ-loop
-same-length-5 c = (c .before .before .before .before .before .before .before .before .before .before .before .loop) .inv .1 .args
-
-same-length-6 : tie.Need-same-length-6 Inv-loop μ-loop
-same-length-6 c = (c .before .before .before .before .before .before .before .before .before .before .before .loop) .inv .1 .instrs
-
-same-length-7 : tie.Need-same-length-7 Inv-loop μ-loop
-same-length-7 c = (c .before .before .before .before .before .before .before .before .before .before .before .loop) .inv .1 .blocks
+has-room-requires c κs =
+    let g : At-loop = search in
+    ((length (g .loop .image), order-of g), g .loop .inv .0 .few)
 
 returns-2 : tie.Need-returns-2 Inv-loop μ-loop
-returns-2 c = fits-not (ap (λ (x : Read). x .fits) ((c .unfit) .ensures)) (no-room ((c .before .before .before .before .before .before .before .before .before .before .before .loop) .u) (store ((c .before .before .before .before .before .before .before .before .before .before .before .loop) .rows) ((c .before .before .before .before .before .before .before .before .before .before .before .loop) .parts) ((c .before .before .before .before .before .before .before .before .before .before .before .loop) .operands) ((c .before .before .before .before .before .before .before .before .before .before .before .loop) .numbers) ((c .before .before .before .before .before .before .before .before .before .before .before .loop) .args) ((c .before .before .before .before .before .before .before .before .before .before .before .loop) .instrs) ((c .before .before .before .before .before .before .before .before .before .before .before .loop) .blocks)) (store (((c .before .before .before .before .before .before .before .before .before .before .before .before .before .before .before .before .before .before .before .before .before .before .before .args) .rows) .now) (((c .before .before .before .before .before .before .before .before .before .before .before .before .before .before .before .before .before .before .before .before .before .before .before .args) .parts) .now) (((c .before .before .before .before .before .before .before .before .before .before .before .before .before .before .before .before .before .before .before .before .before .before .before .args) .operands) .now) (((c .before .before .before .before .before .before .before .before .before .before .before .before .before .before .before .before .before .before .before .before .before .before .before .args) .numbers) .now) (((c .before .before .before .before .before .before .before .before .before .before .before .before .before .before .before .before .before .before .before .before .before .before .before .args) .args) .now) (((c .before .before .before .before .before .before .before .before .before .before .before .before .before .before .before .before .before .before .before .before .before .before .before .args) .instrs) .now) (((c .before .before .before .before .before .before .before .before .before .before .before .before .before .before .before .before .before .before .before .before .before .before .before .args) .blocks) .now)) ((c .before .before .has-room) .result) ((c .before .before .before .before .before .before .before .before .before .before .before .loop) .inv .0 .few) ((c .before .before .before .before .before .before .before .before .before .before .before .loop) .inv .1) ((c .before .before .has-room) .ensures .1) ((c .before .if2) .taken))
+returns-2 c =
+    let g : At-loop = search in
+    let r : After-has-room = search in
+    let f : tie.After-unfit Inv-loop μ-loop = search in
+    let h : not (r .has-room .result) ≡ true = search in
+    let s = start-of g in
+    let p = places-of g in
+    fits-not (ap (λ (x : Read). x .fits) (f .unfit .ensures)) (no-room (g .loop .u) (storeIn (p .lay-out .result) (g .loop .image) (g .loop .numbers)) (stored (s .args .image .now) (s .args .numbers .now)) (r .has-room .result) (g .loop .inv .0 .few) (as-long-in (p .lay-out .result) (s .args .image .now) (g .loop .image) (p .lay-out .ensures) (g .loop .inv .1) (s .args .numbers .now) (g .loop .numbers) (g .loop .inv .2)) (r .has-room .ensures (g .loop .image) (g .loop .numbers) (order-of g) refl .1) h)
 
-sub-s : tie.Need-sub-s Inv-loop μ-loop
-sub-s c =
-    let h = (end-inside (((c .before .before .before .before .before .before .before .before .before .before .before .before .before .before .before .before .before .before .before .before .before .before .args) .text) .now) ((c .before .before .before .before .before .before .before .before .before .before .loop) .at) ((c .before .before .before .before .before .before .before .before .before .before .before .before .last-end) .result) ((c .before .before .before .before .before .before .before .before .before .before .before .before .last-end) .ensures) ((c .before .before .before .before .before .before .before .before .before .loop-test) .taken)) in
+sub-read-line : tie.Need-sub-read-line Inv-loop μ-loop
+sub-read-line c =
+    let g : At-loop = search in
+    let h = end-inside (start-of g .args .text .now) (g .loop .at) (end-of g .last-end .result) (end-of g .last-end .ensures) (search) in
     omega arith
 
-part-s-start : tie.Need-part-s-start Inv-loop μ-loop
-part-s-start c =
-    let h = (end-inside (((c .before .before .before .before .before .before .before .before .before .before .before .before .before .before .before .before .before .before .before .before .before .before .args) .text) .now) ((c .before .before .before .before .before .before .before .before .before .before .loop) .at) ((c .before .before .before .before .before .before .before .before .before .before .before .before .last-end) .result) ((c .before .before .before .before .before .before .before .before .before .before .before .before .last-end) .ensures) ((c .before .before .before .before .before .before .before .before .before .loop-test) .taken)) in
+part-read-line-start : tie.Need-part-read-line-start Inv-loop μ-loop
+part-read-line-start c =
+    let g : At-loop = search in
+    let h = end-inside (start-of g .args .text .now) (g .loop .at) (end-of g .last-end .result) (end-of g .last-end .ensures) (search) in
     omega arith
-
-part-s-end : tie.Need-part-s-end Inv-loop μ-loop
-part-s-end c = search needs
 
 read-line-requires : tie.Need-read-line-requires Inv-loop μ-loop
-read-line-requires c κs = (((c .before .before .before .before .before .before .before .before .before .has-room) .ensures .0 (not-false ((c .before .before .before .before .before .before .before .before .before .has-room) .result) ((c .before .before .before .before .before .before .before .before .if2) .left))), (c .before .before .before .before .before .before .before .before .before .before .before .before .before .before .before .before .before .before .loop) .inv .0 .few, line-part (((c .before .before .before .before .before .before .before .before .before .before .before .before .before .before .before .before .before .before .before .before .before .before .before .before .before .before .before .before .before .before .args) .text) .now) ((c .before .before .before .before .before .before .before .before .before .before .before .before .before .before .before .before .before .before .loop) .at) ((c .before .before .before .before .before .before .before .before .before .before .before .before .before .before .before .before .before .before .before .before .last-end) .result) ((c .before .before .before .before .before .before .before .before .before .before .before .before .before .before .before .before .before .before .before .before .last-end) .ensures) ((c .before .before .before .before .before .before .before .before .before .before .before .before .before .before .before .before .before .loop-test) .taken))
+read-line-requires c κs =
+    let g : At-loop = search in
+    let r : After-has-room = search in
+    (order-of g, r .has-room .ensures (g .loop .image) (g .loop .numbers) (order-of g) refl .0 (not-false (r .has-room .result) (search)), g .loop .inv .0 .few, line-part (start-of g .args .text .now) (g .loop .at) (end-of g .last-end .result) (end-of g .last-end .ensures) (search))
 
-line-fault-requires : tie.Need-line-fault-requires Inv-loop μ-loop
-line-fault-requires c κs = search needs
+-- ---- behind the line
+abbrev After-line-fault : Type 0
+After-line-fault = tie.After-line-fault Inv-loop μ-loop
 
-faulty-requires-2 : tie.Need-faulty-requires-2 Inv-loop μ-loop
-faulty-requires-2 c κs = search needs
+module _ (t : After-read-line) where
+  abbrev at-line : At-loop
+  at-line = loop-of t
 
-same-length-8 : tie.Need-same-length-8 Inv-loop μ-loop
-same-length-8 c = ((c .before .before .before .before .before .before .before .before .before .before .before .before .before .before .before .before .rows)) .given ∙ (c .before .before .before .before .before .before .before .before .before .before .before .before .before .before .before .before .before .before .before .before .before .before .before .before .before .before .before .before .before .before .before .before .before .before .before .before .loop) .inv .1 .rows
+  abbrev last-one : After-last-end
+  last-one = end-of at-line
 
-same-length-9 : tie.Need-same-length-9 Inv-loop μ-loop
-same-length-9 c = ((c .before .before .before .before .before .before .before .before .before .before .before .before .before .before .parts)) .given ∙ (c .before .before .before .before .before .before .before .before .before .before .before .before .before .before .before .before .before .before .before .before .before .before .before .before .before .before .before .before .before .before .before .before .before .before .before .before .loop) .inv .1 .parts
+  abbrev text : List ℕ
+  text = start-of at-line .args .text .now
 
-same-length-10 : tie.Need-same-length-10 Inv-loop μ-loop
-same-length-10 c = ((c .before .before .before .before .before .before .before .before .before .before .before .before .operands)) .given ∙ (c .before .before .before .before .before .before .before .before .before .before .before .before .before .before .before .before .before .before .before .before .before .before .before .before .before .before .before .before .before .before .before .before .before .before .before .before .loop) .inv .1 .operands
+  abbrev before : Store
+  before = storeIn (places-of at-line .lay-out .result) (at-line .loop .image) (at-line .loop .numbers)
 
-same-length-11 : tie.Need-same-length-11 Inv-loop μ-loop
-same-length-11 c = ((c .before .before .before .before .before .before .before .before .before .before .numbers)) .given ∙ (c .before .before .before .before .before .before .before .before .before .before .before .before .before .before .before .before .before .before .before .before .before .before .before .before .before .before .before .before .before .before .before .before .before .before .before .before .loop) .inv .1 .numbers
+  abbrev after : Store
+  after = storeIn (places-of at-line .lay-out .result) (t .read-line .last .1 .0) (t .read-line .last .1 .1 .1 .0)
 
-same-length-12 : tie.Need-same-length-12 Inv-loop μ-loop
-same-length-12 c = ((c .before .before .before .before .before .before .before .before .args2)) .given ∙ (c .before .before .before .before .before .before .before .before .before .before .before .before .before .before .before .before .before .before .before .before .before .before .before .before .before .before .before .before .before .before .before .before .before .before .before .before .loop) .inv .1 .args
+  abbrev its-end : ℕ
+  its-end = lineEnd text (at-line .loop .at) (last-one .last-end .result) (last-one .last-end .ensures) (inside t)
 
-same-length-13 : tie.Need-same-length-13 Inv-loop μ-loop
-same-length-13 c = ((c .before .before .before .before .before .before .instrs)) .given ∙ (c .before .before .before .before .before .before .before .before .before .before .before .before .before .before .before .before .before .before .before .before .before .before .before .before .before .before .before .before .before .before .before .before .before .before .before .before .loop) .inv .1 .instrs
+  its-end-inside : its-end < length text
+  its-end-inside = end-inside text (at-line .loop .at) (last-one .last-end .result) (last-one .last-end .ensures) (inside t)
 
-same-length-14 : tie.Need-same-length-14 Inv-loop μ-loop
-same-length-14 c = ((c .before .before .before .before .blocks2)) .given ∙ (c .before .before .before .before .before .before .before .before .before .before .before .before .before .before .before .before .before .before .before .before .before .before .before .before .before .before .before .before .before .before .before .before .before .before .before .before .loop) .inv .1 .blocks
+  starts-inside : at-line .loop .at < length text
+  starts-inside = omega (arith, its-end-inside)
+
+  line-is : LineIs (take (its-end - at-line .loop .at) (drop (at-line .loop .at) text)) (at-line .loop .u) before after (t .read-line .result .line)
+  line-is = line-as text (at-line .loop .at) (last-one .last-end .result) (last-one .last-end .ensures) (inside t) (at-line .loop .u) before after (t .read-line .result .line) (t .read-line .ensures .0)
+
+  next-line : (f : ℕ) → f ≡ lineFault (t .read-line .result .line) (at-line .loop .place) (at-line .loop .u) → f ≡ 0 → at-line .loop .at + t .read-line .result .next + 1 ≡ its-end + 1
+  next-line f w z = ends-there text (at-line .loop .at) (last-one .last-end .result) (last-one .last-end .ensures) (inside t) (t .read-line .result) (t .read-line .ensures .1) (at-line .loop .place) (at-line .loop .u) f w z
+
+  fault-read : (f : ℕ) → f ≡ lineFault (t .read-line .result .line) (at-line .loop .place) (at-line .loop .u) → (f ≡ 0 → ⊥) → (r : Read) → r ≡ faultyRead f (at-line .loop .line) → ReadIs text (stored (t .read-line .last .1 .0) (t .read-line .last .1 .1 .1 .0)) r
+  fault-read f w z r q =
+      subst (λ (σ : Store). ReadIs text σ r) (stored-as (places-of at-line .lay-out .result) (start-of at-line .args .image .now) (t .read-line .last .1 .0) (places-of at-line .lay-out .ensures) (size-of t) (t .read-line .last .1 .1 .1 .0))
+      (at-fault text (at-line .loop .at) (at-line .loop .line) (at-line .loop .place) (at-line .loop .u) before (at-line .loop .inv .0) starts-inside its-end refl its-end-inside after (t .read-line .result .line) line-is f w z r q)
+
+  goes-on : (f : ℕ) → f ≡ lineFault (t .read-line .result .line) (at-line .loop .place) (at-line .loop .u) → f ≡ 0 → (v : Used) → v ≡ usedAfter (at-line .loop .u) (t .read-line .result .line) → (p : ℕ) → p ≡ placeBehind (t .read-line .result .line) (at-line .loop .place) → Going text (at-line .loop .at + t .read-line .result .next + 1) (at-line .loop .line + 1) p v after
+  goes-on f w z v ev p ep =
+      subst (λ (k : ℕ). Going text k (at-line .loop .line + 1) p v after) (sym (next-line f w z))
+      (turned text (at-line .loop .at) (at-line .loop .line) (at-line .loop .place) (at-line .loop .u) before (at-line .loop .inv .0) starts-inside its-end refl its-end-inside after (roomy t) (as-long-still (places-of at-line .lay-out .result) (at-line .loop .image) (t .read-line .last .1 .0) (at-line .loop .numbers) (t .read-line .last .1 .1 .1 .0) (order-of at-line) (t .read-line .ensures .2 .size) (t .read-line .kept .1 .1 .1 .0)) (t .read-line .result .line) line-is f w z v ev p ep)
 
 returns-3 : tie.Need-returns-3 Inv-loop μ-loop
-returns-3 c = fits (ap (λ (x : Read). x .fits) ((c .faulty2) .ensures)) (at-fault (((c .before .before .before .before .before .before .before .before .before .before .before .before .before .before .before .before .before .before .before .before .before .before .before .before .before .before .before .before .before .before .before .before .before .before .before .before .before .before .before .before .before .before .before .before .before .before .before .before .args) .text) .now) ((c .before .before .before .before .before .before .before .before .before .before .before .before .before .before .before .before .before .before .before .before .before .before .before .before .before .before .before .before .before .before .before .before .before .before .before .before .loop) .at) ((c .before .before .before .before .before .before .before .before .before .before .before .before .before .before .before .before .before .before .before .before .before .before .before .before .before .before .before .before .before .before .before .before .before .before .before .before .loop) .line) ((c .before .before .before .before .before .before .before .before .before .before .before .before .before .before .before .before .before .before .before .before .before .before .before .before .before .before .before .before .before .before .before .before .before .before .before .before .loop) .place) ((c .before .before .before .before .before .before .before .before .before .before .before .before .before .before .before .before .before .before .before .before .before .before .before .before .before .before .before .before .before .before .before .before .before .before .before .before .loop) .u) (store ((c .before .before .before .before .before .before .before .before .before .before .before .before .before .before .before .before .before .before .before .before .before .before .before .before .before .before .before .before .before .before .before .before .before .before .before .before .loop) .rows) ((c .before .before .before .before .before .before .before .before .before .before .before .before .before .before .before .before .before .before .before .before .before .before .before .before .before .before .before .before .before .before .before .before .before .before .before .before .loop) .parts) ((c .before .before .before .before .before .before .before .before .before .before .before .before .before .before .before .before .before .before .before .before .before .before .before .before .before .before .before .before .before .before .before .before .before .before .before .before .loop) .operands) ((c .before .before .before .before .before .before .before .before .before .before .before .before .before .before .before .before .before .before .before .before .before .before .before .before .before .before .before .before .before .before .before .before .before .before .before .before .loop) .numbers) ((c .before .before .before .before .before .before .before .before .before .before .before .before .before .before .before .before .before .before .before .before .before .before .before .before .before .before .before .before .before .before .before .before .before .before .before .before .loop) .args) ((c .before .before .before .before .before .before .before .before .before .before .before .before .before .before .before .before .before .before .before .before .before .before .before .before .before .before .before .before .before .before .before .before .before .before .before .before .loop) .instrs) ((c .before .before .before .before .before .before .before .before .before .before .before .before .before .before .before .before .before .before .before .before .before .before .before .before .before .before .before .before .before .before .before .before .before .before .before .before .loop) .blocks)) ((c .before .before .before .before .before .before .before .before .before .before .before .before .before .before .before .before .before .before .before .before .before .before .before .before .before .before .before .before .before .before .before .before .before .before .before .before .loop) .inv .0) (let h = (end-inside (((c .before .before .before .before .before .before .before .before .before .before .before .before .before .before .before .before .before .before .before .before .before .before .before .before .before .before .before .before .before .before .before .before .before .before .before .before .before .before .before .before .before .before .before .before .before .before .before .before .args) .text) .now) ((c .before .before .before .before .before .before .before .before .before .before .before .before .before .before .before .before .before .before .before .before .before .before .before .before .before .before .before .before .before .before .before .before .before .before .before .before .loop) .at) ((c .before .before .before .before .before .before .before .before .before .before .before .before .before .before .before .before .before .before .before .before .before .before .before .before .before .before .before .before .before .before .before .before .before .before .before .before .before .before .last-end) .result) ((c .before .before .before .before .before .before .before .before .before .before .before .before .before .before .before .before .before .before .before .before .before .before .before .before .before .before .before .before .before .before .before .before .before .before .before .before .before .before .last-end) .ensures) ((c .before .before .before .before .before .before .before .before .before .before .before .before .before .before .before .before .before .before .before .before .before .before .before .before .before .before .before .before .before .before .before .before .before .before .before .loop-test) .taken)) in omega arith) (lineEnd (((c .before .before .before .before .before .before .before .before .before .before .before .before .before .before .before .before .before .before .before .before .before .before .before .before .before .before .before .before .before .before .before .before .before .before .before .before .before .before .before .before .before .before .before .before .before .before .before .before .args) .text) .now) ((c .before .before .before .before .before .before .before .before .before .before .before .before .before .before .before .before .before .before .before .before .before .before .before .before .before .before .before .before .before .before .before .before .before .before .before .before .loop) .at) ((c .before .before .before .before .before .before .before .before .before .before .before .before .before .before .before .before .before .before .before .before .before .before .before .before .before .before .before .before .before .before .before .before .before .before .before .before .before .before .last-end) .result) ((c .before .before .before .before .before .before .before .before .before .before .before .before .before .before .before .before .before .before .before .before .before .before .before .before .before .before .before .before .before .before .before .before .before .before .before .before .before .before .last-end) .ensures) ((c .before .before .before .before .before .before .before .before .before .before .before .before .before .before .before .before .before .before .before .before .before .before .before .before .before .before .before .before .before .before .before .before .before .before .before .loop-test) .taken)) refl (end-inside (((c .before .before .before .before .before .before .before .before .before .before .before .before .before .before .before .before .before .before .before .before .before .before .before .before .before .before .before .before .before .before .before .before .before .before .before .before .before .before .before .before .before .before .before .before .before .before .before .before .args) .text) .now) ((c .before .before .before .before .before .before .before .before .before .before .before .before .before .before .before .before .before .before .before .before .before .before .before .before .before .before .before .before .before .before .before .before .before .before .before .before .loop) .at) ((c .before .before .before .before .before .before .before .before .before .before .before .before .before .before .before .before .before .before .before .before .before .before .before .before .before .before .before .before .before .before .before .before .before .before .before .before .before .before .last-end) .result) ((c .before .before .before .before .before .before .before .before .before .before .before .before .before .before .before .before .before .before .before .before .before .before .before .before .before .before .before .before .before .before .before .before .before .before .before .before .before .before .last-end) .ensures) ((c .before .before .before .before .before .before .before .before .before .before .before .before .before .before .before .before .before .before .before .before .before .before .before .before .before .before .before .before .before .before .before .before .before .before .before .loop-test) .taken)) (store ((c .before .before .before .before .before .before .before .before .before .before .before .before .before .before .before .before .before .read-line) .last .1 .0) ((c .before .before .before .before .before .before .before .before .before .before .before .before .before .before .before .before .before .read-line) .last .1 .1 .0) ((c .before .before .before .before .before .before .before .before .before .before .before .before .before .before .before .before .before .read-line) .last .1 .1 .1 .0) ((c .before .before .before .before .before .before .before .before .before .before .before .before .before .before .before .before .before .read-line) .last .1 .1 .1 .1 .0) ((c .before .before .before .before .before .before .before .before .before .before .before .before .before .before .before .before .before .read-line) .last .1 .1 .1 .1 .1 .0) ((c .before .before .before .before .before .before .before .before .before .before .before .before .before .before .before .before .before .read-line) .last .1 .1 .1 .1 .1 .1 .0) ((c .before .before .before .before .before .before .before .before .before .before .before .before .before .before .before .before .before .read-line) .last .1 .1 .1 .1 .1 .1 .1 .0)) ((c .before .before .before .before .before .before .before .before .before .before .before .before .before .before .before .before .before .read-line) .result .line) (line-as (((c .before .before .before .before .before .before .before .before .before .before .before .before .before .before .before .before .before .before .before .before .before .before .before .before .before .before .before .before .before .before .before .before .before .before .before .before .before .before .before .before .before .before .before .before .before .before .before .before .args) .text) .now) ((c .before .before .before .before .before .before .before .before .before .before .before .before .before .before .before .before .before .before .before .before .before .before .before .before .before .before .before .before .before .before .before .before .before .before .before .before .loop) .at) ((c .before .before .before .before .before .before .before .before .before .before .before .before .before .before .before .before .before .before .before .before .before .before .before .before .before .before .before .before .before .before .before .before .before .before .before .before .before .before .last-end) .result) ((c .before .before .before .before .before .before .before .before .before .before .before .before .before .before .before .before .before .before .before .before .before .before .before .before .before .before .before .before .before .before .before .before .before .before .before .before .before .before .last-end) .ensures) ((c .before .before .before .before .before .before .before .before .before .before .before .before .before .before .before .before .before .before .before .before .before .before .before .before .before .before .before .before .before .before .before .before .before .before .before .loop-test) .taken) ((c .before .before .before .before .before .before .before .before .before .before .before .before .before .before .before .before .before .before .before .before .before .before .before .before .before .before .before .before .before .before .before .before .before .before .before .before .loop) .u) (store ((c .before .before .before .before .before .before .before .before .before .before .before .before .before .before .before .before .before .before .before .before .before .before .before .before .before .before .before .before .before .before .before .before .before .before .before .before .loop) .rows) ((c .before .before .before .before .before .before .before .before .before .before .before .before .before .before .before .before .before .before .before .before .before .before .before .before .before .before .before .before .before .before .before .before .before .before .before .before .loop) .parts) ((c .before .before .before .before .before .before .before .before .before .before .before .before .before .before .before .before .before .before .before .before .before .before .before .before .before .before .before .before .before .before .before .before .before .before .before .before .loop) .operands) ((c .before .before .before .before .before .before .before .before .before .before .before .before .before .before .before .before .before .before .before .before .before .before .before .before .before .before .before .before .before .before .before .before .before .before .before .before .loop) .numbers) ((c .before .before .before .before .before .before .before .before .before .before .before .before .before .before .before .before .before .before .before .before .before .before .before .before .before .before .before .before .before .before .before .before .before .before .before .before .loop) .args) ((c .before .before .before .before .before .before .before .before .before .before .before .before .before .before .before .before .before .before .before .before .before .before .before .before .before .before .before .before .before .before .before .before .before .before .before .before .loop) .instrs) ((c .before .before .before .before .before .before .before .before .before .before .before .before .before .before .before .before .before .before .before .before .before .before .before .before .before .before .before .before .before .before .before .before .before .before .before .before .loop) .blocks)) (store ((c .before .before .before .before .before .before .before .before .before .before .before .before .before .before .before .before .before .read-line) .last .1 .0) ((c .before .before .before .before .before .before .before .before .before .before .before .before .before .before .before .before .before .read-line) .last .1 .1 .0) ((c .before .before .before .before .before .before .before .before .before .before .before .before .before .before .before .before .before .read-line) .last .1 .1 .1 .0) ((c .before .before .before .before .before .before .before .before .before .before .before .before .before .before .before .before .before .read-line) .last .1 .1 .1 .1 .0) ((c .before .before .before .before .before .before .before .before .before .before .before .before .before .before .before .before .before .read-line) .last .1 .1 .1 .1 .1 .0) ((c .before .before .before .before .before .before .before .before .before .before .before .before .before .before .before .before .before .read-line) .last .1 .1 .1 .1 .1 .1 .0) ((c .before .before .before .before .before .before .before .before .before .before .before .before .before .before .before .before .before .read-line) .last .1 .1 .1 .1 .1 .1 .1 .0)) ((c .before .before .before .before .before .before .before .before .before .before .before .before .before .before .before .before .before .read-line) .result .line) ((c .before .before .before .before .before .before .before .before .before .before .before .before .before .before .before .before .before .read-line) .ensures .0)) ((c .before .before .line-fault) .result) ((c .before .before .line-fault) .ensures) ((c .before .if3) .taken) ((c .faulty2) .result) ((c .faulty2) .ensures))
+returns-3 c =
+    let t : After-read-line = search in
+    let l : After-line-fault = search in
+    let f : tie.After-faulty2 Inv-loop μ-loop = search in
+    fits (ap (λ (x : Read). x .fits) (f .faulty2 .ensures)) (fault-read t (l .line-fault .result) (l .line-fault .ensures) (search) (f .faulty2 .result) (f .faulty2 .ensures))
 
 used-after-requires : tie.Need-used-after-requires Inv-loop μ-loop
-used-after-requires c κs = ((c .before .before .before .before .before .before .before .before .before .before .before .before .before .before .before .before .before .before .before .before .before .before .before .before .before .before .before .before .before .before .before .before .before .before .before .loop) .inv .0 .few, (c .before .before .before .before .before .before .before .before .before .before .before .before .before .before .before .before .read-line) .ensures .0 .few)
-
-place-behind-requires : tie.Need-place-behind-requires Inv-loop μ-loop
-place-behind-requires c κs = search needs
+used-after-requires c κs =
+    let t : After-read-line = search in
+    (loop-of t .loop .inv .0 .few, t .read-line .ensures .0 .few)
 
 add-at : tie.Need-add-at Inv-loop μ-loop
 add-at c =
-    let e = (ends-there (((c .before .before .before .before .before .before .before .before .before .before .before .before .before .before .before .before .before .before .before .before .before .before .before .before .before .before .before .before .before .before .before .before .before .before .before .before .before .before .before .before .before .before .before .before .before .before .before .before .before .before .args) .text) .now) ((c .before .before .before .before .before .before .before .before .before .before .before .before .before .before .before .before .before .before .before .before .before .before .before .before .before .before .before .before .before .before .before .before .before .before .before .before .before .before .loop) .at) ((c .before .before .before .before .before .before .before .before .before .before .before .before .before .before .before .before .before .before .before .before .before .before .before .before .before .before .before .before .before .before .before .before .before .before .before .before .before .before .before .before .last-end) .result) ((c .before .before .before .before .before .before .before .before .before .before .before .before .before .before .before .before .before .before .before .before .before .before .before .before .before .before .before .before .before .before .before .before .before .before .before .before .before .before .before .before .last-end) .ensures) ((c .before .before .before .before .before .before .before .before .before .before .before .before .before .before .before .before .before .before .before .before .before .before .before .before .before .before .before .before .before .before .before .before .before .before .before .before .before .loop-test) .taken) ((c .before .before .before .before .before .before .before .before .before .before .before .before .before .before .before .before .before .before .before .read-line) .result) ((c .before .before .before .before .before .before .before .before .before .before .before .before .before .before .before .before .before .before .before .read-line) .ensures .1) ((c .before .before .before .before .before .before .before .before .before .before .before .before .before .before .before .before .before .before .before .before .before .before .before .before .before .before .before .before .before .before .before .before .before .before .before .before .before .before .loop) .place) ((c .before .before .before .before .before .before .before .before .before .before .before .before .before .before .before .before .before .before .before .before .before .before .before .before .before .before .before .before .before .before .before .before .before .before .before .before .before .before .loop) .u) ((c .before .before .before .before .line-fault) .result) ((c .before .before .before .before .line-fault) .ensures) ((c .before .before .before .if3) .left)) in
-    let h = (end-inside (((c .before .before .before .before .before .before .before .before .before .before .before .before .before .before .before .before .before .before .before .before .before .before .before .before .before .before .before .before .before .before .before .before .before .before .before .before .before .before .before .before .before .before .before .before .before .before .before .before .before .before .args) .text) .now) ((c .before .before .before .before .before .before .before .before .before .before .before .before .before .before .before .before .before .before .before .before .before .before .before .before .before .before .before .before .before .before .before .before .before .before .before .before .before .before .loop) .at) ((c .before .before .before .before .before .before .before .before .before .before .before .before .before .before .before .before .before .before .before .before .before .before .before .before .before .before .before .before .before .before .before .before .before .before .before .before .before .before .before .before .last-end) .result) ((c .before .before .before .before .before .before .before .before .before .before .before .before .before .before .before .before .before .before .before .before .before .before .before .before .before .before .before .before .before .before .before .before .before .before .before .before .before .before .before .before .last-end) .ensures) ((c .before .before .before .before .before .before .before .before .before .before .before .before .before .before .before .before .before .before .before .before .before .before .before .before .before .before .before .before .before .before .before .before .before .before .before .before .before .loop-test) .taken)) in
-    omega (arith, (c .before .before .before .before .before .before .before .before .before .before .before .before .before .before .before .before .before .before .before .before .before .before .before .before .before .before .before .before .before .before .before .before .before .before .before .before .before .before .loop) .inv .0 .short)
+    let t : After-read-line = search in
+    let l : After-line-fault = search in
+    let e = next-line t (l .line-fault .result) (l .line-fault .ensures) (search) in
+    omega (arith, its-end-inside t, loop-of t .loop .inv .0 .short)
 
 add-at-2 : tie.Need-add-at-2 Inv-loop μ-loop
 add-at-2 c =
-    let e = (ends-there (((c .before .before .before .before .before .before .before .before .before .before .before .before .before .before .before .before .before .before .before .before .before .before .before .before .before .before .before .before .before .before .before .before .before .before .before .before .before .before .before .before .before .before .before .before .before .before .before .before .before .before .args) .text) .now) ((c .before .before .before .before .before .before .before .before .before .before .before .before .before .before .before .before .before .before .before .before .before .before .before .before .before .before .before .before .before .before .before .before .before .before .before .before .before .before .loop) .at) ((c .before .before .before .before .before .before .before .before .before .before .before .before .before .before .before .before .before .before .before .before .before .before .before .before .before .before .before .before .before .before .before .before .before .before .before .before .before .before .before .before .last-end) .result) ((c .before .before .before .before .before .before .before .before .before .before .before .before .before .before .before .before .before .before .before .before .before .before .before .before .before .before .before .before .before .before .before .before .before .before .before .before .before .before .before .before .last-end) .ensures) ((c .before .before .before .before .before .before .before .before .before .before .before .before .before .before .before .before .before .before .before .before .before .before .before .before .before .before .before .before .before .before .before .before .before .before .before .before .before .loop-test) .taken) ((c .before .before .before .before .before .before .before .before .before .before .before .before .before .before .before .before .before .before .before .read-line) .result) ((c .before .before .before .before .before .before .before .before .before .before .before .before .before .before .before .before .before .before .before .read-line) .ensures .1) ((c .before .before .before .before .before .before .before .before .before .before .before .before .before .before .before .before .before .before .before .before .before .before .before .before .before .before .before .before .before .before .before .before .before .before .before .before .before .before .loop) .place) ((c .before .before .before .before .before .before .before .before .before .before .before .before .before .before .before .before .before .before .before .before .before .before .before .before .before .before .before .before .before .before .before .before .before .before .before .before .before .before .loop) .u) ((c .before .before .before .before .line-fault) .result) ((c .before .before .before .before .line-fault) .ensures) ((c .before .before .before .if3) .left)) in
-    let h = (end-inside (((c .before .before .before .before .before .before .before .before .before .before .before .before .before .before .before .before .before .before .before .before .before .before .before .before .before .before .before .before .before .before .before .before .before .before .before .before .before .before .before .before .before .before .before .before .before .before .before .before .before .before .args) .text) .now) ((c .before .before .before .before .before .before .before .before .before .before .before .before .before .before .before .before .before .before .before .before .before .before .before .before .before .before .before .before .before .before .before .before .before .before .before .before .before .before .loop) .at) ((c .before .before .before .before .before .before .before .before .before .before .before .before .before .before .before .before .before .before .before .before .before .before .before .before .before .before .before .before .before .before .before .before .before .before .before .before .before .before .before .before .last-end) .result) ((c .before .before .before .before .before .before .before .before .before .before .before .before .before .before .before .before .before .before .before .before .before .before .before .before .before .before .before .before .before .before .before .before .before .before .before .before .before .before .before .before .last-end) .ensures) ((c .before .before .before .before .before .before .before .before .before .before .before .before .before .before .before .before .before .before .before .before .before .before .before .before .before .before .before .before .before .before .before .before .before .before .before .before .before .loop-test) .taken)) in
-    omega (arith, (c .before .before .before .before .before .before .before .before .before .before .before .before .before .before .before .before .before .before .before .before .before .before .before .before .before .before .before .before .before .before .before .before .before .before .before .before .before .before .loop) .inv .0 .short)
+    let t : After-read-line = search in
+    let l : After-line-fault = search in
+    let e = next-line t (l .line-fault .result) (l .line-fault .ensures) (search) in
+    omega (arith, its-end-inside t, loop-of t .loop .inv .0 .short)
 
 add-line : tie.Need-add-line Inv-loop μ-loop
 add-line c =
-    let h = (end-inside (((c .before .before .before .before .before .before .before .before .before .before .before .before .before .before .before .before .before .before .before .before .before .before .before .before .before .before .before .before .before .before .before .before .before .before .before .before .before .before .before .before .before .before .before .before .before .before .before .before .before .before .args) .text) .now) ((c .before .before .before .before .before .before .before .before .before .before .before .before .before .before .before .before .before .before .before .before .before .before .before .before .before .before .before .before .before .before .before .before .before .before .before .before .before .before .loop) .at) ((c .before .before .before .before .before .before .before .before .before .before .before .before .before .before .before .before .before .before .before .before .before .before .before .before .before .before .before .before .before .before .before .before .before .before .before .before .before .before .before .before .last-end) .result) ((c .before .before .before .before .before .before .before .before .before .before .before .before .before .before .before .before .before .before .before .before .before .before .before .before .before .before .before .before .before .before .before .before .before .before .before .before .before .before .before .before .last-end) .ensures) ((c .before .before .before .before .before .before .before .before .before .before .before .before .before .before .before .before .before .before .before .before .before .before .before .before .before .before .before .before .before .before .before .before .before .before .before .before .before .loop-test) .taken)) in
-    omega (arith, (c .before .before .before .before .before .before .before .before .before .before .before .before .before .before .before .before .before .before .before .before .before .before .before .before .before .before .before .before .before .before .before .before .before .before .before .before .before .before .loop) .inv .0 .counts, (c .before .before .before .before .before .before .before .before .before .before .before .before .before .before .before .before .before .before .before .before .before .before .before .before .before .before .before .before .before .before .before .before .before .before .before .before .before .before .loop) .inv .0 .short)
+    let t : After-read-line = search in
+    omega (arith, its-end-inside t, loop-of t .loop .inv .0 .counts, loop-of t .loop .inv .0 .short)
 
 loop-less : tie.Need-loop-less Inv-loop μ-loop
 loop-less c =
-    let e = (ends-there (((c .before .before .before .before .before .before .before .before .before .before .before .before .before .before .before .before .before .before .before .before .before .before .before .before .before .before .before .before .before .before .before .before .before .before .before .before .before .before .before .before .before .before .before .before .before .before .before .before .before .before .args) .text) .now) ((c .before .before .before .before .before .before .before .before .before .before .before .before .before .before .before .before .before .before .before .before .before .before .before .before .before .before .before .before .before .before .before .before .before .before .before .before .before .before .loop) .at) ((c .before .before .before .before .before .before .before .before .before .before .before .before .before .before .before .before .before .before .before .before .before .before .before .before .before .before .before .before .before .before .before .before .before .before .before .before .before .before .before .before .last-end) .result) ((c .before .before .before .before .before .before .before .before .before .before .before .before .before .before .before .before .before .before .before .before .before .before .before .before .before .before .before .before .before .before .before .before .before .before .before .before .before .before .before .before .last-end) .ensures) ((c .before .before .before .before .before .before .before .before .before .before .before .before .before .before .before .before .before .before .before .before .before .before .before .before .before .before .before .before .before .before .before .before .before .before .before .before .before .loop-test) .taken) ((c .before .before .before .before .before .before .before .before .before .before .before .before .before .before .before .before .before .before .before .read-line) .result) ((c .before .before .before .before .before .before .before .before .before .before .before .before .before .before .before .before .before .before .before .read-line) .ensures .1) ((c .before .before .before .before .before .before .before .before .before .before .before .before .before .before .before .before .before .before .before .before .before .before .before .before .before .before .before .before .before .before .before .before .before .before .before .before .before .before .loop) .place) ((c .before .before .before .before .before .before .before .before .before .before .before .before .before .before .before .before .before .before .before .before .before .before .before .before .before .before .before .before .before .before .before .before .before .before .before .before .before .before .loop) .u) ((c .before .before .before .before .line-fault) .result) ((c .before .before .before .before .line-fault) .ensures) ((c .before .before .before .if3) .left)) in
-    let h = (end-inside (((c .before .before .before .before .before .before .before .before .before .before .before .before .before .before .before .before .before .before .before .before .before .before .before .before .before .before .before .before .before .before .before .before .before .before .before .before .before .before .before .before .before .before .before .before .before .before .before .before .before .before .args) .text) .now) ((c .before .before .before .before .before .before .before .before .before .before .before .before .before .before .before .before .before .before .before .before .before .before .before .before .before .before .before .before .before .before .before .before .before .before .before .before .before .before .loop) .at) ((c .before .before .before .before .before .before .before .before .before .before .before .before .before .before .before .before .before .before .before .before .before .before .before .before .before .before .before .before .before .before .before .before .before .before .before .before .before .before .before .before .last-end) .result) ((c .before .before .before .before .before .before .before .before .before .before .before .before .before .before .before .before .before .before .before .before .before .before .before .before .before .before .before .before .before .before .before .before .before .before .before .before .before .before .before .before .last-end) .ensures) ((c .before .before .before .before .before .before .before .before .before .before .before .before .before .before .before .before .before .before .before .before .before .before .before .before .before .before .before .before .before .before .before .before .before .before .before .before .before .loop-test) .taken)) in
-    omega arith
+    let t : After-read-line = search in
+    let l : After-line-fault = search in
+    let e = next-line t (l .line-fault .result) (l .line-fault .ensures) (search) in
+    omega (arith, its-end-inside t)
 
 loop-again : tie.Need-loop-again Inv-loop μ-loop
 loop-again c =
-    let e = (ends-there (((c .before .before .before .before .before .before .before .before .before .before .before .before .before .before .before .before .before .before .before .before .before .before .before .before .before .before .before .before .before .before .before .before .before .before .before .before .before .before .before .before .before .before .before .before .before .before .before .before .before .before .args) .text) .now) ((c .before .before .before .before .before .before .before .before .before .before .before .before .before .before .before .before .before .before .before .before .before .before .before .before .before .before .before .before .before .before .before .before .before .before .before .before .before .before .loop) .at) ((c .before .before .before .before .before .before .before .before .before .before .before .before .before .before .before .before .before .before .before .before .before .before .before .before .before .before .before .before .before .before .before .before .before .before .before .before .before .before .before .before .last-end) .result) ((c .before .before .before .before .before .before .before .before .before .before .before .before .before .before .before .before .before .before .before .before .before .before .before .before .before .before .before .before .before .before .before .before .before .before .before .before .before .before .before .before .last-end) .ensures) ((c .before .before .before .before .before .before .before .before .before .before .before .before .before .before .before .before .before .before .before .before .before .before .before .before .before .before .before .before .before .before .before .before .before .before .before .before .before .loop-test) .taken) ((c .before .before .before .before .before .before .before .before .before .before .before .before .before .before .before .before .before .before .before .read-line) .result) ((c .before .before .before .before .before .before .before .before .before .before .before .before .before .before .before .before .before .before .before .read-line) .ensures .1) ((c .before .before .before .before .before .before .before .before .before .before .before .before .before .before .before .before .before .before .before .before .before .before .before .before .before .before .before .before .before .before .before .before .before .before .before .before .before .before .loop) .place) ((c .before .before .before .before .before .before .before .before .before .before .before .before .before .before .before .before .before .before .before .before .before .before .before .before .before .before .before .before .before .before .before .before .before .before .before .before .before .before .loop) .u) ((c .before .before .before .before .line-fault) .result) ((c .before .before .before .before .line-fault) .ensures) ((c .before .before .before .if3) .left)) in
-    let b = end-before (((c .before .before .before .before .before .before .before .before .before .before .before .before .before .before .before .before .before .before .before .before .before .before .before .before .before .before .before .before .before .before .before .before .before .before .before .before .before .before .before .before .before .before .before .before .before .before .before .before .before .before .args) .text) .now) ((c .before .before .before .before .before .before .before .before .before .before .before .before .before .before .before .before .before .before .before .before .before .before .before .before .before .before .before .before .before .before .before .before .before .before .before .before .before .before .loop) .at) ((c .before .before .before .before .before .before .before .before .before .before .before .before .before .before .before .before .before .before .before .before .before .before .before .before .before .before .before .before .before .before .before .before .before .before .before .before .before .before .before .before .last-end) .result) ((c .before .before .before .before .before .before .before .before .before .before .before .before .before .before .before .before .before .before .before .before .before .before .before .before .before .before .before .before .before .before .before .before .before .before .before .before .before .before .before .before .last-end) .ensures) ((c .before .before .before .before .before .before .before .before .before .before .before .before .before .before .before .before .before .before .before .before .before .before .before .before .before .before .before .before .before .before .before .before .before .before .before .before .before .loop-test) .taken) in
-    (subst (λ (k : ℕ). Going (((c .before .before .before .before .before .before .before .before .before .before .before .before .before .before .before .before .before .before .before .before .before .before .before .before .before .before .before .before .before .before .before .before .before .before .before .before .before .before .before .before .before .before .before .before .before .before .before .before .before .before .args) .text) .now) k ((c .before .before .before .before .before .before .before .before .before .before .before .before .before .before .before .before .before .before .before .before .before .before .before .before .before .before .before .before .before .before .before .before .before .before .before .before .before .before .loop) .line + 1) ((c .before .place-behind) .result) ((c .before .before .used-after) .result) (store ((c .before .before .before .before .before .before .before .before .before .before .before .before .before .before .before .before .before .before .before .read-line) .last .1 .0) ((c .before .before .before .before .before .before .before .before .before .before .before .before .before .before .before .before .before .before .before .read-line) .last .1 .1 .0) ((c .before .before .before .before .before .before .before .before .before .before .before .before .before .before .before .before .before .before .before .read-line) .last .1 .1 .1 .0) ((c .before .before .before .before .before .before .before .before .before .before .before .before .before .before .before .before .before .before .before .read-line) .last .1 .1 .1 .1 .0) ((c .before .before .before .before .before .before .before .before .before .before .before .before .before .before .before .before .before .before .before .read-line) .last .1 .1 .1 .1 .1 .0) ((c .before .before .before .before .before .before .before .before .before .before .before .before .before .before .before .before .before .before .before .read-line) .last .1 .1 .1 .1 .1 .1 .0) ((c .before .before .before .before .before .before .before .before .before .before .before .before .before .before .before .before .before .before .before .read-line) .last .1 .1 .1 .1 .1 .1 .1 .0))) (sym e) (turned (((c .before .before .before .before .before .before .before .before .before .before .before .before .before .before .before .before .before .before .before .before .before .before .before .before .before .before .before .before .before .before .before .before .before .before .before .before .before .before .before .before .before .before .before .before .before .before .before .before .before .before .args) .text) .now) ((c .before .before .before .before .before .before .before .before .before .before .before .before .before .before .before .before .before .before .before .before .before .before .before .before .before .before .before .before .before .before .before .before .before .before .before .before .before .before .loop) .at) ((c .before .before .before .before .before .before .before .before .before .before .before .before .before .before .before .before .before .before .before .before .before .before .before .before .before .before .before .before .before .before .before .before .before .before .before .before .before .before .loop) .line) ((c .before .before .before .before .before .before .before .before .before .before .before .before .before .before .before .before .before .before .before .before .before .before .before .before .before .before .before .before .before .before .before .before .before .before .before .before .before .before .loop) .place) ((c .before .before .before .before .before .before .before .before .before .before .before .before .before .before .before .before .before .before .before .before .before .before .before .before .before .before .before .before .before .before .before .before .before .before .before .before .before .before .loop) .u) (store ((c .before .before .before .before .before .before .before .before .before .before .before .before .before .before .before .before .before .before .before .before .before .before .before .before .before .before .before .before .before .before .before .before .before .before .before .before .before .before .loop) .rows) ((c .before .before .before .before .before .before .before .before .before .before .before .before .before .before .before .before .before .before .before .before .before .before .before .before .before .before .before .before .before .before .before .before .before .before .before .before .before .before .loop) .parts) ((c .before .before .before .before .before .before .before .before .before .before .before .before .before .before .before .before .before .before .before .before .before .before .before .before .before .before .before .before .before .before .before .before .before .before .before .before .before .before .loop) .operands) ((c .before .before .before .before .before .before .before .before .before .before .before .before .before .before .before .before .before .before .before .before .before .before .before .before .before .before .before .before .before .before .before .before .before .before .before .before .before .before .loop) .numbers) ((c .before .before .before .before .before .before .before .before .before .before .before .before .before .before .before .before .before .before .before .before .before .before .before .before .before .before .before .before .before .before .before .before .before .before .before .before .before .before .loop) .args) ((c .before .before .before .before .before .before .before .before .before .before .before .before .before .before .before .before .before .before .before .before .before .before .before .before .before .before .before .before .before .before .before .before .before .before .before .before .before .before .loop) .instrs) ((c .before .before .before .before .before .before .before .before .before .before .before .before .before .before .before .before .before .before .before .before .before .before .before .before .before .before .before .before .before .before .before .before .before .before .before .before .before .before .loop) .blocks)) ((c .before .before .before .before .before .before .before .before .before .before .before .before .before .before .before .before .before .before .before .before .before .before .before .before .before .before .before .before .before .before .before .before .before .before .before .before .before .before .loop) .inv .0) (let h = (end-inside (((c .before .before .before .before .before .before .before .before .before .before .before .before .before .before .before .before .before .before .before .before .before .before .before .before .before .before .before .before .before .before .before .before .before .before .before .before .before .before .before .before .before .before .before .before .before .before .before .before .before .before .args) .text) .now) ((c .before .before .before .before .before .before .before .before .before .before .before .before .before .before .before .before .before .before .before .before .before .before .before .before .before .before .before .before .before .before .before .before .before .before .before .before .before .before .loop) .at) ((c .before .before .before .before .before .before .before .before .before .before .before .before .before .before .before .before .before .before .before .before .before .before .before .before .before .before .before .before .before .before .before .before .before .before .before .before .before .before .before .before .last-end) .result) ((c .before .before .before .before .before .before .before .before .before .before .before .before .before .before .before .before .before .before .before .before .before .before .before .before .before .before .before .before .before .before .before .before .before .before .before .before .before .before .before .before .last-end) .ensures) ((c .before .before .before .before .before .before .before .before .before .before .before .before .before .before .before .before .before .before .before .before .before .before .before .before .before .before .before .before .before .before .before .before .before .before .before .before .before .loop-test) .taken)) in omega arith) (lineEnd (((c .before .before .before .before .before .before .before .before .before .before .before .before .before .before .before .before .before .before .before .before .before .before .before .before .before .before .before .before .before .before .before .before .before .before .before .before .before .before .before .before .before .before .before .before .before .before .before .before .before .before .args) .text) .now) ((c .before .before .before .before .before .before .before .before .before .before .before .before .before .before .before .before .before .before .before .before .before .before .before .before .before .before .before .before .before .before .before .before .before .before .before .before .before .before .loop) .at) ((c .before .before .before .before .before .before .before .before .before .before .before .before .before .before .before .before .before .before .before .before .before .before .before .before .before .before .before .before .before .before .before .before .before .before .before .before .before .before .before .before .last-end) .result) ((c .before .before .before .before .before .before .before .before .before .before .before .before .before .before .before .before .before .before .before .before .before .before .before .before .before .before .before .before .before .before .before .before .before .before .before .before .before .before .before .before .last-end) .ensures) ((c .before .before .before .before .before .before .before .before .before .before .before .before .before .before .before .before .before .before .before .before .before .before .before .before .before .before .before .before .before .before .before .before .before .before .before .before .before .loop-test) .taken)) refl (end-inside (((c .before .before .before .before .before .before .before .before .before .before .before .before .before .before .before .before .before .before .before .before .before .before .before .before .before .before .before .before .before .before .before .before .before .before .before .before .before .before .before .before .before .before .before .before .before .before .before .before .before .before .args) .text) .now) ((c .before .before .before .before .before .before .before .before .before .before .before .before .before .before .before .before .before .before .before .before .before .before .before .before .before .before .before .before .before .before .before .before .before .before .before .before .before .before .loop) .at) ((c .before .before .before .before .before .before .before .before .before .before .before .before .before .before .before .before .before .before .before .before .before .before .before .before .before .before .before .before .before .before .before .before .before .before .before .before .before .before .before .before .last-end) .result) ((c .before .before .before .before .before .before .before .before .before .before .before .before .before .before .before .before .before .before .before .before .before .before .before .before .before .before .before .before .before .before .before .before .before .before .before .before .before .before .before .before .last-end) .ensures) ((c .before .before .before .before .before .before .before .before .before .before .before .before .before .before .before .before .before .before .before .before .before .before .before .before .before .before .before .before .before .before .before .before .before .before .before .before .before .loop-test) .taken)) (store ((c .before .before .before .before .before .before .before .before .before .before .before .before .before .before .before .before .before .before .before .read-line) .last .1 .0) ((c .before .before .before .before .before .before .before .before .before .before .before .before .before .before .before .before .before .before .before .read-line) .last .1 .1 .0) ((c .before .before .before .before .before .before .before .before .before .before .before .before .before .before .before .before .before .before .before .read-line) .last .1 .1 .1 .0) ((c .before .before .before .before .before .before .before .before .before .before .before .before .before .before .before .before .before .before .before .read-line) .last .1 .1 .1 .1 .0) ((c .before .before .before .before .before .before .before .before .before .before .before .before .before .before .before .before .before .before .before .read-line) .last .1 .1 .1 .1 .1 .0) ((c .before .before .before .before .before .before .before .before .before .before .before .before .before .before .before .before .before .before .before .read-line) .last .1 .1 .1 .1 .1 .1 .0) ((c .before .before .before .before .before .before .before .before .before .before .before .before .before .before .before .before .before .before .before .read-line) .last .1 .1 .1 .1 .1 .1 .1 .0)) ((c .before .before .before .before .before .before .before .before .before .before .before .before .before .before .before .before .before .before .before .before .before .before .before .before .before .before .before .before .before .has-room) .ensures .0 (not-false ((c .before .before .before .before .before .before .before .before .before .before .before .before .before .before .before .before .before .before .before .before .before .before .before .before .before .before .before .before .before .has-room) .result) ((c .before .before .before .before .before .before .before .before .before .before .before .before .before .before .before .before .before .before .before .before .before .before .before .before .before .before .before .before .if2) .left))) (record { rows = ((c .before .before .before .before .before .before .before .before .before .before .before .before .before .before .before .before .before .before .rows)) .given; parts = ((c .before .before .before .before .before .before .before .before .before .before .before .before .before .before .before .before .parts)) .given; operands = ((c .before .before .before .before .before .before .before .before .before .before .before .before .before .before .operands)) .given; numbers = ((c .before .before .before .before .before .before .before .before .before .before .before .before .numbers)) .given; args = ((c .before .before .before .before .before .before .before .before .before .before .args2)) .given; instrs = ((c .before .before .before .before .before .before .before .before .instrs)) .given; blocks = ((c .before .before .before .before .before .before .blocks2)) .given }) ((c .before .before .before .before .before .before .before .before .before .before .before .before .before .before .before .before .before .before .before .read-line) .result .line) (line-as (((c .before .before .before .before .before .before .before .before .before .before .before .before .before .before .before .before .before .before .before .before .before .before .before .before .before .before .before .before .before .before .before .before .before .before .before .before .before .before .before .before .before .before .before .before .before .before .before .before .before .before .args) .text) .now) ((c .before .before .before .before .before .before .before .before .before .before .before .before .before .before .before .before .before .before .before .before .before .before .before .before .before .before .before .before .before .before .before .before .before .before .before .before .before .before .loop) .at) ((c .before .before .before .before .before .before .before .before .before .before .before .before .before .before .before .before .before .before .before .before .before .before .before .before .before .before .before .before .before .before .before .before .before .before .before .before .before .before .before .before .last-end) .result) ((c .before .before .before .before .before .before .before .before .before .before .before .before .before .before .before .before .before .before .before .before .before .before .before .before .before .before .before .before .before .before .before .before .before .before .before .before .before .before .before .before .last-end) .ensures) ((c .before .before .before .before .before .before .before .before .before .before .before .before .before .before .before .before .before .before .before .before .before .before .before .before .before .before .before .before .before .before .before .before .before .before .before .before .before .loop-test) .taken) ((c .before .before .before .before .before .before .before .before .before .before .before .before .before .before .before .before .before .before .before .before .before .before .before .before .before .before .before .before .before .before .before .before .before .before .before .before .before .before .loop) .u) (store ((c .before .before .before .before .before .before .before .before .before .before .before .before .before .before .before .before .before .before .before .before .before .before .before .before .before .before .before .before .before .before .before .before .before .before .before .before .before .before .loop) .rows) ((c .before .before .before .before .before .before .before .before .before .before .before .before .before .before .before .before .before .before .before .before .before .before .before .before .before .before .before .before .before .before .before .before .before .before .before .before .before .before .loop) .parts) ((c .before .before .before .before .before .before .before .before .before .before .before .before .before .before .before .before .before .before .before .before .before .before .before .before .before .before .before .before .before .before .before .before .before .before .before .before .before .before .loop) .operands) ((c .before .before .before .before .before .before .before .before .before .before .before .before .before .before .before .before .before .before .before .before .before .before .before .before .before .before .before .before .before .before .before .before .before .before .before .before .before .before .loop) .numbers) ((c .before .before .before .before .before .before .before .before .before .before .before .before .before .before .before .before .before .before .before .before .before .before .before .before .before .before .before .before .before .before .before .before .before .before .before .before .before .before .loop) .args) ((c .before .before .before .before .before .before .before .before .before .before .before .before .before .before .before .before .before .before .before .before .before .before .before .before .before .before .before .before .before .before .before .before .before .before .before .before .before .before .loop) .instrs) ((c .before .before .before .before .before .before .before .before .before .before .before .before .before .before .before .before .before .before .before .before .before .before .before .before .before .before .before .before .before .before .before .before .before .before .before .before .before .before .loop) .blocks)) (store ((c .before .before .before .before .before .before .before .before .before .before .before .before .before .before .before .before .before .before .before .read-line) .last .1 .0) ((c .before .before .before .before .before .before .before .before .before .before .before .before .before .before .before .before .before .before .before .read-line) .last .1 .1 .0) ((c .before .before .before .before .before .before .before .before .before .before .before .before .before .before .before .before .before .before .before .read-line) .last .1 .1 .1 .0) ((c .before .before .before .before .before .before .before .before .before .before .before .before .before .before .before .before .before .before .before .read-line) .last .1 .1 .1 .1 .0) ((c .before .before .before .before .before .before .before .before .before .before .before .before .before .before .before .before .before .before .before .read-line) .last .1 .1 .1 .1 .1 .0) ((c .before .before .before .before .before .before .before .before .before .before .before .before .before .before .before .before .before .before .before .read-line) .last .1 .1 .1 .1 .1 .1 .0) ((c .before .before .before .before .before .before .before .before .before .before .before .before .before .before .before .before .before .before .before .read-line) .last .1 .1 .1 .1 .1 .1 .1 .0)) ((c .before .before .before .before .before .before .before .before .before .before .before .before .before .before .before .before .before .before .before .read-line) .result .line) ((c .before .before .before .before .before .before .before .before .before .before .before .before .before .before .before .before .before .before .before .read-line) .ensures .0)) ((c .before .before .before .before .line-fault) .result) ((c .before .before .before .before .line-fault) .ensures) ((c .before .before .before .if3) .left) ((c .before .before .used-after) .result) ((c .before .before .used-after) .ensures) ((c .before .place-behind) .result) ((c .before .place-behind) .ensures)), record { rows = ((c .before .before .before .before .before .before .before .before .before .before .before .before .before .before .before .before .before .before .rows)) .given ∙ (c .before .before .before .before .before .before .before .before .before .before .before .before .before .before .before .before .before .before .before .before .before .before .before .before .before .before .before .before .before .before .before .before .before .before .before .before .before .before .loop) .inv .1 .rows; parts = ((c .before .before .before .before .before .before .before .before .before .before .before .before .before .before .before .before .parts)) .given ∙ (c .before .before .before .before .before .before .before .before .before .before .before .before .before .before .before .before .before .before .before .before .before .before .before .before .before .before .before .before .before .before .before .before .before .before .before .before .before .before .loop) .inv .1 .parts; operands = ((c .before .before .before .before .before .before .before .before .before .before .before .before .before .before .operands)) .given ∙ (c .before .before .before .before .before .before .before .before .before .before .before .before .before .before .before .before .before .before .before .before .before .before .before .before .before .before .before .before .before .before .before .before .before .before .before .before .before .before .loop) .inv .1 .operands; numbers = ((c .before .before .before .before .before .before .before .before .before .before .before .before .numbers)) .given ∙ (c .before .before .before .before .before .before .before .before .before .before .before .before .before .before .before .before .before .before .before .before .before .before .before .before .before .before .before .before .before .before .before .before .before .before .before .before .before .before .loop) .inv .1 .numbers; args = ((c .before .before .before .before .before .before .before .before .before .before .args2)) .given ∙ (c .before .before .before .before .before .before .before .before .before .before .before .before .before .before .before .before .before .before .before .before .before .before .before .before .before .before .before .before .before .before .before .before .before .before .before .before .before .before .loop) .inv .1 .args; instrs = ((c .before .before .before .before .before .before .before .before .instrs)) .given ∙ (c .before .before .before .before .before .before .before .before .before .before .before .before .before .before .before .before .before .before .before .before .before .before .before .before .before .before .before .before .before .before .before .before .before .before .before .before .before .before .loop) .inv .1 .instrs; blocks = ((c .before .before .before .before .before .before .blocks2)) .given ∙ (c .before .before .before .before .before .before .before .before .before .before .before .before .before .before .before .before .before .before .before .before .before .before .before .before .before .before .before .before .before .before .before .before .before .before .before .before .before .before .loop) .inv .1 .blocks }, omega arith)
-
-faulty-requires-3 : tie.Need-faulty-requires-3 Inv-loop μ-loop
-faulty-requires-3 c κs = search needs
-
-same-length-15 : tie.Need-same-length-15 Inv-loop μ-loop
-same-length-15 c = (c .before .before .before .loop) .inv .1 .rows
-
-same-length-16 : tie.Need-same-length-16 Inv-loop μ-loop
-same-length-16 c = (c .before .before .before .loop) .inv .1 .parts
-
-same-length-17 : tie.Need-same-length-17 Inv-loop μ-loop
-same-length-17 c = (c .before .before .before .loop) .inv .1 .operands
-
-same-length-18 : tie.Need-same-length-18 Inv-loop μ-loop
-same-length-18 c = (c .before .before .before .loop) .inv .1 .numbers
-
-same-length-19 : tie.Need-same-length-19 Inv-loop μ-loop
-same-length-19 c = (c .before .before .before .loop) .inv .1 .args
-
-same-length-20 : tie.Need-same-length-20 Inv-loop μ-loop
-same-length-20 c = (c .before .before .before .loop) .inv .1 .instrs
-
-same-length-21 : tie.Need-same-length-21 Inv-loop μ-loop
-same-length-21 c = (c .before .before .before .loop) .inv .1 .blocks
+    let t : After-read-line = search in
+    let l : After-line-fault = search in
+    let u : tie.After-used-after Inv-loop μ-loop = search in
+    let q : tie.After-place-behind Inv-loop μ-loop = search in
+    let z : l .line-fault .result ≡ 0 = search in
+    let e = next-line t (l .line-fault .result) (l .line-fault .ensures) z in
+    let b = end-before (text t) (loop-of t .loop .at) (last-one t .last-end .result) (last-one t .last-end .ensures) (inside t) in
+    (goes-on t (l .line-fault .result) (l .line-fault .ensures) z (u .used-after .result) (u .used-after .ensures) (q .place-behind .result) (q .place-behind .ensures), size-of t, count-of t, omega arith)
 
 returns-4 : tie.Need-returns-4 Inv-loop μ-loop
-returns-4 c = fits (ap (λ (x : Read). x .fits) ((c .faulty3) .ensures)) (at-unended (((c .before .before .before .before .before .before .before .before .before .before .before .before .before .before .before .args) .text) .now) ((c .before .before .before .loop) .at) ((c .before .before .before .loop) .line) ((c .before .before .before .loop) .place) ((c .before .before .before .loop) .u) (store ((c .before .before .before .loop) .rows) ((c .before .before .before .loop) .parts) ((c .before .before .before .loop) .operands) ((c .before .before .before .loop) .numbers) ((c .before .before .before .loop) .args) ((c .before .before .before .loop) .instrs) ((c .before .before .before .loop) .blocks)) ((c .before .before .before .loop) .inv .0) ((c .before .if4) .taken) ((c .before .before .before .loop) .at + length (firstPart 10 (drop ((c .before .before .before .loop) .at) (((c .before .before .before .before .before .before .before .before .before .before .before .before .before .before .before .args) .text) .now)))) refl (open-end (((c .before .before .before .before .before .before .before .before .before .before .before .before .before .before .before .args) .text) .now) ((c .before .before .before .loop) .at) ((c .before .before .before .before .before .last-end) .result) ((c .before .before .before .before .before .last-end) .ensures) ((c .before .before .before .loop) .inv .2) ((c .before .before .loop-test) .left)) ((c .faulty3) .result) ((c .faulty3) .ensures))
-
-end-of-text-requires : tie.Need-end-of-text-requires Inv-loop μ-loop
-end-of-text-requires c κs = search needs
-
-same-length-22 : tie.Need-same-length-22 Inv-loop μ-loop
-same-length-22 c = (c .before .before .before .loop) .inv .1 .rows
-
-same-length-23 : tie.Need-same-length-23 Inv-loop μ-loop
-same-length-23 c = (c .before .before .before .loop) .inv .1 .parts
-
-same-length-24 : tie.Need-same-length-24 Inv-loop μ-loop
-same-length-24 c = (c .before .before .before .loop) .inv .1 .operands
-
-same-length-25 : tie.Need-same-length-25 Inv-loop μ-loop
-same-length-25 c = (c .before .before .before .loop) .inv .1 .numbers
-
-same-length-26 : tie.Need-same-length-26 Inv-loop μ-loop
-same-length-26 c = (c .before .before .before .loop) .inv .1 .args
-
-same-length-27 : tie.Need-same-length-27 Inv-loop μ-loop
-same-length-27 c = (c .before .before .before .loop) .inv .1 .instrs
-
-same-length-28 : tie.Need-same-length-28 Inv-loop μ-loop
-same-length-28 c = (c .before .before .before .loop) .inv .1 .blocks
+returns-4 c =
+    let g : At-loop = search in
+    let f : tie.After-faulty3 Inv-loop μ-loop = search in
+    let s = start-of g in
+    let text = s .args .text .now in
+    fits (ap (λ (x : Read). x .fits) (f .faulty3 .ensures)) (subst (λ (σ : Store). ReadIs text σ (f .faulty3 .result)) (same-of g) (at-unended text (g .loop .at) (g .loop .line) (g .loop .place) (g .loop .u) (storeIn (places-of g .lay-out .result) (g .loop .image) (g .loop .numbers)) (g .loop .inv .0) (search) (g .loop .at + length (firstPart 10 (drop (g .loop .at) text))) refl (open-end text (g .loop .at) (end-of g .last-end .result) (end-of g .last-end .ensures) (g .loop .inv .3) (search)) (f .faulty3 .result) (f .faulty3 .ensures)))
 
 returns-5 : tie.Need-returns-5 Inv-loop μ-loop
-returns-5 c = fits (last-fits ((c .before .before .before .loop) .place) ((c .before .before .before .loop) .line) ((c .before .before .before .loop) .u) ((c .end-of-text) .result) ((c .end-of-text) .ensures)) (at-end (((c .before .before .before .before .before .before .before .before .before .before .before .before .before .before .before .args) .text) .now) ((c .before .before .before .loop) .at) ((c .before .before .before .loop) .line) ((c .before .before .before .loop) .place) ((c .before .before .before .loop) .u) (store ((c .before .before .before .loop) .rows) ((c .before .before .before .loop) .parts) ((c .before .before .before .loop) .operands) ((c .before .before .before .loop) .numbers) ((c .before .before .before .loop) .args) ((c .before .before .before .loop) .instrs) ((c .before .before .before .loop) .blocks)) ((c .before .before .before .loop) .inv .0) ((c .before .if4) .left) ((c .end-of-text) .result) ((c .end-of-text) .ensures))
+returns-5 c =
+    let g : At-loop = search in
+    let f : tie.After-end-of-text Inv-loop μ-loop = search in
+    let s = start-of g in
+    let text = s .args .text .now in
+    fits (last-fits (g .loop .place) (g .loop .line) (g .loop .u) (f .end-of-text .result) (f .end-of-text .ensures)) (subst (λ (σ : Store). ReadIs text σ (f .end-of-text .result)) (same-of g) (at-end text (g .loop .at) (g .loop .line) (g .loop .place) (g .loop .u) (storeIn (places-of g .lay-out .result) (g .loop .image) (g .loop .numbers)) (g .loop .inv .0) (search) (f .end-of-text .result) (f .end-of-text .ensures)))
 
 pub read-text-spec : {M : Type 1} → statement M
 read-text-spec =
@@ -204,57 +247,38 @@ read-text-spec =
     (tie.spec
     Inv-loop
     μ-loop
-    faulty-requires
+    (λ c κs. search needs)
     returns
-    last-end-requires
-    unused-requires
+    (λ c κs. search needs)
+    (λ c κs. search needs)
+    (λ c κs. search needs)
     loop-holds
     has-room-requires
-    unfit-requires
-    same-length
-    same-length-2
-    same-length-3
-    same-length-4
-    same-length-5
-    same-length-6
-    same-length-7
+    (λ c κs. search needs)
+    (λ c. let g : At-loop = search in g .loop .inv .1)
+    (λ c. let g : At-loop = search in g .loop .inv .2)
     returns-2
-    sub-s
-    part-s-start
-    part-s-end
+    sub-read-line
+    part-read-line-start
+    (λ c. search needs)
     read-line-requires
-    line-fault-requires
-    faulty-requires-2
-    same-length-8
-    same-length-9
-    same-length-10
-    same-length-11
-    same-length-12
-    same-length-13
-    same-length-14
+    (λ c κs. search needs)
+    (λ c κs. search needs)
+    (λ c. let t : After-read-line = search in size-of t)
+    (λ c. let t : After-read-line = search in count-of t)
     returns-3
     used-after-requires
-    place-behind-requires
+    (λ c κs. search needs)
     add-at
     add-at-2
     add-line
     loop-less
     loop-again
-    faulty-requires-3
-    same-length-15
-    same-length-16
-    same-length-17
-    same-length-18
-    same-length-19
-    same-length-20
-    same-length-21
+    (λ c κs. search needs)
+    (λ c. let g : At-loop = search in g .loop .inv .1)
+    (λ c. let g : At-loop = search in g .loop .inv .2)
     returns-4
-    end-of-text-requires
-    same-length-22
-    same-length-23
-    same-length-24
-    same-length-25
-    same-length-26
-    same-length-27
-    same-length-28
+    (λ c κs. search needs)
+    (λ c. let g : At-loop = search in g .loop .inv .1)
+    (λ c. let g : At-loop = search in g .loop .inv .2)
     returns-5)

@@ -9,6 +9,9 @@ use lib.Dec.{eqb, ltb}
 use lib.ListN.{length, take, drop, length-drop}
 use lib.Seq.{sets, take-all, drop-drop}
 use borrow.Author.Tests.{ltb-true, ltb-false, lt-ltb, le-ltb, le-leb, lt-leb, eq-eqb, ne-eqb}
+use borrow.Rule.Slice.PartMut.{putMid}
+use Rattle.image.specs.declared.Places.{Places}
+use Rattle.image.specs.Sections.{Ordered, Outside, rowSection, blockSection, instrSection}
 use Rattle.text.specs.Bytes.{fieldsOf}
 use Rattle.tables.specs.Tables.{OperandTable}
 use Rattle.text_lines.specs.Parts.{lineIn, StopAt}
@@ -16,6 +19,7 @@ use Rattle.text_lines.proofs.InLine.{line-from, stop-from}
 use Rattle.text_decode.specs.line.Fields.{fieldsFrom}
 use Rattle.text_decode.specs.line.Answers.{AtEnd, FormIs}
 use Rattle.text_decode.specs.declared.line.Said.{Said}
+use Rattle.text_decode.proofs.line.ImageLaws.{RowsBack, rows-back, BlocksBack, blocks-back, InstrsBack, instrs-back}
 use Rattle.text_decode.specs.store.Store.{Store}
 use Rattle.text_decode.specs.store.Lines.{lineOf, noLine, LineIs, LineEnds, Stored}
 use Rattle.text_decode.specs.declared.store.Used.{Used}
@@ -62,6 +66,33 @@ module _ (code : ℕ) (s : Said) (u : Used) (rows instrs blocks : List ℕ) wher
 
     pub stored-last : 32 ≤ code → Stored code s u rows instrs blocks rows instrs′ blocks (Last (s .count))
     stored-last k = stored-instr (Last (s .count)) (simp (le-ltb code 10 h, ne-eqb code 10 q, le-ltb code 32 k))
+
+-- ---- the same in an image: the section of the line's kind was lent, and came back as y
+module _ (p : Places) (l : List ℕ) (o : Ordered p (length l)) (code : ℕ) (s : Said) (u : Used) (y : List ℕ) where
+  abbrev pub PutIn : List ℕ → Line → Type 0
+  PutIn l′ r =
+      Stored code s u (rowSection p l) (instrSection p l) (blockSection p l) (rowSection p l′) (instrSection p l′) (blockSection p l′) r × Outside (p .rows) (p .parts) l l′
+
+  pub row-in : code < 10 → length y ≡ length (rowSection p l) → y ≡ sets (rowSection p l) (4 * u .rows) (code ∷ s .a ∷ s .b ∷ []) → PutIn (putMid (p .rows) (p .blocks - p .rows) l y) Row
+  row-in h n e =
+      let b = rows-back p l o y n in
+      (rw (b .rows, b .instrs, b .blocks) (stored-row code s u (rowSection p l) (instrSection p l) (blockSection p l) h y e), b .outside)
+
+  pub block-in : code ≡ 10 → length y ≡ length (blockSection p l) → y ≡ sets (blockSection p l) (2 * u .blocks) (s .a ∷ u .instrs ∷ []) → PutIn (putMid (p .blocks) (p .instrs - p .blocks) l y) Block
+  block-in h n e =
+      let b = blocks-back p l o y n in
+      (rw (b .rows, b .instrs, b .blocks) (stored-block code s u (rowSection p l) (instrSection p l) (blockSection p l) h y e), b .outside)
+
+  module _ (h : 10 ≤ code) (q : code ≡ 10 → ⊥) (n : length y ≡ length (instrSection p l)) (e : y ≡ sets (instrSection p l) (8 * u .instrs) ((code - 11) ∷ s .a ∷ s .b ∷ s .c ∷ s .d ∷ u .operands ∷ s .count ∷ [])) where
+    pub inside-in : code < 32 → PutIn (putMid (p .instrs) (p .parts - p .instrs) l y) (Instruction (s .count))
+    inside-in k =
+        let b = instrs-back p l o y n in
+        (rw (b .rows, b .instrs, b .blocks) (stored-inside code s u (rowSection p l) (instrSection p l) (blockSection p l) h q y e k), b .outside)
+
+    pub last-in : 32 ≤ code → PutIn (putMid (p .instrs) (p .parts - p .instrs) l y) (Last (s .count))
+    last-in k =
+        let b = instrs-back p l o y n in
+        (rw (b .rows, b .instrs, b .blocks) (stored-last code s u (rowSection p l) (instrSection p l) (blockSection p l) h q y e k), b .outside)
 
 -- ---- the rest of a line, as a part that starts in its middle
 pub part-from : (l : List ℕ) (a : ℕ) → take (length l - a) (drop a l) ≡ drop a l

@@ -10,6 +10,8 @@ use Rattle.syntax.specs.Partial.{when}
 use Rattle.syntax.specs.Syntax.{Operand, Entry}
 use Rattle.text.specs.Grammar.{forms, operand}
 use Rattle.tables.specs.Tables.{span, OperandTable, operandsAt}
+use Rattle.image.specs.declared.Places.{Places}
+use Rattle.image.specs.Sections.{operandSection, argSection}
 use Rattle.text_lines.specs.Parts.{lineIn, StopAt}
 use Rattle.text_fields.specs.names.Names.{formAt}
 use Rattle.text_fields.specs.declared.plain_operands.OperandRead.{OperandRead}
@@ -61,6 +63,10 @@ pub record SameOperands (m : ℕ) (ω ρ : OperandTable) : Type 0 where
 -- the three lists as a table of operands
 abbrev pub operandTable : List ℕ → List ℕ → List ℕ → OperandTable
 operandTable operands numbers args = record { operands = operands; numbers = numbers; args = args }
+
+-- the same, from an image
+abbrev pub operandsIn : Places → List ℕ → List ℕ → OperandTable
+operandsIn p image numbers = operandTable (operandSection p image) numbers (argSection p image)
 
 -- operand v, stored
 abbrev pub withOperand : List ℕ → ℕ → OperandRead → List ℕ

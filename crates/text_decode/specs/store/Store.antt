@@ -4,6 +4,9 @@ use mathlib.Core.Path.{_≡_}
 use mathlib.Core.List.{List}
 use lib.ListN.{length, take}
 use Rattle.tables.specs.Tables.{RowTable, OperandTable}
+use Rattle.image.specs.declared.Places.{Places}
+use Rattle.image.specs.Sections.{rowSection, blockSection, instrSection, partSection, operandSection, argSection}
+use Rattle.image.specs.Layout.{placesOf}
 use Rattle.text_decode.specs.line.Answers.{OperandRoom, SameOperands}
 use Rattle.text_decode.specs.declared.store.Used.{Used}
 
@@ -29,6 +32,15 @@ rowTable σ = record { rows = σ .rows; parts = σ .parts }
 -- its operands, their numbers and their arguments
 abbrev pub operandsOf : Store → OperandTable
 operandsOf σ = record { operands = σ .operands; numbers = σ .numbers; args = σ .args }
+
+-- the tables in an image whose sections stand at these places
+abbrev pub storeIn : Places → List ℕ → List ℕ → Store
+storeIn p image numbers =
+    store (rowSection p image) (partSection p image) (operandSection p image) numbers (argSection p image) (instrSection p image) (blockSection p image)
+
+-- the same, at the places that its length gives
+abbrev pub stored : List ℕ → List ℕ → Store
+stored image numbers = storeIn (placesOf (length image)) image numbers
 
 -- Room for one line more behind what is in use. Row r's parts stand from 17 r on, and an instruction has at most 16 operands.
 pub record RoomFor (u : Used) (σ : Store) : Type 0 where

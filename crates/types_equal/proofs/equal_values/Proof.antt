@@ -7,40 +7,38 @@ use Rattle.types_equal.proofs.Plain.{link-few, tabled-plain, spare-plai
 use borrow.Author.Needs.{needs}
 use Rattle.types_equal.proofs.equal_values.Statement.{statement}
 use Rattle.types_equal.proofs.equal_values.Tie as tie
-use Rattle.types_equal.proofs.equal_values.Reads as reads
-use Rattle.types_equal.proofs.equal_values.Lts as lts
-use Rattle.types_equal.proofs.eq_value.Reads as eq-value-reads
-use Rattle.types_equal.proofs.link_of.Reads as link-of-reads
 
 link-of-requires : tie.Need-link-of-requires
-link-of-requires c κs = (c .before .before .pre)
+link-of-requires c κs = search
 
 link-of-requires-2 : tie.Need-link-of-requires-2
-link-of-requires-2 c κs = (c .before .before .before .pre)
+link-of-requires-2 c κs = search
 
 slice-aggregate-eq-value : tie.Need-slice-aggregate-eq-value
-slice-aggregate-eq-value c = search needs
+slice-aggregate-eq-value c = search
 
 slice-aggregate-eq-value-2 : tie.Need-slice-aggregate-eq-value-2
-slice-aggregate-eq-value-2 c = search needs
+slice-aggregate-eq-value-2 c = search
 
 eq-value-requires : tie.Need-eq-value-requires
 eq-value-requires c κs =
-    let fw = (c .before .before .before .before .before .before .pre) in
-    let a = link-few (tab ((c .before .before .before .before .before .before .args) .rows .now) ((c .before .before .before .before .before .before .args) .parts .now)) ((c .before .before .before .before .before .before .args) .rows .now) ((c .before .before .before .before .before .before .args) .n) ((c .before .before .before .link-of) .result) ((c .before .before .before .before .before .before .args) .l) ((c .before .before .before .link-of) .ensures) in
-    let b = link-few (tab ((c .before .before .before .before .before .before .args) .rows .now) ((c .before .before .before .before .before .before .args) .parts .now)) ((c .before .before .before .before .before .before .args) .rows .now) ((c .before .before .before .before .before .before .args) .n) ((c .before .before .link-of2) .result) ((c .before .before .before .before .before .before .args) .r) ((c .before .before .link-of2) .ensures) in
-    (tabled-plain (tab ((c .before .before .before .before .before .before .args) .rows .now) ((c .before .before .before .before .before .before .args) .parts .now)) ((c .before .before .before .before .before .before .args) .rows .now) ((c .before .before .before .before .before .before .args) .n) ((c .before .before .before .link-of) .result) ((c .before .before .link-of2) .result) ((c .before .before .before .before .before .before .args) .l) ((c .before .before .before .before .before .before .args) .r) fw ((c .before .before .before .link-of) .ensures) ((c .before .before .link-of2) .ensures), omega arith, omega arith, spare-plain (tab ((c .before .before .before .before .before .before .args) .rows .now) ((c .before .before .before .before .before .before .args) .parts .now)) ((c .before .before .before .before .before .before .args) .rows .now) ((c .before .before .before .before .before .before .args) .n) ((c .before .before .before .link-of) .result) ((c .before .before .link-of2) .result) ((c .before .before .before .before .before .before .args) .l) ((c .before .before .before .before .before .before .args) .r) fw ((c .before .before .before .link-of) .ensures) ((c .before .before .link-of2) .ensures))
+    let s : tie.Start = search in
+    let link2 : tie.After-link-of = search in
+    let link3 : tie.After-link-of2 = search in
+    let fw = (s .pre) in
+    let a = link-few (tab ((s .args) .rows .now) ((s .args) .parts .now)) ((s .args) .rows .now) ((s .args) .n) ((link2 .link-of) .result) ((s .args) .l) ((link2 .link-of) .ensures) in
+    let b = link-few (tab ((s .args) .rows .now) ((s .args) .parts .now)) ((s .args) .rows .now) ((s .args) .n) ((link3 .link-of2) .result) ((s .args) .r) ((link3 .link-of2) .ensures) in
+    (tabled-plain (tab ((s .args) .rows .now) ((s .args) .parts .now)) ((s .args) .rows .now) ((s .args) .n) ((link2 .link-of) .result) ((link3 .link-of2) .result) ((s .args) .l) ((s .args) .r) fw ((link2 .link-of) .ensures) ((link3 .link-of2) .ensures), omega arith, omega arith, spare-plain (tab ((s .args) .rows .now) ((s .args) .parts .now)) ((s .args) .rows .now) ((s .args) .n) ((link2 .link-of) .result) ((link3 .link-of2) .result) ((s .args) .l) ((s .args) .r) fw ((link2 .link-of) .ensures) ((link3 .link-of2) .ensures))
 
 returns : tie.Need-returns
-returns c = values-are (tab ((c .before .before .before .before .before .before .before .before .before .args) .rows .now) ((c .before .before .before .before .before .before .before .before .before .args) .parts .now)) ((c .before .before .before .before .before .before .before .before .before .args) .rows .now) ((c .before .before .before .before .before .before .before .before .before .args) .n) ((c .before .before .before .before .before .before .link-of) .result) ((c .before .before .before .before .before .link-of2) .result) ((c .before .before .before .before .before .before .before .before .before .args) .l) ((c .before .before .before .before .before .before .before .before .before .args) .r) ((c .before .before .before .before .before .before .link-of) .ensures) ((c .before .before .before .before .before .link-of2) .ensures) ((c .before .before .eq-value) .ensures)
+returns c =
+    let s : tie.Start = search in
+    let link2 : tie.After-link-of = search in
+    let link3 : tie.After-link-of2 = search in
+    let eqva : tie.After-eq-value = search in
+    values-are (tab _ _) _ _ _ _ _ _ ((link2 .link-of) .ensures) ((link3 .link-of2) .ensures) ((eqva .eq-value) .ensures)
 
 pub equal-values-spec : {M : Type 1} → statement M
 equal-values-spec =
     tie.close
-    (tie.spec
-    link-of-requires
-    link-of-requires-2
-    slice-aggregate-eq-value
-    slice-aggregate-eq-value-2
-    eq-value-requires
-    returns)
+    (tie.spec link-of-requires link-of-requires-2 slice-aggregate-eq-value slice-aggregate-eq-value-2 eq-value-requires returns)

@@ -4,17 +4,15 @@ use Rattle.types_rows.proofs.Laws.{link-in, link-out}
 use borrow.Author.Needs.{needs}
 use Rattle.types_equal.proofs.link_of.Statement.{statement}
 use Rattle.types_equal.proofs.link_of.Tie as tie
-use Rattle.types_equal.proofs.link_of.Reads as reads
-use Rattle.types_equal.proofs.link_of.Lts as lts
 
 add-result : tie.Need-add-result
 add-result c = search needs
 
 returns : tie.Need-returns
-returns c = link-in ((c .before .args) .n + 1) ((c .before .args) .x) (let h = (c .if1) .taken in omega arith)
+returns c = link-in ((c .before .args) .n + 1) _ (let h = (c .if1) .taken in omega arith)
 
 returns-2 : tie.Need-returns-2
-returns-2 c = link-out ((c .before .args) .n + 1) ((c .before .args) .x) (let h = (c .if1) .left in omega arith)
+returns-2 c = link-out ((c .before .args) .n + 1) _ (let h = (c .if1) .left in omega arith)
 
 pub link-of-spec : {M : Type 1} → statement M
 link-of-spec = tie.close (tie.spec add-result returns returns-2)

@@ -1,10 +1,15 @@
 -- What counting the items of rows promises.
-use Prim.Native.Nat.{ℕ, _<_}
+use Prim.Native.Nat.{ℕ, _<_, _≤_}
 use mathlib.Core.Path.{_≡_}
 use mathlib.Core.List.{List}
 use lib.ListN.{length}
-use Rattle.tables.specs.Tables.{cell, rowsIn}
+use Rattle.types.specs.Rows.{sizeOf, sizesOf}
+use Rattle.tables.specs.Tables.{cell, rowAt, rowsIn}
 use Rattle.types_rows.specs.Read.{tab, Counted}
+
+-- the first n rows are within pass two's limit of size
+abbrev pub SizesFit : List ℕ → List ℕ → ℕ → Type 0
+SizesFit rows parts n = (x : ℕ) → x < n → sizeOf (sizesOf (rowsIn (tab rows parts) x)) (rowAt (tab rows parts) x) ≤ 4096
 
 -- the first n rows are counted, and all rows are as before
 pub record CountsFilled (before after parts : List ℕ) (n : ℕ) : Type 0 where

@@ -1,79 +1,72 @@
 use native.Mathlib.Omega.{arith}
-use mathlib.Core.List.{map}
-use Rattle.tables.specs.Tables.{span, letterOf}
 use Rattle.valid_context.specs.Context.{spOf, contextOf}
-use Rattle.valid_typing.specs.Typing.{typesIn}
 use Rattle.valid_judge.proofs.Laws.{plain}
-use borrow.Author.Needs.{needs}
+use Rattle.image.specs.Sections.{instrSection}
+use Rattle.valid_typing.specs.Image.{typesAt, lettersIn}
 use Rattle.valid_judge.proofs.plain_form.Statement.{statement}
 use Rattle.valid_judge.proofs.plain_form.Tie as tie
-use Rattle.valid_judge.proofs.plain_form.Reads as reads
-use Rattle.valid_judge.proofs.plain_form.Lts as lts
-use Rattle.valid_judge.proofs.plain_forms.heap_form.Reads as heap-form-reads
-use Rattle.valid_judge.proofs.plain_forms.item_form.Reads as item-form-reads
-use Rattle.valid_judge.proofs.plain_forms.sp_form.Reads as sp-form-reads
 
 heap-form-requires : tie.Need-heap-form-requires
-heap-form-requires c κs = ((c .before .before .before .before .before .before .before .before .before .before .pre) .0, (c .before .before .before .before .before .before .before .before .before .before .pre) .1, (c .before .before .before .before .before .before .before .before .before .before .pre) .3, (c .before .before .before .before .before .before .before .before .before .before .pre) .7, λ x. absurd (omega (arith, x, (c .before .if1) .taken, (c .before .before .before .before .before .before .before .before .before .before .pre) .9)), (c .before .before .before .before .before .before .before .before .before .before .pre) .8)
-
-same-length : tie.Need-same-length
-same-length c = search needs
+heap-form-requires c κs =
+    let s : tie.Start = search in
+    let i1 : tie.Then1 = search in
+    (s .pre .0, s .pre .1, s .pre .2, s .pre .4, s .pre .8, λ x. absurd (omega (arith, x, i1 .if1 .taken, s .pre .10)), s .pre .9)
 
 returns : tie.Need-returns
-returns c = (λ P ω e. plain P (map letterOf (span ((c .before .before .before .before .before .before .before .before .before .before .before .before .before .args) .parts .now) ((c .before .before .before .before .before .before .before .before .before .before .before .before .before .args) .l) ((c .before .before .before .before .before .before .before .before .before .before .before .before .before .args) .q))) ω ((c .before .before .before .before .before .before .before .before .before .before .before .before .before .args) .instrs .now) ((c .before .before .before .before .before .before .before .before .before .before .before .before .before .args) .j) ((c .before .before .before .before .before .before .before .before .before .before .before .before .before .args) .k) ((c .before .before .heap-form) .result) (contextOf (typesIn ((c .before .before .before .before .before .before .before .before .before .before .before .before .before .args) .rows .now) ((c .before .before .before .before .before .before .before .before .before .before .before .before .before .args) .parts .now) ((c .before .before .before .before .before .before .before .before .before .before .before .before .before .args) .n)) ((c .before .before .before .before .before .before .before .before .before .before .before .before .before .args) .regs .now) ((c .before .before .before .before .before .before .before .before .before .before .before .before .before .args) .sp .now) ((c .before .before .before .before .before .before .before .before .before .before .before .before .before .args) .m)) _ ((c .before .before .before .before .before .before .before .before .before .before .before .before .before .pre) .7) (λ x. omega (arith, (c .before .before .before .before .before .before .before .before .before .before .before .before .before .pre) .8)) ((c .before .before .before .before .before .before .before .before .before .before .before .before .before .pre) .10) ((c .before .before .heap-form) .ensures ω P (spOf (typesIn ((c .before .before .before .before .before .before .before .before .before .before .before .before .before .args) .rows .now) ((c .before .before .before .before .before .before .before .before .before .before .before .before .before .args) .parts .now) ((c .before .before .before .before .before .before .before .before .before .before .before .before .before .args) .n)) ((c .before .before .before .before .before .before .before .before .before .before .before .before .before .args) .sp .now) ((c .before .before .before .before .before .before .before .before .before .before .before .before .before .args) .m)) e), (c .before .before .before .before .before .before .before .before .before .before .before .before .before .pre) .6)
+returns c =
+    let s : tie.Start = search in
+    let a = s .args in
+    let l = a .image .now in
+    let t-heap-form : tie.After-heap-form = search in
+    (λ P ω e. plain P (lettersIn (a .p) l (a .w)) ω (instrSection (a .p) l) (a .x .at) (a .x .code) (t-heap-form .heap-form .result) (contextOf (typesAt (a .p) l (a .n)) (a .regs .now) (a .sp .now) (a .m)) _ (s .pre .8) (λ x. omega (arith, s .pre .9)) (s .pre .11) (t-heap-form .heap-form .ensures ω P (spOf (typesAt (a .p) l (a .n)) (a .sp .now) (a .m)) e), s .pre .7)
 
 sp-form-requires : tie.Need-sp-form-requires
-sp-form-requires c κs = ((c .before .before .before .before .before .before .before .before .before .before .before .before .pre) .0, (c .before .before .before .before .before .before .before .before .before .before .before .before .pre) .1, (c .before .before .before .before .before .before .before .before .before .before .before .before .pre) .3, (c .before .before .before .before .before .before .before .before .before .before .before .before .pre) .4, (c .before .before .before .before .before .before .before .before .before .before .before .before .pre) .6, (c .before .before .before .before .before .before .before .before .before .before .before .before .pre) .7, omega (arith, (c .before .before .before .if1) .left), omega (arith, (c .before .before .if2) .taken))
-
-same-length-2 : tie.Need-same-length-2
-same-length-2 c = search needs
-
-same-length-3 : tie.Need-same-length-3
-same-length-3 c = search needs
+sp-form-requires c κs =
+    let s : tie.Start = search in
+    let i1 : tie.Else1 = search in
+    let i2 : tie.Then2 = search in
+    (s .pre .0, s .pre .1, s .pre .2, s .pre .4, s .pre .5, s .pre .7, s .pre .8, omega (arith, i1 .if1 .left), omega (arith, i2 .if2 .taken))
 
 returns-2 : tie.Need-returns-2
-returns-2 c = (λ P ω e. plain P (map letterOf (span ((c .before .before .before .before .before .before .before .before .before .before .before .before .before .before .before .before .before .args) .parts .now) ((c .before .before .before .before .before .before .before .before .before .before .before .before .before .before .before .before .before .args) .l) ((c .before .before .before .before .before .before .before .before .before .before .before .before .before .before .before .before .before .args) .q))) ω ((c .before .before .before .before .before .before .before .before .before .before .before .before .before .before .before .before .before .args) .instrs .now) ((c .before .before .before .before .before .before .before .before .before .before .before .before .before .before .before .before .before .args) .j) ((c .before .before .before .before .before .before .before .before .before .before .before .before .before .before .before .before .before .args) .k) ((c .before .before .before .before .sp-form) .result .fault) (contextOf (typesIn ((c .before .before .before .before .before .before .before .before .before .before .before .before .before .before .before .before .before .args) .rows .now) ((c .before .before .before .before .before .before .before .before .before .before .before .before .before .before .before .before .before .args) .parts .now) ((c .before .before .before .before .before .before .before .before .before .before .before .before .before .before .before .before .before .args) .n)) ((c .before .before .before .before .before .before .before .before .before .before .before .before .before .before .before .before .before .args) .regs .now) ((c .before .before .before .before .before .before .before .before .before .before .before .before .before .before .before .before .before .args) .sp .now) ((c .before .before .before .before .before .before .before .before .before .before .before .before .before .before .before .before .before .args) .m)) _ ((c .before .before .before .before .before .before .before .before .before .before .before .before .before .before .before .before .before .pre) .7) (λ x. omega (arith, (c .before .before .before .before .before .before .before .before .before .before .before .before .before .before .before .before .before .pre) .8)) ((c .before .before .before .before .before .before .before .before .before .before .before .before .before .before .before .before .before .pre) .10) ((c .before .before .before .before .sp-form) .ensures .0 ω P e), (c .before .before .before .before .sp-form) .ensures .1)
+returns-2 c =
+    let s : tie.Start = search in
+    let a = s .args in
+    let l = a .image .now in
+    let t-sp-form : tie.After-sp-form = search in
+    (λ P ω e. plain P (lettersIn (a .p) l (a .w)) ω (instrSection (a .p) l) (a .x .at) (a .x .code) (t-sp-form .sp-form .result .fault) (contextOf (typesAt (a .p) l (a .n)) (a .regs .now) (a .sp .now) (a .m)) _ (s .pre .8) (λ x. omega (arith, s .pre .9)) (s .pre .11) (t-sp-form .sp-form .ensures .0 ω P e), t-sp-form .sp-form .ensures .1)
 
 item-form-requires : tie.Need-item-form-requires
-item-form-requires c κs = ((c .before .before .before .before .before .before .before .before .before .before .before .before .before .before .pre) .0, (c .before .before .before .before .before .before .before .before .before .before .before .before .before .before .pre) .1, (c .before .before .before .before .before .before .before .before .before .before .before .before .before .before .pre) .2, (c .before .before .before .before .before .before .before .before .before .before .before .before .before .before .pre) .3, omega (arith, (c .before .before .before .before .before .before .before .before .before .before .before .before .before .before .pre) .4, (c .before .before .before .before .before .before .before .before .before .before .before .before .before .before .pre) .6), (c .before .before .before .before .before .before .before .before .before .before .before .before .before .before .pre) .5, (c .before .before .before .before .before .before .before .before .before .before .before .before .before .before .pre) .7, omega (arith, (c .before .before .before .before .if2) .left), omega (arith, (c .before .before .before .if3) .taken))
-
-same-length-4 : tie.Need-same-length-4
-same-length-4 c = search needs
-
-same-length-5 : tie.Need-same-length-5
-same-length-5 c = search needs
-
-same-length-6 : tie.Need-same-length-6
-same-length-6 c = search needs
+item-form-requires c κs =
+    let s : tie.Start = search in
+    let i2 : tie.Else2 = search in
+    let i3 : tie.Then3 = search in
+    (s .pre .0, s .pre .1, s .pre .2, s .pre .3, s .pre .4, omega (arith, s .pre .5, s .pre .7), s .pre .6, s .pre .8, omega (arith, i2 .if2 .left), omega (arith, i3 .if3 .taken))
 
 returns-3 : tie.Need-returns-3
-returns-3 c = (λ P ω e. plain P (map letterOf (span ((c .before .before .before .before .before .before .before .before .before .before .before .before .before .before .before .before .before .before .before .before .before .args) .parts .now) ((c .before .before .before .before .before .before .before .before .before .before .before .before .before .before .before .before .before .before .before .before .before .args) .l) ((c .before .before .before .before .before .before .before .before .before .before .before .before .before .before .before .before .before .before .before .before .before .args) .q))) ω ((c .before .before .before .before .before .before .before .before .before .before .before .before .before .before .before .before .before .before .before .before .before .args) .instrs .now) ((c .before .before .before .before .before .before .before .before .before .before .before .before .before .before .before .before .before .before .before .before .before .args) .j) ((c .before .before .before .before .before .before .before .before .before .before .before .before .before .before .before .before .before .before .before .before .before .args) .k) ((c .before .before .before .before .before .before .item-form) .result) (contextOf (typesIn ((c .before .before .before .before .before .before .before .before .before .before .before .before .before .before .before .before .before .before .before .before .before .args) .rows .now) ((c .before .before .before .before .before .before .before .before .before .before .before .before .before .before .before .before .before .before .before .before .before .args) .parts .now) ((c .before .before .before .before .before .before .before .before .before .before .before .before .before .before .before .before .before .before .before .before .before .args) .n)) ((c .before .before .before .before .before .before .before .before .before .before .before .before .before .before .before .before .before .before .before .before .before .args) .regs .now) ((c .before .before .before .before .before .before .before .before .before .before .before .before .before .before .before .before .before .before .before .before .before .args) .sp .now) ((c .before .before .before .before .before .before .before .before .before .before .before .before .before .before .before .before .before .before .before .before .before .args) .m)) _ ((c .before .before .before .before .before .before .before .before .before .before .before .before .before .before .before .before .before .before .before .before .before .pre) .7) (λ x. omega (arith, (c .before .before .before .before .before .before .before .before .before .before .before .before .before .before .before .before .before .before .before .before .before .pre) .8)) ((c .before .before .before .before .before .before .before .before .before .before .before .before .before .before .before .before .before .before .before .before .before .pre) .10) ((c .before .before .before .before .before .before .item-form) .ensures ω P e), (c .before .before .before .before .before .before .before .before .before .before .before .before .before .before .before .before .before .before .before .before .before .pre) .6)
+returns-3 c =
+    let s : tie.Start = search in
+    let a = s .args in
+    let l = a .image .now in
+    let t-item-form : tie.After-item-form = search in
+    (λ P ω e. plain P (lettersIn (a .p) l (a .w)) ω (instrSection (a .p) l) (a .x .at) (a .x .code) (t-item-form .item-form .result) (contextOf (typesAt (a .p) l (a .n)) (a .regs .now) (a .sp .now) (a .m)) _ (s .pre .8) (λ x. omega (arith, s .pre .9)) (s .pre .11) (t-item-form .item-form .ensures ω P e), s .pre .7)
 
 heap-form-requires-2 : tie.Need-heap-form-requires-2
-heap-form-requires-2 c κs = ((c .before .before .before .before .before .before .before .before .before .before .before .before .pre) .0, (c .before .before .before .before .before .before .before .before .before .before .before .before .pre) .1, (c .before .before .before .before .before .before .before .before .before .before .before .before .pre) .3, (c .before .before .before .before .before .before .before .before .before .before .before .before .pre) .7, λ x. omega (arith, (c .before .if3) .left, (c .before .before .before .before .before .before .before .before .before .before .before .before .pre) .10), (c .before .before .before .before .before .before .before .before .before .before .before .before .pre) .8)
-
-same-length-7 : tie.Need-same-length-7
-same-length-7 c = search needs
+heap-form-requires-2 c κs =
+    let s : tie.Start = search in
+    let i3 : tie.Else3 = search in
+    (s .pre .0, s .pre .1, s .pre .2, s .pre .4, s .pre .8, λ x. omega (arith, i3 .if3 .left, s .pre .11), s .pre .9)
 
 returns-4 : tie.Need-returns-4
-returns-4 c = (λ P ω e. plain P (map letterOf (span ((c .before .before .before .before .before .before .before .before .before .before .before .before .before .before .before .args) .parts .now) ((c .before .before .before .before .before .before .before .before .before .before .before .before .before .before .before .args) .l) ((c .before .before .before .before .before .before .before .before .before .before .before .before .before .before .before .args) .q))) ω ((c .before .before .before .before .before .before .before .before .before .before .before .before .before .before .before .args) .instrs .now) ((c .before .before .before .before .before .before .before .before .before .before .before .before .before .before .before .args) .j) ((c .before .before .before .before .before .before .before .before .before .before .before .before .before .before .before .args) .k) ((c .before .before .heap-form2) .result) (contextOf (typesIn ((c .before .before .before .before .before .before .before .before .before .before .before .before .before .before .before .args) .rows .now) ((c .before .before .before .before .before .before .before .before .before .before .before .before .before .before .before .args) .parts .now) ((c .before .before .before .before .before .before .before .before .before .before .before .before .before .before .before .args) .n)) ((c .before .before .before .before .before .before .before .before .before .before .before .before .before .before .before .args) .regs .now) ((c .before .before .before .before .before .before .before .before .before .before .before .before .before .before .before .args) .sp .now) ((c .before .before .before .before .before .before .before .before .before .before .before .before .before .before .before .args) .m)) _ ((c .before .before .before .before .before .before .before .before .before .before .before .before .before .before .before .pre) .7) (λ x. omega (arith, (c .before .before .before .before .before .before .before .before .before .before .before .before .before .before .before .pre) .8)) ((c .before .before .before .before .before .before .before .before .before .before .before .before .before .before .before .pre) .10) ((c .before .before .heap-form2) .ensures ω P (spOf (typesIn ((c .before .before .before .before .before .before .before .before .before .before .before .before .before .before .before .args) .rows .now) ((c .before .before .before .before .before .before .before .before .before .before .before .before .before .before .before .args) .parts .now) ((c .before .before .before .before .before .before .before .before .before .before .before .before .before .before .before .args) .n)) ((c .before .before .before .before .before .before .before .before .before .before .before .before .before .before .before .args) .sp .now) ((c .before .before .before .before .before .before .before .before .before .before .before .before .before .before .before .args) .m)) e), (c .before .before .before .before .before .before .before .before .before .before .before .before .before .before .before .pre) .6)
+returns-4 c =
+    let s : tie.Start = search in
+    let a = s .args in
+    let l = a .image .now in
+    let t-heap-form2 : tie.After-heap-form2 = search in
+    (λ P ω e. plain P (lettersIn (a .p) l (a .w)) ω (instrSection (a .p) l) (a .x .at) (a .x .code) (t-heap-form2 .heap-form2 .result) (contextOf (typesAt (a .p) l (a .n)) (a .regs .now) (a .sp .now) (a .m)) _ (s .pre .8) (λ x. omega (arith, s .pre .9)) (s .pre .11) (t-heap-form2 .heap-form2 .ensures ω P (spOf (typesAt (a .p) l (a .n)) (a .sp .now) (a .m)) e), s .pre .7)
 
 pub plain-form-spec : {M : Type 1} → statement M
 plain-form-spec =
     tie.close
     (tie.spec
-    heap-form-requires
-    same-length
-    returns
-    sp-form-requires
-    same-length-2
-    same-length-3
-    returns-2
-    item-form-requires
-    same-length-4
-    same-length-5
-    same-length-6
-    returns-3
-    heap-form-requires-2
-    same-length-7
-    returns-4)
+    heap-form-requires (λ c. search) returns sp-form-requires (λ c. search) (λ c. search) returns-2 item-form-requires (λ c. search)
+    (λ c. search) (λ c. search) returns-3 heap-form-requires-2 (λ c. search) returns-4)

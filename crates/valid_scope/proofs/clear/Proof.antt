@@ -20,6 +20,9 @@ abbrev μ-loop : tie.MeasureT-loop
 loop-holds : tie.Need-loop-holds Inv-loop μ-loop
 loop-holds c = (omega arith, refl, clear-first ((c .args) .uses .now) ((c .args) .from) ((c .args) .to))
 
+mul-uses : tie.Need-mul-uses Inv-loop μ-loop
+mul-uses c = search needs
+
 slice-write-uses : tie.Need-slice-write-uses Inv-loop μ-loop
 slice-write-uses c = search needs
 
@@ -50,6 +53,7 @@ clear-spec =
     Inv-loop
     μ-loop
     loop-holds
+    mul-uses
     slice-write-uses
     add-i
     loop-less

@@ -1,67 +1,50 @@
 -- `valid_scope::find_uses` meets its contract.
 use native.Mathlib.Omega.{arith}
-use Rattle.valid_scope.specs.variables.Free.{freeIn}
 use Rattle.types_rows.specs.Read.{tab}
+use Rattle.image.specs.Sections.{part}
+use Rattle.valid_scope.specs.variables.Free.{freeIn}
 use Rattle.valid_scope.specs.Scoped.{rowType}
 use Rattle.valid_scope.proofs.Rows.{top-le}
-use Rattle.valid_scope.proofs.Laws.{scoped-more}
 use Rattle.valid_scope.proofs.Bounds.{within-more, within-small}
-use borrow.Author.Needs.{needs}
+use Rattle.valid_scope.proofs.Sections.{row-out, row-scoped}
 use borrow.Author.Needs.{needs}
 use Rattle.valid_scope.proofs.find_uses.Statement.{statement}
 use Rattle.valid_scope.proofs.find_uses.Tie as tie
-use Rattle.valid_scope.proofs.find_uses.Reads as reads
-use Rattle.valid_scope.proofs.find_uses.Lts as lts
-use Rattle.valid_scope.proofs.fill_uses.Reads as fill-uses-reads
-use Rattle.valid_scope.proofs.larger.Reads as larger-reads
-use Rattle.valid_scope.proofs.mark.Reads as mark-reads
-use Rattle.valid_scope.proofs.row_respected.Reads as row-respected-reads
-
-row-respected-requires : tie.Need-row-respected-requires
-row-respected-requires c κs = search needs
-
-fill-uses-requires : tie.Need-fill-uses-requires
-fill-uses-requires c κs = ((c .before .before .before .before .before .before .before .before .pre) .0, (c .before .before .before .before .before .before .before .before .pre) .2, (c .before .before .before .before .before .before .before .before .pre) .3 .free, (c .before .before .before .before .before .before .before .before .pre) .4, (c .before .before .before .before .before .before .before .before .pre) .5)
 
 mark-requires : tie.Need-mark-requires
 mark-requires c κs =
-    let a = (c .before .before .before .before .before .before .before .before .before .before .before .args) in
-    let h = top-le (λ j. freeIn j (rowType (tab (a .rows .now) (a .parts .now)) (a .r))) 64 in
-    let e = (c .before .before .fill-uses) .ensures .0 in
+    let s : tie.Start = search in
+    let t : tie.After-fill-uses = search in
+    let a = s .args in
+    let τ = tab (part (a .p .rows) (a .p .blocks) (a .image .now)) (part (a .p .parts) (a .p .operands) (a .image .now)) in
+    let h = top-le (λ j. freeIn j (rowType τ (a .r))) 64 in
+    let e = t .fill-uses .ensures .0 in
     omega arith
 
-mul-tops : tie.Need-mul-tops
-mul-tops c = search needs
-
-slice-write-tops : tie.Need-slice-write-tops
-slice-write-tops c = search needs
-
-larger-requires : tie.Need-larger-requires
-larger-requires c κs = search needs
-
-same-length : tie.Need-same-length
-same-length c = search needs
-
-same-length-2 : tie.Need-same-length-2
-same-length-2 c = search needs
-
 returns : tie.Need-returns
+unfolding part
 returns c =
-    let a = (c .before .before .before .before .before .before .before .before .before .before .before .before .before .args) in
-    let p = (c .before .before .before .before .before .before .before .before .before .before .before .before .before .pre) in
-    let k = (c .before .before .before .before .fill-uses) .kept in
-    (scoped-more (tab (a .rows .now) (a .parts .now)) (a .r) ((c .before .mark) .result) ((c .before .before .before .before .fill-uses) .result) ((c .before .before .before .before .before .before .row-respected) .result) (a .uses .now) ((c .before .before .before .before .fill-uses) .last .1 .1 .0) (a .tops .now) (p .2) (p .3) ((c .before .before .before .before .before .before .row-respected) .ensures) ((c .before .before .before .before .fill-uses) .ensures .0) ((c .before .mark) .ensures) (omega arith) (p .1) ((c .before .before .before .before .fill-uses) .ensures .1), within-small (tab (a .rows .now) (a .parts .now)) (a .r) (a .bound) (a .uses .now) (p .2) (p .3 .free) (p .5) ((c .before .before .before .before .fill-uses) .result) ((c .larger) .result) (p .4) ((c .before .before .before .before .fill-uses) .ensures .0) ((c .larger) .ensures), within-more (tab (a .rows .now) (a .parts .now)) (a .r) (a .bound) (a .uses .now) (p .2) (p .3 .free) (p .5) ((c .before .before .before .before .fill-uses) .result) ((c .larger) .result) ((c .before .before .before .before .fill-uses) .ensures .0) ((c .larger) .ensures))
+    let s : tie.Start = search in
+    let q : tie.After-row-respected = search in
+    let t : tie.After-fill-uses = search in
+    let m : tie.After-mark = search in
+    let a = s .args in
+    let h = s .pre in
+    let τ = tab (part (a .p .rows) (a .p .blocks) (a .image .now)) (part (a .p .parts) (a .p .operands) (a .image .now)) in
+    let uses = part (a .p .uses) (a .p .tops) (a .image .now) in
+    let f = t .fill-uses .ensures in
+    let top = t .fill-uses .result in (
+      row-scoped (a .r) (h .0 .uses) (h .0 .tops) (omega (arith, h .0)) (f .2) (m .mark .result) (h .1) (h .2) top (q .row-respected .result) (h .3) (h .4) (q .row-respected .ensures) (f .0) (m .mark .ensures) (f .1),
+      within-small τ (a .r) (a .bound) uses (h .3) (h .4 .free) (h .6) top (c .larger .result) (h .5) (f .0) (c .larger .ensures),
+      within-more τ (a .r) (a .bound) uses (h .3) (h .4 .free) (h .6) top (c .larger .result) (f .0) (c .larger .ensures),
+      row-out (a .r) (h .0 .uses) (h .0 .tops) (omega (arith, h .0)) (f .2) (m .mark .result) (h .1) (h .2),
+    )
 
 pub find-uses-spec : {M : Type 1} → statement M
 find-uses-spec =
     tie.close
     (tie.spec
-    row-respected-requires
-    fill-uses-requires
-    mark-requires
-    mul-tops
-    slice-write-tops
-    larger-requires
-    same-length
-    same-length-2
-    returns)
+    (λ c. search needs) (λ c. search needs) (λ c. search needs) (λ c. search needs) (λ c. search needs) (λ c. search needs)
+    (λ c. search needs) (λ c. search needs) (λ c. search needs) (λ c. search needs) (λ c. search needs) (λ c. search needs)
+    (λ c. search needs) (λ c. search needs) (λ c. search needs) (λ c. search needs) (λ c κs. search needs) (λ c κs. search needs)
+    mark-requires (λ c. search needs) (λ c. search needs) (λ c. search needs) (λ c κs. search needs) (λ c. search needs) returns)

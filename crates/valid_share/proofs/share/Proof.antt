@@ -1,55 +1,34 @@
-use Rattle.types_rows.specs.Read.{tab}
-use Rattle.valid_share.proofs.Renaming.{shared, lower-rows}
+use Prim.Native.Nat.{_+_}
 use borrow.Author.Needs.{needs}
+use Rattle.types_rows.specs.Read.{tab}
+use Rattle.image.specs.Sections.{part, rowSection, partSection}
+use Rattle.valid_share.proofs.rename.Laws.{both}
+use Rattle.valid_share.proofs.Renaming.{shared, lower-rows}
 use Rattle.valid_share.proofs.share.Statement.{statement}
 use Rattle.valid_share.proofs.share.Tie as tie
-use Rattle.valid_share.proofs.share.Reads as reads
-use Rattle.valid_share.proofs.share.Lts as lts
-use Rattle.valid_share.proofs.rename.fill_parts.Reads as fill-parts-reads
-use Rattle.valid_share.proofs.rename.fill_rows.Reads as fill-rows-reads
-use Rattle.valid_share.proofs.find_first.Reads as find-first-reads
-
-slice-aggregate-find-first : tie.Need-slice-aggregate-find-first
-slice-aggregate-find-first c = search needs
 
 find-first-requires : tie.Need-find-first-requires
-find-first-requires c κs = ((c .before .before .before .before .before .before .before .before .before .pre) .0 .0, (c .before .before .before .before .before .before .before .before .before .pre) .1 .0 .0, (c .before .before .before .before .before .before .before .before .before .pre) .0 .3, lower-rows (tab ((c .before .before .before .before .before .before .before .before .before .args) .rows .now) ((c .before .before .before .before .before .before .before .before .before .args) .parts .now)) ((c .before .before .before .before .before .before .before .before .before .args) .n) ((c .before .before .before .before .before .before .before .before .before .pre) .1 .1 .0))
-
-add-fill-rows : tie.Need-add-fill-rows
-add-fill-rows c = search needs
-
-fill-rows-requires : tie.Need-fill-rows-requires
-fill-rows-requires c κs = search needs
-
-fill-parts-requires : tie.Need-fill-parts-requires
-fill-parts-requires c κs = search needs
-
-same-length : tie.Need-same-length
-same-length c = search needs
-
-same-length-2 : tie.Need-same-length-2
-same-length-2 c = search needs
-
-same-length-3 : tie.Need-same-length-3
-same-length-3 c = search needs
-
-same-length-4 : tie.Need-same-length-4
-same-length-4 c = search needs
+unfolding part
+find-first-requires c κs =
+    let s : tie.Start = search in
+    let a = s .args in
+    (search, s .pre .1 .0 .0, search, lower-rows (tab (rowSection (a .p) (a .image .now)) (partSection (a .p) (a .image .now))) (a .n) (s .pre .1 .1 .0))
 
 returns : tie.Need-returns
-returns c = shared ((c .before .before .before .before .before .before .before .before .before .before .before .before .before .before .before .before .before .before .before .before .before .before .before .before .before .args) .rows .now) ((c .before .before .before .before .before .before .before .before .before .before .before .before .before .before .before .before .before .before .before .before .before .before .before .before .before .args) .parts .now) ((c .before .before .before .before .before .before .before .before .before .before .before .before .before .before .before .find-first) .last .1 .1 .1 .0) ((c .before .before .before .before .before .before .before .fill-rows) .last .1 .1 .1 .0) ((c .before .before .fill-parts) .last .1 .1 .1 .1 .0) ((c .before .before .before .before .before .before .before .before .before .before .before .before .before .before .before .before .before .before .before .before .before .before .before .before .before .args) .n) ((c .before .before .before .before .before .before .before .fill-rows) .ensures) ((c .before .before .fill-parts) .ensures) ((c .before .before .before .before .before .before .before .before .before .before .before .before .before .before .before .before .before .before .before .before .before .before .before .before .before .pre) .1 .1 .1) ((c .before .before .before .before .before .before .before .before .before .before .before .before .before .before .before .before .before .before .before .before .before .before .before .before .before .pre) .1 .1 .0) ((c .before .before .before .before .before .before .before .before .before .before .before .before .before .before .before .find-first) .ensures) ((c .before .before .before .before .before .before .before .before .before .before .before .before .before .before .before .before .before .before .before .before .before .before .before .before .before .pre) .1 .0 .1) ((c .before .before .before .before .before .before .before .before .before .before .before .before .before .before .before .before .before .before .before .before .before .before .before .before .before .pre) .1 .0 .2) ((c .before .before .before .before .before .before .before .before .before .before .before .before .before .before .before .before .before .before .before .before .before .before .before .before .before .pre) .1 .0 .0)
+unfolding part
+returns c =
+    let s : tie.Start = search in
+    let f : tie.After-find-first = search in
+    let r : tie.After-fill-rows = search in
+    let w : tie.After-fill-parts = search in
+    let a = s .args in
+    let first = f .find-first .last .1 .1 .1 .0 in
+    let t = both first (a .n + 2) (a .n) (s .pre .0 .0) (r .fill-rows .ensures .0) (r .fill-rows .ensures .1) (w .fill-parts .ensures .0) (w .fill-parts .ensures .1) in
+    (shared (rowSection (a .p) (a .image .now)) (partSection (a .p) (a .image .now)) first _ _ (a .n) (t .0) (t .1) (s .pre .1 .1 .1) (s .pre .1 .1 .0) (f .find-first .ensures) (s .pre .1 .0 .1) (s .pre .1 .0 .2) (s .pre .1 .0 .0), t .2)
 
 pub share-spec : {M : Type 1} → statement M
 share-spec =
     tie.close
-    (tie.spec
-    slice-aggregate-find-first
-    find-first-requires
-    add-fill-rows
-    fill-rows-requires
-    fill-parts-requires
-    same-length
-    same-length-2
-    same-length-3
-    same-length-4
-    returns)
+    (tie.spec (λ c. search needs) (λ c. search) (λ c. search) (λ c. search needs) (λ c. search needs)
+    (λ c. search) (λ c. search) (λ c. search needs) (λ c. search) find-first-requires
+    (λ c. search needs) (λ c κs. search needs) (λ c κs. search needs) (λ c. search needs) (λ c. search) (λ c. search) returns)

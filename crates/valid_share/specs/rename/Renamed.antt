@@ -7,6 +7,7 @@ use mathlib.Core.List.{List}
 use lib.Dec.{eqb, leb, ltb}
 use lib.ListN.{getD}
 use Rattle.tables.specs.Tables.{cell}
+use Rattle.valid_share.specs.declared.rename.Entries.{Entries}
 
 -- the row that stands for row x: the one that `first` names, if it is lower
 unfoldable pub firstOf : List ℕ → ℕ → ℕ
@@ -34,6 +35,13 @@ unfoldable pub entryAt : List ℕ → List ℕ → ℕ → ℕ → ℕ
 entryAt first rows r e =
     cond (eqb e 1) (newA first r (cell 4 rows r 0) (cell 4 rows r 1))
     (cond (eqb e 2) (newB first r (cell 4 rows r 0) (cell 4 rows r 2)) (cell 4 rows r e))
+
+-- the four entries of row r in the new table
+pub record NewEntries (first rows : List ℕ) (r : ℕ) (x : Entries) : Type 0 where
+  pub kind : x .kind ≡ entryAt first rows r 0
+  pub a : x .a ≡ entryAt first rows r 1
+  pub b : x .b ≡ entryAt first rows r 2
+  pub count : x .count ≡ entryAt first rows r 3
 
 -- part j of row r in the new table
 unfoldable pub partAt : List ℕ → List ℕ → List ℕ → ℕ → ℕ → ℕ

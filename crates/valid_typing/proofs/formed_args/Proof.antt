@@ -1,73 +1,96 @@
+use Rattle.valid_typing.specs.Image.{lettersIn}
 use borrow.Author.Needs.{needs}
 use Prim.Native.Nat.{ℕ, _-_, _≤_}
 use native.Mathlib.Omega.{arith}
-use mathlib.Core.Path.{_≡_, sym, ap, _∙_}
+use mathlib.Core.Path.{ap, _∙_}
 use mathlib.Core.List.{map}
 use borrow.Author.Tests.{not-true, not-false}
 use Rattle.tables.specs.Tables.{span, letterOf}
 use Rattle.valid.specs.PassThree.{formedArg}
 use Rattle.valid_typing.specs.Typing.{givenArg}
 use Rattle.valid_typing.proofs.Args.{RestFormed, rest-first, rest-next, rest-fails, rest-done}
+use Rattle.image.specs.Sections.{part, argSection, sharedSection, slotSection}
 use Rattle.valid_typing.proofs.formed_args.Statement.{statement}
 use Rattle.valid_typing.proofs.formed_args.Tie as tie
-use Rattle.valid_typing.proofs.formed_args.Reads as reads
-use Rattle.valid_typing.proofs.formed_args.Lts as lts
-use Rattle.types_rows.proofs.at.Reads as at-reads
-use Rattle.valid_typing.proofs.formed_arg.Reads as formed-arg-reads
 
 abbrev Inv-loop : tie.InvT-loop
-Inv-loop rows parts n uses tops args a c q l i₀ i = (i ≤ c) × RestFormed rows parts n (map letterOf (span parts l q)) args a c i
+Inv-loop image n a c from to top shared slots end args uses tops rows parts q l i₀ i = (i ≤ c) × RestFormed rows parts n (map letterOf (span parts l q)) args a c i
 
 abbrev μ-loop : tie.MeasureT-loop
-μ-loop rows parts n uses tops args a c q l i₀ i = c - i
+μ-loop image n a c from to top shared slots end args uses tops rows parts q l i₀ i = c - i
 
 loop-holds : tie.Need-loop-holds Inv-loop μ-loop
-loop-holds c = let a = (c .before .before .before .before .before .args) in (omega arith, rest-first (a .rows .now) (a .parts .now) (a .n) (map letterOf (span (a .parts .now) (a .l) (a .q))) (a .args .now) (a .a) (a .c))
+unfolding part
+loop-holds c =
+    let s : tie.Start Inv-loop μ-loop = search in
+    let a = s .args in
+    let l = a .image .now in
+    (omega arith, rest-first (sharedSection (a .p) l) (slotSection (a .p) l) (a .n) (lettersIn (a .p) l (a .w)) (argSection (a .p) l) (a .a) (a .c))
 
 add-at : tie.Need-add-at Inv-loop μ-loop
-add-at c = omega arith
-
-at-requires : tie.Need-at-requires Inv-loop μ-loop
-at-requires c κs = search needs
+add-at c =
+    omega arith
 
 formed-arg-requires : tie.Need-formed-arg-requires Inv-loop μ-loop
-formed-arg-requires c κs = (c .before .before .before .before .before .before .before .before .pre) .0
+unfolding part
+formed-arg-requires c κs =
+    let s : tie.Start Inv-loop μ-loop = search in
+    s .pre .1
 
 returns : tie.Need-returns Inv-loop μ-loop
+unfolding part
 returns c =
-    let a = (c .before .before .before .before .before .before .before .before .before .before .args) in
-    rest-fails (a .rows .now) (a .parts .now) (a .n) (map letterOf (span (a .parts .now) (a .l) (a .q))) (a .args .now) (a .a) (a .c) ((c .before .before .before .before .loop) .i) ((c .before .before .before .loop-test) .taken) ((c .before .before .before .before .loop) .inv .1)
-    ((c .before .formed-arg) .ensures ∙ ap (λ (t : ℕ). formedArg (map letterOf (span (a .parts .now) (a .l) (a .q))) (givenArg (a .rows .now) (a .parts .now) (a .n) t)) ((c .before .before .at) .ensures .0)) (not-true _ ((c .if1) .taken))
+    let s : tie.Start Inv-loop μ-loop = search in
+    let g : tie.At-loop Inv-loop μ-loop = search in
+    let k : tie.In-loop Inv-loop μ-loop = search in
+    let t-formed-arg : tie.After-formed-arg Inv-loop μ-loop = search in
+    let t-at : tie.After-at Inv-loop μ-loop = search in
+    let i1 : tie.Then1 Inv-loop μ-loop = search in
+    let a = s .args in
+    let l = a .image .now in
+    rest-fails (sharedSection (a .p) l) (slotSection (a .p) l) (a .n) (lettersIn (a .p) l (a .w)) (argSection (a .p) l) (a .a) (a .c) (g .loop .i) (k .loop-test .taken) (g .loop .inv .1)
+    (t-formed-arg .formed-arg .ensures ∙ ap (λ (t : ℕ). formedArg (lettersIn (a .p) l (a .w)) (givenArg (sharedSection (a .p) l) (slotSection (a .p) l) (a .n) t)) (t-at .at .ensures .0)) (not-true _ (i1 .if1 .taken))
 
 add-i : tie.Need-add-i Inv-loop μ-loop
-add-i c = omega arith
+add-i c =
+    omega arith
 
 loop-less : tie.Need-loop-less Inv-loop μ-loop
-loop-less c = omega arith
+loop-less c =
+    omega arith
 
 loop-again : tie.Need-loop-again Inv-loop μ-loop
+unfolding part
 loop-again c =
-    let a = (c .before .before .before .before .before .before .before .before .before .before .args) in (
+    let s : tie.Start Inv-loop μ-loop = search in
+    let g : tie.At-loop Inv-loop μ-loop = search in
+    let k : tie.In-loop Inv-loop μ-loop = search in
+    let t-formed-arg : tie.After-formed-arg Inv-loop μ-loop = search in
+    let t-at : tie.After-at Inv-loop μ-loop = search in
+    let i1 : tie.Else1 Inv-loop μ-loop = search in
+    let a = s .args in
+    let l = a .image .now in (
       omega arith,
-      rest-next (a .rows .now) (a .parts .now) (a .n) (map letterOf (span (a .parts .now) (a .l) (a .q))) (a .args .now) (a .a) (a .c) ((c .before .before .before .before .loop) .i) ((c .before .before .before .loop-test) .taken) ((c .before .before .before .before .loop) .inv .1)
-          ((c .before .formed-arg) .ensures ∙ ap (λ (t : ℕ). formedArg (map letterOf (span (a .parts .now) (a .l) (a .q))) (givenArg (a .rows .now) (a .parts .now) (a .n) t)) ((c .before .before .at) .ensures .0)) (not-false _ ((c .if1) .left)),
+      rest-next (sharedSection (a .p) l) (slotSection (a .p) l) (a .n) (lettersIn (a .p) l (a .w)) (argSection (a .p) l) (a .a) (a .c) (g .loop .i) (k .loop-test .taken) (g .loop .inv .1)
+          (t-formed-arg .formed-arg .ensures ∙ ap (λ (t : ℕ). formedArg (lettersIn (a .p) l (a .w)) (givenArg (sharedSection (a .p) l) (slotSection (a .p) l) (a .n) t)) (t-at .at .ensures .0)) (not-false _ (i1 .if1 .left)),
     )
 
 returns-2 : tie.Need-returns-2 Inv-loop μ-loop
-returns-2 c = let a = (c .before .before .before .before .before .before .before .args) in rest-done (a .rows .now) (a .parts .now) (a .n) (map letterOf (span (a .parts .now) (a .l) (a .q))) (a .args .now) (a .a) (a .c) ((c .before .loop) .i) ((c .loop-test) .left) ((c .before .loop) .inv .1)
+unfolding part
+returns-2 c =
+    let s : tie.Start Inv-loop μ-loop = search in
+    let g : tie.At-loop Inv-loop μ-loop = search in
+    let k : tie.After-loop Inv-loop μ-loop = search in
+    let a = s .args in
+    let l = a .image .now in
+    rest-done (sharedSection (a .p) l) (slotSection (a .p) l) (a .n) (lettersIn (a .p) l (a .w)) (argSection (a .p) l) (a .a) (a .c) (g .loop .i) (k .loop-test .left) (g .loop .inv .1)
 
 pub formed-args-spec : {M : Type 1} → statement M
 formed-args-spec =
     tie.close
     (tie.spec
-    Inv-loop
-    μ-loop
-    loop-holds
-    add-at
-    at-requires
-    formed-arg-requires
-    returns
-    add-i
-    loop-less
-    loop-again
-    returns-2)
+    Inv-loop μ-loop (λ c. search needs) (λ c. search needs) (λ c. search needs) (λ c. search needs) (λ c. search needs)
+    (λ c. search needs) (λ c. search needs) (λ c. search needs) (λ c. search needs) (λ c. search needs) (λ c. search needs)
+    (λ c. search needs) (λ c. search needs) (λ c. search needs) (λ c. search needs) (λ c. search needs) (λ c. search needs)
+    (λ c. search needs) (λ c. search needs) (λ c. search needs) loop-holds add-at (λ c κs. search needs) formed-arg-requires returns
+    add-i loop-less loop-again returns-2)

@@ -1,43 +1,65 @@
 -- `load::prepare::prepare` meets its contract.
 use native.Mathlib.Omega.{arith}
-use Rattle.load.proofs.prepare.Laws.{small-two, room-two, checked-two, prepared-two}
+use Rattle.image.specs.Sections.{part, partSection}
+use Rattle.load.proofs.prepare.Laws.{image-room, image-sizes, image-ordered, image-checked, image-prepared, image-kept}
 use borrow.Author.Needs.{needs}
 use Rattle.load.proofs.prepare.prepare.Statement.{statement}
 use Rattle.load.proofs.prepare.prepare.Tie as tie
 
-put-two-requires : tie.Need-put-two-requires
-put-two-requires c κs = search needs
-
-add-count-items : tie.Need-add-count-items
-add-count-items c = search needs
-
 count-items-requires : tie.Need-count-items-requires
+unfolding part
 count-items-requires c κs =
-    let a = c .before .before .before .before .before .before .before .before .before .args in
-    let p = c .before .before .before .before .before .before .before .before .before .pre in
-    let h = p .0 .0 in
-    (omega arith, room-two (a .rows .now) (a .parts .now) (a .n) (p .0 .1) (c .before .before .before .put-two .last .0) (c .before .before .before .put-two .ensures), small-two (a .rows .now) (a .parts .now) (a .n) (p .0 .1) (c .before .before .before .put-two .last .0) (c .before .before .before .put-two .ensures) (p .1 .0))
+    let s : tie.Start = search in
+    let t : tie.After-put-two = search in
+    let a = s .args in
+    let h = s .pre .0 in
+    let y = t .put-two .last .0 in
+    let e = t .put-two .ensures in
+    (omega arith, image-room (a .p) (a .image .now) (a .n) (h .0) (h .2) y e, (partSection (a .p) (a .image .now), image-sizes (a .p) (a .image .now) (a .n) (h .0) (h .2) y e (s .pre .1 .0)))
 
 find-all-requires : tie.Need-find-all-requires
+unfolding part
 find-all-requires c κs =
-    let a = c .before .before .before .before .before .before .before .before .before .before .before .before .before .before .before .args in
-    let p = c .before .before .before .before .before .before .before .before .before .before .before .before .before .before .before .pre in
-    (p .0 .2, p .0 .3, checked-two (a .rows .now) (a .parts .now) (a .n) (p .0 .1) (c .before .before .before .before .before .before .before .before .before .put-two .last .0) (c .before .before .before .before .before .before .before .before .before .put-two .ensures) (c .before .before .before .before .before .count-items .last .0) (c .before .before .before .before .before .count-items .ensures) (p .1 .0) (p .1 .1))
-
-same-length : tie.Need-same-length
-same-length c = search needs
-
-same-length-2 : tie.Need-same-length-2
-same-length-2 c = search needs
-
-same-length-3 : tie.Need-same-length-3
-same-length-3 c = search needs
+    let s : tie.Start = search in
+    let t : tie.After-put-two = search in
+    let u : tie.After-count-items = search in
+    let a = s .args in
+    let h = s .pre .0 in
+    let y = t .put-two .last .0 in
+    let e = t .put-two .ensures in
+    let z = u .count-items .last .0 in
+    let g = u .count-items .kept .0 in
+    let f = u .count-items .ensures (partSection (a .p) (a .image .now)) (image-sizes (a .p) (a .image .now) (a .n) (h .0) (h .2) y e (s .pre .1 .0)) in (
+      image-ordered (a .p) (a .image .now) (a .n) (h .0) (h .2) y e z g f,
+      h .3,
+      h .4,
+      image-checked (a .p) (a .image .now) (a .n) (h .0) (h .2) y e z g f (s .pre .1 .0) (s .pre .1 .1),
+    )
 
 returns : tie.Need-returns
+unfolding part
 returns c =
-    let a = c .before .before .before .before .before .before .before .before .before .before .before .before .before .before .before .before .before .before .before .before .args in
-    let p = c .before .before .before .before .before .before .before .before .before .before .before .before .before .before .before .before .before .before .before .before .pre in
-    prepared-two (a .rows .now) (a .parts .now) (a .n) (p .0 .1) (c .before .before .before .before .before .before .before .before .before .before .before .before .before .before .put-two .last .0) (c .before .before .before .before .before .before .before .before .before .before .before .before .before .before .put-two .ensures) (c .before .before .before .before .before .before .before .before .before .before .count-items .last .0) (c .before .before .before .before .before .before .before .before .before .before .count-items .ensures) (c .before .before .before .before .find-all .last .1 .1 .0) (c .before .before .before .before .find-all .last .1 .1 .1 .0) (p .0 .0) (c .before .before .before .before .find-all .ensures)
+    let s : tie.Start = search in
+    let t : tie.After-put-two = search in
+    let u : tie.After-count-items = search in
+    let w : tie.After-find-all = search in
+    let a = s .args in
+    let h = s .pre .0 in
+    let y = t .put-two .last .0 in
+    let e = t .put-two .ensures in
+    let z = u .count-items .last .0 in
+    let g = u .count-items .kept .0 in
+    let f = u .count-items .ensures (partSection (a .p) (a .image .now)) (image-sizes (a .p) (a .image .now) (a .n) (h .0) (h .2) y e (s .pre .1 .0)) in
+    let l = w .find-all .last .0 in
+    let q = w .find-all .ensures in (
+      image-prepared (a .p) (a .image .now) (a .n) (h .0) (h .2) y e z g f l (q .1) (h .1) (q .0),
+      image-kept (a .p) (a .image .now) (a .n) (h .0) (h .2) y e z g f l (q .1),
+    )
 
 pub prepare-spec : {M : Type 1} → statement M
-prepare-spec = tie.close (tie.spec put-two-requires add-count-items count-items-requires find-all-requires same-length same-length-2 same-length-3 returns)
+prepare-spec =
+    tie.close
+    (tie.spec
+    (λ c. search needs) (λ c. search needs) (λ c. search needs) (λ c. search needs) (λ c κs. search needs) (λ c. search needs)
+    (λ c. search needs) (λ c. search needs) (λ c. search needs) (λ c. search needs) count-items-requires find-all-requires
+    (λ c. search needs) returns)

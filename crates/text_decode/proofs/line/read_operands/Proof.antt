@@ -1,113 +1,152 @@
-use borrow.Author.Needs.{needs}
-use mathlib.Core.Path.{_≡_, refl, ap, sym, _∙_}
-use Prim.Native.Nat.{_+_, _-_, _*_}
+use mathlib.Core.Path.{refl}
+use Prim.Native.Nat.{_+_, _-_, _*_, _<_}
 use native.Mathlib.Omega.{arith}
-use borrow.Author.Tests.{not-true, not-false}
-use lib.ListN.{length, take, drop}
-use Rattle.text_lines.specs.Parts.{lineIn, fieldIn, StopAt}
+use lib.ListN.{length}
+use Rattle.image.specs.Sections.{part, Outside}
+use Rattle.image.proofs.Laws.{nothing}
+use Rattle.text_lines.specs.Parts.{lineIn, fieldIn, InLine, StopAt}
 use Rattle.text_lines.proofs.InLine.{place-read, stop-on, stop-last, stop-behind}
-use Rattle.text_decode.specs.line.Answers.{operandTable}
-use Rattle.text_decode.proofs.line.OperandLaws.{OperandsGo, operands-start, operands-end, operands-bad, operands-on, operands-many}
+use Rattle.text_decode.specs.line.Answers.{operandTable, operandsIn}
+use Rattle.text_decode.proofs.line.OperandLaws.{OperandsGo, operands-start, operands-end, operands-many}
+use Rattle.text_decode.proofs.line.OperandImage.{ordered-as, kinds-same, bad-in, bad-outside, on-in, on-outside}
 use Rattle.text_decode.proofs.line.StopLaws.{operand-here, line-over, no-end}
+use borrow.Author.Needs.{needs}
 use Rattle.text_decode.proofs.line.read_operands.Statement.{statement}
 use Rattle.text_decode.proofs.line.read_operands.Tie as tie
-use Rattle.text_decode.proofs.line.read_operands.Reads as reads
-use Rattle.text_decode.proofs.line.read_operands.Lts as lts
-use Rattle.text_decode.proofs.line.put_operand.Reads as put-operand-reads
-use Rattle.text_fields.proofs.operand_at.Reads as operand-at-reads
 
 abbrev Inv-loop : tie.InvT-loop
-Inv-loop rest at most operands₀ numbers₀ args₀ v i₀ n₀ operands numbers args i n = OperandsGo (lineIn rest) (at + 1) most v (operandTable operands₀ numbers₀ args₀) (operandTable operands numbers args) (i + 1) n × StopAt rest i
+Inv-loop rest at most image₀ numbers₀ v from mid to i₀ n₀ image numbers i n =
+    OperandsGo (lineIn rest) (at + 1) most v (operandTable (part from mid image₀) numbers₀ (part mid to image₀)) (operandTable (part from mid image) numbers (part mid to image)) (i + 1) n × StopAt rest i × Outside from to image₀ image
 
 abbrev μ-loop : tie.MeasureT-loop
-μ-loop rest at most operands₀ numbers₀ args₀ v i₀ n₀ operands numbers args i n = length rest - i
+μ-loop rest at most image₀ numbers₀ v from mid to i₀ n₀ image numbers i n = length rest - i
+
+abbrev Start : Type 0
+Start = tie.Start Inv-loop μ-loop
+
+abbrev At-loop : Type 0
+At-loop = tie.At-loop Inv-loop μ-loop
+
+abbrev After-operand-at : Type 0
+After-operand-at = tie.After-operand-at Inv-loop μ-loop
+
+abbrev After-put-operand : Type 0
+After-put-operand = tie.After-put-operand Inv-loop μ-loop
+
+abbrev loop-of : After-operand-at → At-loop
+loop-of t = search
+
+abbrev start-of : After-operand-at → Start
+start-of t = search
+
+-- the comma before the field that was read
+stop-here : (t : After-operand-at) → InLine (start-of t .args .rest .now) (loop-of t .loop .i + 1)
+stop-here t = stop-on (start-of t .args .rest .now) (loop-of t .loop .i) (loop-of t .loop .inv .1) (search)
+
+one-more : (t : After-operand-at) → loop-of t .loop .n < start-of t .args .most
+one-more t = omega (arith, loop-of t .loop .inv .0 .few)
 
 loop-holds : tie.Need-loop-holds Inv-loop μ-loop
-loop-holds c = (operands-start (lineIn (((c .before .before .before .before .args) .rest) .now)) (((c .before .before .before .before .args) .at) + 1) ((c .before .before .before .before .args) .most) ((c .before .before .before .before .args) .v) (operandTable (((c .before .before .before .before .args) .operands) .now) (((c .before .before .before .before .args) .numbers) .now) (((c .before .before .before .before .args) .args) .now)), (c .before .before .before .before .pre) .2)
+loop-holds c =
+    let s : Start = search in
+    (operands-start (lineIn (s .args .rest .now)) (s .args .at + 1) (s .args .most) (s .args .v) (operandsIn (s .args .p) (s .args .image .now) (s .args .numbers .now)), s .pre .3, nothing (s .args .p .operands) (s .args .p .uses) (s .args .image .now))
 
 shared-slice-read-if1 : tie.Need-shared-slice-read-if1 Inv-loop μ-loop
-shared-slice-read-if1 c = place-read (((c .before .before .before .before .before .before .args) .rest) .now) ((c .before .loop) .i) ((c .before .loop) .inv .1 .place)
-
-same-length : tie.Need-same-length Inv-loop μ-loop
-same-length c = (c .before .before .before .loop) .inv .0 .long-kinds
-
-same-length-2 : tie.Need-same-length-2 Inv-loop μ-loop
-same-length-2 c = (c .before .before .before .loop) .inv .0 .long-numbers
-
-same-length-3 : tie.Need-same-length-3 Inv-loop μ-loop
-same-length-3 c = (c .before .before .before .loop) .inv .0 .long-args
+shared-slice-read-if1 c =
+    let s : Start = search in
+    let g : At-loop = search in
+    place-read (s .args .rest .now) (g .loop .i) (g .loop .inv .1 .place)
 
 returns : tie.Need-returns Inv-loop μ-loop
-returns c = (operands-many (lineIn (((c .before .before .before .before .before .before .before .before .args) .rest) .now)) (((c .before .before .before .before .before .before .before .before .args) .at) + 1) ((c .before .before .before .before .before .before .before .before .args) .most) ((c .before .before .before .before .before .before .before .before .args) .v) (operandTable (((c .before .before .before .before .before .before .before .before .args) .operands) .now) (((c .before .before .before .before .before .before .before .before .args) .numbers) .now) (((c .before .before .before .before .before .before .before .before .args) .args) .now)) (operandTable ((c .before .before .before .loop) .operands) ((c .before .before .before .loop) .numbers) ((c .before .before .before .loop) .args)) ((c .before .before .before .loop) .i + 1) ((c .before .before .before .loop) .n) ((c .before .before .before .loop) .inv .0) ((stop-on (((c .before .before .before .before .before .before .before .before .args) .rest) .now) ((c .before .before .before .loop) .i) ((c .before .before .before .loop) .inv .1) ((c .before .if1) .taken)) .within) ((c .if2) .taken) ((c .before .before .before .loop) .i), no-end (((c .before .before .before .before .before .before .before .before .args) .rest) .now) ((c .before .before .before .loop) .i))
-
-cast-w : tie.Need-cast-w Inv-loop μ-loop
-cast-w c = search needs
+returns c =
+    let s : Start = search in
+    let g : At-loop = search in
+    (operands-many (lineIn (s .args .rest .now)) (s .args .at + 1) (s .args .most) (s .args .v) (operandsIn (s .args .p) (s .args .image .now) (s .args .numbers .now)) (operandsIn (s .args .p) (g .loop .image) (g .loop .numbers)) (g .loop .i + 1) (g .loop .n) (g .loop .inv .0) (stop-on (s .args .rest .now) (g .loop .i) (g .loop .inv .1) (search) .within) (search) (g .loop .i), no-end (s .args .rest .now) (g .loop .i), g .loop .inv .2)
 
 add-w : tie.Need-add-w Inv-loop μ-loop
 add-w c =
-    let l = (c .before .before .before .loop) .inv .0 in
-    omega (arith, l .few, (c .before .before .before .before .before .before .before .before .pre) .0 .bases)
+    let s : Start = search in
+    let g : At-loop = search in
+    omega (arith, g .loop .inv .0 .few, s .pre .1 .bases)
 
 add-operand-at : tie.Need-add-operand-at Inv-loop μ-loop
 add-operand-at c =
-    let h = place-read (((c .before .before .before .before .before .before .before .before .args) .rest) .now) ((c .before .before .before .loop) .i) ((c .before .before .before .loop) .inv .1 .place) in
+    let s : Start = search in
+    let g : At-loop = search in
+    let h = place-read (s .args .rest .now) (g .loop .i) (g .loop .inv .1 .place) in
     omega arith
 
-mul-operand-at : tie.Need-mul-operand-at Inv-loop μ-loop
-mul-operand-at c =
-    let l = (c .before .before .before .before .loop) .inv .0 in
-    omega (arith, l .few, (c .before .before .before .before .before .before .before .before .before .pre) .0 .rows)
+sub-operand-at : tie.Need-sub-operand-at Inv-loop μ-loop
+sub-operand-at c =
+    let s : Start = search in
+    omega (arith, s .pre .0)
 
 operand-at-requires : tie.Need-operand-at-requires Inv-loop μ-loop
-operand-at-requires c κs = (stop-on (((c .before .before .before .before .before .before .before .before .before .args) .rest) .now) ((c .before .before .before .before .loop) .i) ((c .before .before .before .before .loop) .inv .1) ((c .before .before .if1) .taken))
-
-same-length-4 : tie.Need-same-length-4 Inv-loop μ-loop
-same-length-4 c = (c .before .before .before .before .before .before .before .before .before .before .loop) .inv .0 .long-kinds
-
-same-length-5 : tie.Need-same-length-5 Inv-loop μ-loop
-same-length-5 c = (c .before .before .before .before .before .before .before .before .before .before .loop) .inv .0 .long-numbers
-
-same-length-6 : tie.Need-same-length-6 Inv-loop μ-loop
-same-length-6 c = search needs
+operand-at-requires c κs =
+    let s : Start = search in
+    let g : At-loop = search in
+    stop-on (s .args .rest .now) (g .loop .i) (g .loop .inv .1) (search)
 
 returns-2 : tie.Need-returns-2 Inv-loop μ-loop
+unfolding part
 returns-2 c =
-    let d = ((c .before .before .before .before .before .before .before .before .before .before .loop) .i + 1 + length (fieldIn (((c .before .before .before .before .before .before .before .before .before .before .before .before .before .before .before .args) .rest) .now) ((c .before .before .before .before .before .before .before .before .before .before .loop) .i + 1))) in
-    (operands-bad (lineIn (((c .before .before .before .before .before .before .before .before .before .before .before .before .before .before .before .args) .rest) .now)) (((c .before .before .before .before .before .before .before .before .before .before .before .before .before .before .before .args) .at) + 1) ((c .before .before .before .before .before .before .before .before .before .before .before .before .before .before .before .args) .most) ((c .before .before .before .before .before .before .before .before .before .before .before .before .before .before .before .args) .v) (operandTable (((c .before .before .before .before .before .before .before .before .before .before .before .before .before .before .before .args) .operands) .now) (((c .before .before .before .before .before .before .before .before .before .before .before .before .before .before .before .args) .numbers) .now) (((c .before .before .before .before .before .before .before .before .before .before .before .before .before .before .before .args) .args) .now)) (operandTable ((c .before .before .before .before .before .before .before .before .before .before .loop) .operands) ((c .before .before .before .before .before .before .before .before .before .before .loop) .numbers) ((c .before .before .before .before .before .before .before .before .before .before .loop) .args)) ((c .before .before .before .before .before .before .before .before .before .before .loop) .i + 1) ((c .before .before .before .before .before .before .before .before .before .before .loop) .n) ((c .before .before .before .before .before .before .before .before .before .before .loop) .inv .0) ((stop-on (((c .before .before .before .before .before .before .before .before .before .before .before .before .before .before .before .args) .rest) .now) ((c .before .before .before .before .before .before .before .before .before .before .loop) .i) ((c .before .before .before .before .before .before .before .before .before .before .loop) .inv .1) ((c .before .before .before .before .before .before .before .before .if1) .taken)) .within) d refl ((c .before .before .before .before .before .operand-at) .result .read) ((c .before .before .before .before .before .operand-at) .last .1 .1 .0) (operand-here (((c .before .before .before .before .before .before .before .before .before .before .before .before .before .before .before .args) .rest) .now) ((c .before .before .before .before .before .before .before .before .before .before .loop) .i + 1) d refl ((c .before .before .before .before .before .before .before .before .before .before .loop) .args) (8 * (((c .before .before .before .before .before .before .before .before .before .before .before .before .before .before .before .args) .v) + ((c .before .before .before .before .before .before .before .before .before .before .loop) .n))) ((c .before .before .before .before .before .operand-at) .result .read) ((c .before .before .before .before .before .operand-at) .last .1 .1 .0) ((c .before .before .before .before .before .operand-at) .ensures .read)) ((c .if3) .taken) ((c .before .before .before .before .before .before .before .before .before .before .loop) .i), no-end (((c .before .before .before .before .before .before .before .before .before .before .before .before .before .before .before .args) .rest) .now) ((c .before .before .before .before .before .before .before .before .before .before .loop) .i))
+    let s : Start = search in
+    let g : At-loop = search in
+    let t : After-operand-at = search in
+    let rest = s .args .rest .now in
+    let i = g .loop .i + 1 in
+    let d = i + length (fieldIn rest i) in
+    let here = operand-here rest i d refl (part (s .args .p .args) (s .args .p .uses) (g .loop .image)) (8 * (s .args .v + g .loop .n)) (t .operand-at .result .read) (t .operand-at .last .1 .1 .0) (t .operand-at .ensures .read) in
+    let o = ordered-as (s .args .p) (s .args .image .now) (g .loop .image) (g .loop .inv .2 .size) (s .pre .0) in
+    let w = stop-on rest (g .loop .i) (g .loop .inv .1) (search) .within in
+    (bad-in (lineIn rest) (s .args .at + 1) (s .args .most) (s .args .v) (s .args .p) (s .args .image .now) (s .args .numbers .now) (g .loop .image) (g .loop .numbers) o i (g .loop .n) (g .loop .inv .0) w d refl (t .operand-at .result .read) (t .operand-at .last .1 .1 .0) (t .operand-at .kept .1 .1 .0) here (search) (g .loop .i), no-end rest (g .loop .i), bad-outside (lineIn rest) (s .args .at + 1) (s .args .most) (s .args .v) (s .args .p) (s .args .image .now) (s .args .numbers .now) (g .loop .image) (g .loop .numbers) o i (g .loop .n) (g .loop .inv .0) w d refl (t .operand-at .result .read) (t .operand-at .last .1 .1 .0) (t .operand-at .kept .1 .1 .0) here (g .loop .inv .2))
 
 put-operand-requires : tie.Need-put-operand-requires Inv-loop μ-loop
+unfolding part
 put-operand-requires c κs =
-    let l = (c .before .before .before .before .before .before .before .before .before .before .before .before .loop) .inv .0 in
-    (omega (arith, l .few, l .long-kinds, (c .before .before .before .before .before .before .before .before .before .before .before .before .before .before .before .before .before .pre) .0 .kinds), omega (arith, l .few, l .long-numbers, (c .before .before .before .before .before .before .before .before .before .before .before .before .before .before .before .before .before .pre) .0 .bases))
+    let s : Start = search in
+    let g : At-loop = search in
+    let t : After-operand-at = search in
+    let o = ordered-as (s .args .p) (s .args .image .now) (g .loop .image) (g .loop .inv .2 .size) (s .pre .0) in
+    let e = kinds-same (s .args .p) (g .loop .image) o (t .operand-at .last .1 .1 .0) (t .operand-at .kept .1 .1 .0) in
+    (omega (arith, e, g .loop .inv .0 .few, g .loop .inv .0 .long-kinds, s .pre .1 .kinds), omega (arith, g .loop .inv .0 .few, g .loop .inv .0 .long-numbers, s .pre .1 .bases))
 
 add-n : tie.Need-add-n Inv-loop μ-loop
 add-n c =
-    let l = (c .before .before .before .before .before .before .before .before .before .before .before .before .before .before .before .before .before .loop) .inv .0 in
-    omega (arith, l .few)
+    let t : After-operand-at = search in
+    omega (arith, loop-of t .loop .inv .0 .few, start-of t .pre .2)
 
 loop-less : tie.Need-loop-less Inv-loop μ-loop
 loop-less c =
-    let e = (c .before .before .before .before .before .before .before .before .before .before .before .before .operand-at) .ensures .ends ((c .before .before .before .before .before .before .before .if3) .left) in
-    let w = stop-behind (((c .before .before .before .before .before .before .before .before .before .before .before .before .before .before .before .before .before .before .before .before .before .before .args) .rest) .now) ((c .before .before .before .before .before .before .before .before .before .before .before .before .before .before .before .before .before .loop) .i + 1) ((c .before .before .before .before .before .before .before .before .before .before .before .before .operand-at) .result .next) (stop-on (((c .before .before .before .before .before .before .before .before .before .before .before .before .before .before .before .before .before .before .before .before .before .before .args) .rest) .now) ((c .before .before .before .before .before .before .before .before .before .before .before .before .before .before .before .before .before .loop) .i) ((c .before .before .before .before .before .before .before .before .before .before .before .before .before .before .before .before .before .loop) .inv .1) ((c .before .before .before .before .before .before .before .before .before .before .before .before .before .before .before .if1) .taken)) e in
-    let h = place-read (((c .before .before .before .before .before .before .before .before .before .before .before .before .before .before .before .before .before .before .before .before .before .before .args) .rest) .now) ((c .before .before .before .before .before .before .before .before .before .before .before .before .operand-at) .result .next) (w .place) in
+    let t : After-operand-at = search in
+    let e = t .operand-at .ensures .ends (search) in
+    let rest = start-of t .args .rest .now in
+    let w = stop-behind rest (loop-of t .loop .i + 1) (t .operand-at .result .next) (stop-here t) e in
+    let h = place-read rest (t .operand-at .result .next) (w .place) in
     omega arith
 
 loop-again : tie.Need-loop-again Inv-loop μ-loop
+unfolding part
 loop-again c =
-    let e = (c .before .before .before .before .before .before .before .before .before .before .before .before .operand-at) .ensures .ends ((c .before .before .before .before .before .before .before .if3) .left) in
-    (operands-on (lineIn (((c .before .before .before .before .before .before .before .before .before .before .before .before .before .before .before .before .before .before .before .before .before .before .args) .rest) .now)) (((c .before .before .before .before .before .before .before .before .before .before .before .before .before .before .before .before .before .before .before .before .before .before .args) .at) + 1) ((c .before .before .before .before .before .before .before .before .before .before .before .before .before .before .before .before .before .before .before .before .before .before .args) .most) ((c .before .before .before .before .before .before .before .before .before .before .before .before .before .before .before .before .before .before .before .before .before .before .args) .v) (operandTable (((c .before .before .before .before .before .before .before .before .before .before .before .before .before .before .before .before .before .before .before .before .before .before .args) .operands) .now) (((c .before .before .before .before .before .before .before .before .before .before .before .before .before .before .before .before .before .before .before .before .before .before .args) .numbers) .now) (((c .before .before .before .before .before .before .before .before .before .before .before .before .before .before .before .before .before .before .before .before .before .before .args) .args) .now)) (operandTable ((c .before .before .before .before .before .before .before .before .before .before .before .before .before .before .before .before .before .loop) .operands) ((c .before .before .before .before .before .before .before .before .before .before .before .before .before .before .before .before .before .loop) .numbers) ((c .before .before .before .before .before .before .before .before .before .before .before .before .before .before .before .before .before .loop) .args)) ((c .before .before .before .before .before .before .before .before .before .before .before .before .before .before .before .before .before .loop) .i + 1) ((c .before .before .before .before .before .before .before .before .before .before .before .before .before .before .before .before .before .loop) .n) ((c .before .before .before .before .before .before .before .before .before .before .before .before .before .before .before .before .before .loop) .inv .0) ((stop-on (((c .before .before .before .before .before .before .before .before .before .before .before .before .before .before .before .before .before .before .before .before .before .before .args) .rest) .now) ((c .before .before .before .before .before .before .before .before .before .before .before .before .before .before .before .before .before .loop) .i) ((c .before .before .before .before .before .before .before .before .before .before .before .before .before .before .before .before .before .loop) .inv .1) ((c .before .before .before .before .before .before .before .before .before .before .before .before .before .before .before .if1) .taken)) .within) ((c .before .before .before .before .before .before .before .before .before .before .before .before .operand-at) .result .next) e (let q = (c .before .before .before .before .before .before .before .before .before .before .before .before .before .before .if2) .left in omega (arith, (c .before .before .before .before .before .before .before .before .before .before .before .before .before .before .before .before .before .loop) .inv .0 .few)) ((c .before .before .before .before .before .before .before .before .before .before .before .before .before .before .before .before .before .before .before .before .before .before .pre) .0) ((c .before .before .before .before .before .before .before .before .before .before .before .before .operand-at) .result .read) ((c .before .before .before .before .put-operand) .last .1 .0) ((c .before .before .before .before .put-operand) .last .1 .1 .0) ((c .before .before .before .before .before .before .before .before .before .before .before .before .operand-at) .last .1 .1 .0) (operand-here (((c .before .before .before .before .before .before .before .before .before .before .before .before .before .before .before .before .before .before .before .before .before .before .args) .rest) .now) ((c .before .before .before .before .before .before .before .before .before .before .before .before .before .before .before .before .before .loop) .i + 1) ((c .before .before .before .before .before .before .before .before .before .before .before .before .operand-at) .result .next) e ((c .before .before .before .before .before .before .before .before .before .before .before .before .before .before .before .before .before .loop) .args) (8 * (((c .before .before .before .before .before .before .before .before .before .before .before .before .before .before .before .before .before .before .before .before .before .before .args) .v) + ((c .before .before .before .before .before .before .before .before .before .before .before .before .before .before .before .before .before .loop) .n))) ((c .before .before .before .before .before .before .before .before .before .before .before .before .operand-at) .result .read) ((c .before .before .before .before .before .before .before .before .before .before .before .before .operand-at) .last .1 .1 .0) ((c .before .before .before .before .before .before .before .before .before .before .before .before .operand-at) .ensures .read)) ((c .before .before .before .before .before .before .before .if3) .left) ((c .before .before .before .before .put-operand) .ensures .0) ((c .before .before .before .before .put-operand) .ensures .1), stop-behind (((c .before .before .before .before .before .before .before .before .before .before .before .before .before .before .before .before .before .before .before .before .before .before .args) .rest) .now) ((c .before .before .before .before .before .before .before .before .before .before .before .before .before .before .before .before .before .loop) .i + 1) ((c .before .before .before .before .before .before .before .before .before .before .before .before .operand-at) .result .next) (stop-on (((c .before .before .before .before .before .before .before .before .before .before .before .before .before .before .before .before .before .before .before .before .before .before .args) .rest) .now) ((c .before .before .before .before .before .before .before .before .before .before .before .before .before .before .before .before .before .loop) .i) ((c .before .before .before .before .before .before .before .before .before .before .before .before .before .before .before .before .before .loop) .inv .1) ((c .before .before .before .before .before .before .before .before .before .before .before .before .before .before .before .if1) .taken)) e)
-
-same-length-7 : tie.Need-same-length-7 Inv-loop μ-loop
-same-length-7 c = (c .before .before .loop) .inv .0 .long-kinds
-
-same-length-8 : tie.Need-same-length-8 Inv-loop μ-loop
-same-length-8 c = (c .before .before .loop) .inv .0 .long-numbers
-
-same-length-9 : tie.Need-same-length-9 Inv-loop μ-loop
-same-length-9 c = (c .before .before .loop) .inv .0 .long-args
+    let t : After-operand-at = search in
+    let q : After-put-operand = search in
+    let s = start-of t in
+    let g = loop-of t in
+    let rest = s .args .rest .now in
+    let i = g .loop .i + 1 in
+    let d = t .operand-at .result .next in
+    let e = t .operand-at .ensures .ends (search) in
+    let here = operand-here rest i d e (part (s .args .p .args) (s .args .p .uses) (g .loop .image)) (8 * (s .args .v + g .loop .n)) (t .operand-at .result .read) (t .operand-at .last .1 .1 .0) (t .operand-at .ensures .read) in
+    let o = ordered-as (s .args .p) (s .args .image .now) (g .loop .image) (g .loop .inv .2 .size) (s .pre .0) in
+    let w = stop-here t in
+    (on-in (lineIn rest) (s .args .at + 1) (s .args .most) (s .args .v) (s .args .p) (s .args .image .now) (s .args .numbers .now) (g .loop .image) (g .loop .numbers) o i (g .loop .n) (g .loop .inv .0) (w .within) d e (t .operand-at .result .read) (t .operand-at .last .1 .1 .0) (t .operand-at .kept .1 .1 .0) here (q .put-operand .last .1 .0) (q .put-operand .kept .1 .0) (one-more t) (s .pre .1) (search) (q .put-operand .ensures .0) (q .put-operand .last .1 .1 .0) (q .put-operand .ensures .1), stop-behind rest i d w e, on-outside (lineIn rest) (s .args .at + 1) (s .args .most) (s .args .v) (s .args .p) (s .args .image .now) (s .args .numbers .now) (g .loop .image) (g .loop .numbers) o i (g .loop .n) (g .loop .inv .0) (w .within) d e (t .operand-at .result .read) (t .operand-at .last .1 .1 .0) (t .operand-at .kept .1 .1 .0) here (q .put-operand .last .1 .0) (q .put-operand .kept .1 .0) (g .loop .inv .2))
 
 returns-3 : tie.Need-returns-3 Inv-loop μ-loop
-returns-3 c = (operands-end (lineIn (((c .before .before .before .before .before .before .before .args) .rest) .now)) (((c .before .before .before .before .before .before .before .args) .at) + 1) ((c .before .before .before .before .before .before .before .args) .most) ((c .before .before .before .before .before .before .before .args) .v) (operandTable (((c .before .before .before .before .before .before .before .args) .operands) .now) (((c .before .before .before .before .before .before .before .args) .numbers) .now) (((c .before .before .before .before .before .before .before .args) .args) .now)) (operandTable ((c .before .before .loop) .operands) ((c .before .before .loop) .numbers) ((c .before .before .loop) .args)) ((c .before .before .loop) .i + 1) ((c .before .before .loop) .n) ((c .before .before .loop) .inv .0) (line-over (((c .before .before .before .before .before .before .before .args) .rest) .now) ((c .before .before .loop) .i) ((c .before .before .loop) .inv .1) ((c .if1) .left)) ((c .before .before .loop) .i), λ q. stop-last (((c .before .before .before .before .before .before .before .args) .rest) .now) ((c .before .before .loop) .i) ((c .before .before .loop) .inv .1) ((c .if1) .left))
+returns-3 c =
+    let s : Start = search in
+    let g : At-loop = search in
+    let rest = s .args .rest .now in
+    (operands-end (lineIn rest) (s .args .at + 1) (s .args .most) (s .args .v) (operandsIn (s .args .p) (s .args .image .now) (s .args .numbers .now)) (operandsIn (s .args .p) (g .loop .image) (g .loop .numbers)) (g .loop .i + 1) (g .loop .n) (g .loop .inv .0) (line-over rest (g .loop .i) (g .loop .inv .1) (search)) (g .loop .i), λ q. stop-last rest (g .loop .i) (g .loop .inv .1) (search), g .loop .inv .2)
 
 pub read-operands-spec : {M : Type 1} → statement M
 read-operands-spec =
@@ -117,24 +156,29 @@ read-operands-spec =
     μ-loop
     loop-holds
     shared-slice-read-if1
-    same-length
-    same-length-2
-    same-length-3
+    (λ c. let g : At-loop = search in g .loop .inv .2 .size)
+    (λ c. let g : At-loop = search in g .loop .inv .0 .long-numbers)
     returns
-    cast-w
+    (λ c. search needs)
     add-w
     add-operand-at
-    mul-operand-at
+    (λ c. search needs)
+    sub-operand-at
+    (λ c. search needs)
+    (λ c. search needs)
+    (λ c. search needs)
     operand-at-requires
-    same-length-4
-    same-length-5
-    same-length-6
+    (λ c. search needs)
+    (λ c. search needs)
     returns-2
+    (λ c. search needs)
+    (λ c. search needs)
+    (λ c. search needs)
+    (λ c. search needs)
     put-operand-requires
     add-n
     loop-less
     loop-again
-    same-length-7
-    same-length-8
-    same-length-9
+    (λ c. let g : At-loop = search in g .loop .inv .2 .size)
+    (λ c. let g : At-loop = search in g .loop .inv .0 .long-numbers)
     returns-3)

@@ -1,92 +1,73 @@
+use Prim.Native.Nat.{_+_, _-_, _*_, _≤_}
 use native.Mathlib.Omega.{arith}
-use Prim.Native.Nat.{_+_, _*_}
-use lib.ListN.{length}
-use Rattle.text_decode.proofs.state.AnswerLaws.{refuted, decided}
 use borrow.Author.Needs.{needs}
+use Rattle.text_decode.proofs.state.Room.{few-rows, few-parts, few-operands, few-numbers, few-args, few-instrs, by-blocks}
 use Rattle.text_decode.proofs.state.has_room.Statement.{statement}
 use Rattle.text_decode.proofs.state.has_room.Tie as tie
 
-add-if1 : tie.Need-add-if1
-add-if1 c = search needs
+abbrev start-of : tie.Else4 → tie.Start
+start-of e = search
 
-mul-if1 : tie.Need-mul-if1
-mul-if1 c = search needs
+first-of : (e : tie.Else4) → 4 * (start-of e .args .u .rows + 1) ≤ start-of e .args .p .blocks - start-of e .args .p .rows
+first-of e = search
+
+second-of : (e : tie.Else4) → 17 * (start-of e .args .u .rows + 1) ≤ start-of e .args .p .operands - start-of e .args .p .parts
+second-of e = search
+
+third-of : (e : tie.Else4) → 4 * (start-of e .args .u .operands + 16) ≤ start-of e .args .p .args - start-of e .args .p .operands
+third-of e = search
 
 returns : tie.Need-returns
-returns c = refuted (λ r. let h = r .rows in omega (arith, (c .if1) .taken))
-
-add-if2 : tie.Need-add-if2
-add-if2 c = search needs
-
-mul-if2 : tie.Need-mul-if2
-mul-if2 c = search needs
+returns c =
+    let s : tie.Start = search in
+    few-rows (s .args .p) (s .args .numbers) (s .args .u) (search)
 
 returns-2 : tie.Need-returns-2
-returns-2 c = refuted (λ r. let h = r .parts in omega (arith, (c .if2) .taken))
-
-add-if3 : tie.Need-add-if3
-add-if3 c = search needs
-
-mul-if3 : tie.Need-mul-if3
-mul-if3 c = search needs
+returns-2 c =
+    let s : tie.Start = search in
+    few-parts (s .args .p) (s .args .numbers) (s .args .u) (search)
 
 returns-3 : tie.Need-returns-3
-returns-3 c = refuted (λ r. let h = r .operands .kinds in omega (arith, (c .if3) .taken))
-
-add-if4 : tie.Need-add-if4
-add-if4 c = search needs
+returns-3 c =
+    let s : tie.Start = search in
+    few-operands (s .args .p) (s .args .numbers) (s .args .u) (search)
 
 returns-4 : tie.Need-returns-4
-returns-4 c = refuted (λ r. let h = r .operands .bases in omega (arith, (c .if4) .taken))
-
-add-if5 : tie.Need-add-if5
-add-if5 c = search needs
-
-mul-if5 : tie.Need-mul-if5
-mul-if5 c = search needs
+returns-4 c =
+    let s : tie.Start = search in
+    few-numbers (s .args .p) (s .args .numbers) (s .args .u) (search)
 
 returns-5 : tie.Need-returns-5
-returns-5 c = refuted (λ r. let h = r .operands .rows in omega (arith, (c .if5) .taken))
+returns-5 c =
+    let s : tie.Start = search in
+    few-args (s .args .p) (s .args .numbers) (s .args .u) (search)
 
-add-if6 : tie.Need-add-if6
-add-if6 c = search needs
-
-mul-if6 : tie.Need-mul-if6
-mul-if6 c = search needs
+sub-if6 : tie.Need-sub-if6
+sub-if6 c =
+    let s : tie.Start = search in
+    omega (arith, s .pre .0 .1)
 
 returns-6 : tie.Need-returns-6
-returns-6 c = refuted (λ r. let h = r .instrs in omega (arith, (c .if6) .taken))
+returns-6 c =
+    let s : tie.Start = search in
+    few-instrs (s .args .p) (s .args .numbers) (s .args .u) (search)
 
-add-result : tie.Need-add-result
-add-result c = search needs
-
-mul-result : tie.Need-mul-result
-mul-result c = search needs
+sub-result : tie.Need-sub-result
+sub-result c =
+    let e : tie.Else4 = search in
+    omega (arith, start-of e .pre .0 .1)
 
 returns-7 : tie.Need-returns-7
-returns-7 c = decided (2 * (((c .before .before .before .before .before .before .before .before .before .before .before .before .before .args) .u) .blocks + 1)) (length (((c .before .before .before .before .before .before .before .before .before .before .before .before .before .args) .blocks) .now)) (λ h. record { rows = (c .before .before .before .before .before .before .before .before .before .before .before .if1) .left; parts = (c .before .before .before .before .before .before .before .before .before .if2) .left; operands = record { kinds = (c .before .before .before .before .before .before .before .if3) .left; bases = (c .before .before .before .before .before .if4) .left; rows = (c .before .before .before .if5) .left }; instrs = (c .before .if6) .left; blocks = h }) (λ r. r .blocks)
+returns-7 c =
+    let e : tie.Else4 = search in
+    let s = start-of e in
+    by-blocks (s .args .p) (s .args .numbers) (s .args .u) (first-of e) (second-of e) (third-of e) (e .if4 .left) (search) (search)
 
 pub has-room-spec : {M : Type 1} → statement M
 has-room-spec =
     tie.close
     (tie.spec
-    add-if1
-    mul-if1
-    returns
-    add-if2
-    mul-if2
-    returns-2
-    add-if3
-    mul-if3
-    returns-3
-    add-if4
-    returns-4
-    add-if5
-    mul-if5
-    returns-5
-    add-if6
-    mul-if6
-    returns-6
-    add-result
-    mul-result
-    returns-7)
+    (λ c. search needs) (λ c. search needs) (λ c. search needs) returns (λ c. search needs) (λ c. search needs) (λ c. search needs) returns-2
+    (λ c. search needs) (λ c. search needs) (λ c. search needs) returns-3 (λ c. search needs) returns-4 (λ c. search needs) (λ c. search needs)
+    (λ c. search needs) returns-5 sub-if6 (λ c. let s : tie.Start = search in omega (arith, s .pre .1)) (λ c. let s : tie.Start = search in omega (arith, s .pre .1)) returns-6
+    (λ c. let s : tie.Start = search in omega (arith, s .pre .1)) (λ c. let s : tie.Start = search in omega (arith, s .pre .1)) sub-result returns-7)

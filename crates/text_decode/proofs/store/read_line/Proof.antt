@@ -1,125 +1,119 @@
-use mathlib.Core.Path.{ap, _∙_}
-use Prim.Native.Nat.{_+_}
+use mathlib.Core.Path.{_≡_, ap, _∙_}
+use mathlib.Core.Bool.{true}
+use Prim.Native.Nat.{_+_, _<_, _≤_}
 use native.Mathlib.Omega.{arith}
+use lib.ListN.{length}
 use borrow.Author.Tests.{not-true, not-false}
+use Rattle.image.proofs.Laws.{nothing}
+use Rattle.text.specs.Bytes.{fieldsOf}
+use Rattle.text.specs.Grammar.{entryOf, forms}
 use Rattle.text_lines.specs.Parts.{lineIn}
 use Rattle.text_lines.proofs.InLine.{field-read, stop-behind}
-use Rattle.text_fields.specs.names.Names.{nameCode}
+use Rattle.text_fields.specs.names.Names.{nameCode, formAt}
 use Rattle.text_decode.specs.line.Fields.{fieldsFrom}
+use Rattle.text_decode.specs.store.Store.{storeIn}
+use Rattle.text_decode.proofs.line.OperandImage.{ordered-as}
 use Rattle.text_decode.proofs.line.StopLaws.{same-field}
-use Rattle.text_decode.specs.store.Store.{store}
 use Rattle.text_decode.proofs.store.EntryLaws.{entry-is}
 use Rattle.text_decode.proofs.store.PutLaws.{no-line-is}
-use Rattle.text_decode.proofs.store.LineLaws.{line-unnamed, line-bad, line-good}
+use Rattle.text_decode.proofs.store.LineLaws.{line-unnamed}
+use Rattle.text_decode.proofs.store.LineImage.{fields-outside, rows-kept, blocks-kept, instrs-kept, bad-in, good-in, good-outside}
 use borrow.Author.Needs.{needs}
 use Rattle.text_decode.proofs.store.read_line.Statement.{statement}
 use Rattle.text_decode.proofs.store.read_line.Tie as tie
 
-field-end-requires : tie.Need-field-end-requires
-field-end-requires c κs = (c .before .before .before .before .before .before .before .before .pre) .2
+abbrev start-of : tie.After-name-code → tie.Start
+start-of n = search
 
-sub-name-code : tie.Need-sub-name-code
-sub-name-code c = search needs
+abbrev end-of : tie.After-name-code → tie.After-field-end
+end-of n = search
 
-part-name-code-start : tie.Need-part-name-code-start
-part-name-code-start c = search needs
+abbrev name-of : tie.After-read-rest → tie.After-name-code
+name-of r = search
+
+code-of : (r : tie.After-read-rest) → name-of r .name-code .result < 34
+code-of r = search
+
+-- the line's fields, by the form of its name
+fields-are : (n : tie.After-name-code) → entryOf (fieldsOf (lineIn (start-of n .args .text .now))) ≡ formAt forms (n .name-code .result) (fieldsFrom (lineIn (start-of n .args .text .now)) (end-of n .field-end .result + 1))
+fields-are n =
+    let s = start-of n in
+    let e = end-of n in
+    entry-is (lineIn (s .args .text .now)) (e .field-end .result) (n .name-code .result) (e .field-end .ensures) (n .name-code .ensures ∙ ap nameCode (same-field (s .args .text .now) 0 (e .field-end .result) (s .pre .3) (e .field-end .ensures)))
 
 part-name-code-end : tie.Need-part-name-code-end
 part-name-code-end c =
-    let h = field-read (((c .before .before .before .before .before .before .before .before .before .args) .text) .now) 0 ((c .field-end) .result) ((c .before .before .before .before .before .before .before .before .before .pre) .2) ((c .field-end) .ensures) in
+    let s : tie.Start = search in
+    let e : tie.After-field-end = search in
+    let h = field-read (s .args .text .now) 0 (e .field-end .result) (s .pre .3) (e .field-end .ensures) in
     omega arith
 
-name-code-requires : tie.Need-name-code-requires
-name-code-requires c κs = search needs
-
-no-line-requires : tie.Need-no-line-requires
-no-line-requires c κs = search needs
-
 returns : tie.Need-returns
-returns c = no-line-is (((c .before .before .before .before .before .before .before .before .before .before .before .before .before .args) .text) .now) (lineIn (((c .before .before .before .before .before .before .before .before .before .before .before .before .before .args) .text) .now)) ((c .before .before .before .before .before .before .before .before .before .before .before .before .before .args) .u) (store (((c .before .before .before .before .before .before .before .before .before .before .before .before .before .args) .rows) .now) (((c .before .before .before .before .before .before .before .before .before .before .before .before .before .args) .parts) .now) (((c .before .before .before .before .before .before .before .before .before .before .before .before .before .args) .operands) .now) (((c .before .before .before .before .before .before .before .before .before .before .before .before .before .args) .numbers) .now) (((c .before .before .before .before .before .before .before .before .before .before .before .before .before .args) .args) .now) (((c .before .before .before .before .before .before .before .before .before .before .before .before .before .args) .instrs) .now) (((c .before .before .before .before .before .before .before .before .before .before .before .before .before .args) .blocks) .now)) (store (((c .before .before .before .before .before .before .before .before .before .before .before .before .before .args) .rows) .now) (((c .before .before .before .before .before .before .before .before .before .before .before .before .before .args) .parts) .now) (((c .before .before .before .before .before .before .before .before .before .before .before .before .before .args) .operands) .now) (((c .before .before .before .before .before .before .before .before .before .before .before .before .before .args) .numbers) .now) (((c .before .before .before .before .before .before .before .before .before .before .before .before .before .args) .args) .now) (((c .before .before .before .before .before .before .before .before .before .before .before .before .before .args) .instrs) .now) (((c .before .before .before .before .before .before .before .before .before .before .before .before .before .args) .blocks) .now)) ((c .no-line) .result) ((c .no-line) .ensures) (line-unnamed (lineIn (((c .before .before .before .before .before .before .before .before .before .before .before .before .before .args) .text) .now)) ((c .before .before .before .before .before .before .before .before .before .before .before .before .before .args) .u) (store (((c .before .before .before .before .before .before .before .before .before .before .before .before .before .args) .rows) .now) (((c .before .before .before .before .before .before .before .before .before .before .before .before .before .args) .parts) .now) (((c .before .before .before .before .before .before .before .before .before .before .before .before .before .args) .operands) .now) (((c .before .before .before .before .before .before .before .before .before .before .before .before .before .args) .numbers) .now) (((c .before .before .before .before .before .before .before .before .before .before .before .before .before .args) .args) .now) (((c .before .before .before .before .before .before .before .before .before .before .before .before .before .args) .instrs) .now) (((c .before .before .before .before .before .before .before .before .before .before .before .before .before .args) .blocks) .now)) ((c .before .before .name-code) .result) (fieldsFrom (lineIn (((c .before .before .before .before .before .before .before .before .before .before .before .before .before .args) .text) .now)) ((c .before .before .before .before .field-end) .result + 1)) (entry-is (lineIn (((c .before .before .before .before .before .before .before .before .before .before .before .before .before .args) .text) .now)) ((c .before .before .before .before .field-end) .result) ((c .before .before .name-code) .result) ((c .before .before .before .before .field-end) .ensures) ((c .before .before .name-code) .ensures ∙ ap nameCode (same-field (((c .before .before .before .before .before .before .before .before .before .before .before .before .before .args) .text) .now) 0 ((c .before .before .before .before .field-end) .result) ((c .before .before .before .before .before .before .before .before .before .before .before .before .before .pre) .2) ((c .before .before .before .before .field-end) .ensures)))) ((c .before .if1) .taken))
+returns c =
+    let n : tie.After-name-code = search in
+    let o : tie.After-no-line = search in
+    let h : 34 ≤ n .name-code .result = search in
+    let s = start-of n in
+    let a = s .args in
+    let σ = storeIn (a .p) (a .image .now) (a .numbers .now) in
+    let q = no-line-is (a .text .now) (lineIn (a .text .now)) (a .u) σ σ (o .no-line .result) (o .no-line .ensures) (line-unnamed (lineIn (a .text .now)) (a .u) σ (n .name-code .result) (fieldsFrom (lineIn (a .text .now)) (end-of n .field-end .result + 1)) (fields-are n) h) in
+    (q .0, q .1, nothing (a .p .rows) (a .p .uses) (a .image .now))
 
 read-rest-requires : tie.Need-read-rest-requires
-read-rest-requires c κs = ((c .before .before .before .before .if1) .left, stop-behind (((c .before .before .before .before .before .before .before .before .before .before .before .before .before .before .before .before .args) .text) .now) 0 ((c .before .before .before .before .before .before .before .field-end) .result) ((c .before .before .before .before .before .before .before .before .before .before .before .before .before .before .before .before .pre) .2) ((c .before .before .before .before .before .before .before .field-end) .ensures), (c .before .before .before .before .before .before .before .before .before .before .before .before .before .before .before .before .pre) .0 .parts, (c .before .before .before .before .before .before .before .before .before .before .before .before .before .before .before .before .pre) .0 .operands, (c .before .before .before .before .before .before .before .before .before .before .before .before .before .before .before .before .pre) .1)
-
-no-line-requires-2 : tie.Need-no-line-requires-2
-no-line-requires-2 c κs = search needs
-
-same-length : tie.Need-same-length
-same-length c = search needs
-
-same-length-2 : tie.Need-same-length-2
-same-length-2 c = search needs
-
-same-length-3 : tie.Need-same-length-3
-same-length-3 c = search needs
-
-same-length-4 : tie.Need-same-length-4
-same-length-4 c = search needs
+read-rest-requires c κs =
+    let n : tie.After-name-code = search in
+    let s = start-of n in
+    let e = end-of n in
+    (s .pre .0, search, stop-behind (s .args .text .now) 0 (e .field-end .result) (s .pre .3) (e .field-end .ensures), s .pre .1 .parts, s .pre .1 .operands, s .pre .2)
 
 returns-2 : tie.Need-returns-2
-returns-2 c = no-line-is (((c .before .before .before .before .before .before .before .before .before .before .before .before .before .before .before .before .before .before .before .before .before .before .before .before .before .before .before .before .args) .text) .now) (lineIn (((c .before .before .before .before .before .before .before .before .before .before .before .before .before .before .before .before .before .before .before .before .before .before .before .before .before .before .before .before .args) .text) .now)) ((c .before .before .before .before .before .before .before .before .before .before .before .before .before .before .before .before .before .before .before .before .before .before .before .before .before .before .before .before .args) .u) (store (((c .before .before .before .before .before .before .before .before .before .before .before .before .before .before .before .before .before .before .before .before .before .before .before .before .before .before .before .before .args) .rows) .now) (((c .before .before .before .before .before .before .before .before .before .before .before .before .before .before .before .before .before .before .before .before .before .before .before .before .before .before .before .before .args) .parts) .now) (((c .before .before .before .before .before .before .before .before .before .before .before .before .before .before .before .before .before .before .before .before .before .before .before .before .before .before .before .before .args) .operands) .now) (((c .before .before .before .before .before .before .before .before .before .before .before .before .before .before .before .before .before .before .before .before .before .before .before .before .before .before .before .before .args) .numbers) .now) (((c .before .before .before .before .before .before .before .before .before .before .before .before .before .before .before .before .before .before .before .before .before .before .before .before .before .before .before .before .args) .args) .now) (((c .before .before .before .before .before .before .before .before .before .before .before .before .before .before .before .before .before .before .before .before .before .before .before .before .before .before .before .before .args) .instrs) .now) (((c .before .before .before .before .before .before .before .before .before .before .before .before .before .before .before .before .before .before .before .before .before .before .before .before .before .before .before .before .args) .blocks) .now)) (store (((c .before .before .before .before .before .before .before .before .before .before .before .before .before .before .before .before .before .before .before .before .before .before .before .before .before .before .before .before .args) .rows) .now) ((c .before .before .before .before .before .before .before .before .before .before .before .read-rest) .last .1 .1 .1 .0) ((c .before .before .before .before .before .before .before .before .before .before .before .read-rest) .last .1 .1 .1 .1 .0) ((c .before .before .before .before .before .before .before .before .before .before .before .read-rest) .last .1 .1 .1 .1 .1 .0) ((c .before .before .before .before .before .before .before .before .before .before .before .read-rest) .last .1 .1 .1 .1 .1 .1 .0) (((c .before .before .before .before .before .before .before .before .before .before .before .before .before .before .before .before .before .before .before .before .before .before .before .before .before .before .before .before .args) .instrs) .now) (((c .before .before .before .before .before .before .before .before .before .before .before .before .before .before .before .before .before .before .before .before .before .before .before .before .before .before .before .before .args) .blocks) .now)) ((c .no-line2) .result) ((c .no-line2) .ensures) (line-bad (lineIn (((c .before .before .before .before .before .before .before .before .before .before .before .before .before .before .before .before .before .before .before .before .before .before .before .before .before .before .before .before .args) .text) .now)) ((c .before .before .before .before .before .before .before .before .before .before .before .before .before .before .before .before .before .before .before .before .before .before .before .before .before .before .before .before .args) .u) (store (((c .before .before .before .before .before .before .before .before .before .before .before .before .before .before .before .before .before .before .before .before .before .before .before .before .before .before .before .before .args) .rows) .now) (((c .before .before .before .before .before .before .before .before .before .before .before .before .before .before .before .before .before .before .before .before .before .before .before .before .before .before .before .before .args) .parts) .now) (((c .before .before .before .before .before .before .before .before .before .before .before .before .before .before .before .before .before .before .before .before .before .before .before .before .before .before .before .before .args) .operands) .now) (((c .before .before .before .before .before .before .before .before .before .before .before .before .before .before .before .before .before .before .before .before .before .before .before .before .before .before .before .before .args) .numbers) .now) (((c .before .before .before .before .before .before .before .before .before .before .before .before .before .before .before .before .before .before .before .before .before .before .before .before .before .before .before .before .args) .args) .now) (((c .before .before .before .before .before .before .before .before .before .before .before .before .before .before .before .before .before .before .before .before .before .before .before .before .before .before .before .before .args) .instrs) .now) (((c .before .before .before .before .before .before .before .before .before .before .before .before .before .before .before .before .before .before .before .before .before .before .before .before .before .before .before .before .args) .blocks) .now)) ((c .before .before .before .before .before .before .before .before .before .before .before .before .before .before .before .before .before .name-code) .result) (fieldsFrom (lineIn (((c .before .before .before .before .before .before .before .before .before .before .before .before .before .before .before .before .before .before .before .before .before .before .before .before .before .before .before .before .args) .text) .now)) ((c .before .before .before .before .before .before .before .before .before .before .before .before .before .before .before .before .before .before .before .field-end) .result + 1)) (entry-is (lineIn (((c .before .before .before .before .before .before .before .before .before .before .before .before .before .before .before .before .before .before .before .before .before .before .before .before .before .before .before .before .args) .text) .now)) ((c .before .before .before .before .before .before .before .before .before .before .before .before .before .before .before .before .before .before .before .field-end) .result) ((c .before .before .before .before .before .before .before .before .before .before .before .before .before .before .before .before .before .name-code) .result) ((c .before .before .before .before .before .before .before .before .before .before .before .before .before .before .before .before .before .before .before .field-end) .ensures) ((c .before .before .before .before .before .before .before .before .before .before .before .before .before .before .before .before .before .name-code) .ensures ∙ ap nameCode (same-field (((c .before .before .before .before .before .before .before .before .before .before .before .before .before .before .before .before .before .before .before .before .before .before .before .before .before .before .before .before .args) .text) .now) 0 ((c .before .before .before .before .before .before .before .before .before .before .before .before .before .before .before .before .before .before .before .field-end) .result) ((c .before .before .before .before .before .before .before .before .before .before .before .before .before .before .before .before .before .before .before .before .before .before .before .before .before .before .before .before .pre) .2) ((c .before .before .before .before .before .before .before .before .before .before .before .before .before .before .before .before .before .before .before .field-end) .ensures)))) ((c .before .before .before .before .before .before .before .before .before .before .before .read-rest) .last .1 .1 .1 .0) ((c .before .before .before .before .before .before .before .before .before .before .before .read-rest) .last .1 .1 .1 .1 .0) ((c .before .before .before .before .before .before .before .before .before .before .before .read-rest) .last .1 .1 .1 .1 .1 .0) ((c .before .before .before .before .before .before .before .before .before .before .before .read-rest) .last .1 .1 .1 .1 .1 .1 .0) ((c .before .before .before .before .before .before .before .before .before .before .before .read-rest) .result) ((c .before .before .before .before .before .before .before .before .before .before .before .read-rest) .ensures .0) (not-true ((c .before .before .before .before .before .before .before .before .before .before .before .read-rest) .result .ok) ((c .before .if2) .taken)))
+returns-2 c =
+    let r : tie.After-read-rest = search in
+    let o : tie.After-no-line2 = search in
+    let f = not-true (r .read-rest .result .ok) (search) in
+    let n = name-of r in
+    let s = start-of n in
+    let a = s .args in
+    let w = r .read-rest .last in
+    let q = no-line-is (a .text .now) (lineIn (a .text .now)) (a .u) (storeIn (a .p) (a .image .now) (a .numbers .now)) (storeIn (a .p) (w .1 .1 .1 .0) (w .1 .1 .1 .1 .1 .0)) (o .no-line2 .result) (o .no-line2 .ensures) (bad-in (lineIn (a .text .now)) (a .u) (a .p) (a .image .now) (a .numbers .now) (s .pre .0) (n .name-code .result) (fieldsFrom (lineIn (a .text .now)) (end-of n .field-end .result + 1)) (fields-are n) (w .1 .1 .1 .0) (w .1 .1 .1 .1 .1 .0) (r .read-rest .ensures .2) (r .read-rest .result) (r .read-rest .ensures .0) f) in
+    (q .0, q .1, fields-outside (a .p) (a .image .now) (w .1 .1 .1 .0) (s .pre .0) (r .read-rest .ensures .2))
 
 put-line-requires : tie.Need-put-line-requires
-put-line-requires c κs = ((c .before .before .before .before .before .before .before .before .before .before .before .before .before .before .before .before .before .before .if1) .left, (c .before .before .before .before .before .before .before .before .before .before .before .before .before .before .before .before .before .before .before .before .before .before .before .before .before .before .before .before .before .before .pre) .0 .rows, (c .before .before .before .before .before .before .before .before .before .before .before .before .before .before .before .before .before .before .before .before .before .before .before .before .before .before .before .before .before .before .pre) .0 .instrs, (c .before .before .before .before .before .before .before .before .before .before .before .before .before .before .before .before .before .before .before .before .before .before .before .before .before .before .before .before .before .before .pre) .0 .blocks, (c .before .before .before .before .before .before .before .before .before .before .before .before .before .before .before .before .before .before .before .before .before .before .before .before .before .before .before .before .before .before .pre) .1)
+put-line-requires c κs =
+    let r : tie.After-read-rest = search in
+    let n = name-of r in
+    let s = start-of n in
+    let l = r .read-rest .last .1 .1 .1 .0 in
+    let o = s .pre .0 in
+    let w = r .read-rest .ensures .2 in
+    (ordered-as (s .args .p) (s .args .image .now) l (w .size) o, code-of r, rw (ap length (rows-kept (s .args .p) (s .args .image .now) l o w)) (s .pre .1 .rows), rw (ap length (instrs-kept (s .args .p) (s .args .image .now) l o w)) (s .pre .1 .instrs), rw (ap length (blocks-kept (s .args .p) (s .args .image .now) l o w)) (s .pre .1 .blocks), s .pre .2)
 
-add-t15 : tie.Need-add-t15
-add-t15 c =
-    let e = (c .before .before .before .before .before .before .before .before .before .before .before .before .before .before .before .before .before .before .before .before .before .read-rest) .ensures .1 (not-false ((c .before .before .before .before .before .before .before .before .before .before .before .before .before .before .before .before .before .before .before .before .before .read-rest) .result .ok) ((c .before .before .before .before .before .before .before .before .before .before .before .if2) .left)) in
-    let h = (c .before .before .before .before .before .before .before .before .before .before .before .before .before .before .before .before .before .before .before .before .before .before .before .before .before .before .before .before .before .before .before .before .before .before .before .before .before .before .pre) .2 .ended in
-    omega (arith, (c .before .before .before .before .before .before .before .before .before .before .before .before .before .before .before .before .before .before .before .before .before .before .before .before .before .before .before .before .before .before .before .before .before .before .before .before .before .before .good) .0 .0)
-
-same-length-5 : tie.Need-same-length-5
-same-length-5 c = search needs
-
-same-length-6 : tie.Need-same-length-6
-same-length-6 c = search needs
-
-same-length-7 : tie.Need-same-length-7
-same-length-7 c = search needs
-
-same-length-8 : tie.Need-same-length-8
-same-length-8 c = search needs
-
-same-length-9 : tie.Need-same-length-9
-same-length-9 c = search needs
-
-same-length-10 : tie.Need-same-length-10
-same-length-10 c = search needs
-
-same-length-11 : tie.Need-same-length-11
-same-length-11 c = search needs
+add-t11 : tie.Need-add-t11
+add-t11 c =
+    let r : tie.After-read-rest = search in
+    let ok = not-false (r .read-rest .result .ok) (search) in
+    let s = start-of (name-of r) in
+    let e = r .read-rest .ensures .1 ok in
+    let h = s .pre .3 .ended in
+    omega (arith, s .good .0 .0)
 
 returns-3 : tie.Need-returns-3
 returns-3 c =
-    let w = (c .before .before .before .before .before .before .before .put-line) .last in
-    let t = not-false ((c .before .before .before .before .before .before .before .before .before .before .before .before .before .before .before .before .before .before .before .before .before .read-rest) .result .ok) ((c .before .before .before .before .before .before .before .before .before .before .before .if2) .left) in
-    (line-good (lineIn (((c .before .before .before .before .before .before .before .before .before .before .before .before .before .before .before .before .before .before .before .before .before .before .before .before .before .before .before .before .before .before .before .before .before .before .before .before .before .before .args) .text) .now)) ((c .before .before .before .before .before .before .before .before .before .before .before .before .before .before .before .before .before .before .before .before .before .before .before .before .before .before .before .before .before .before .before .before .before .before .before .before .before .before .args) .u) (store (((c .before .before .before .before .before .before .before .before .before .before .before .before .before .before .before .before .before .before .before .before .before .before .before .before .before .before .before .before .before .before .before .before .before .before .before .before .before .before .args) .rows) .now) (((c .before .before .before .before .before .before .before .before .before .before .before .before .before .before .before .before .before .before .before .before .before .before .before .before .before .before .before .before .before .before .before .before .before .before .before .before .before .before .args) .parts) .now) (((c .before .before .before .before .before .before .before .before .before .before .before .before .before .before .before .before .before .before .before .before .before .before .before .before .before .before .before .before .before .before .before .before .before .before .before .before .before .before .args) .operands) .now) (((c .before .before .before .before .before .before .before .before .before .before .before .before .before .before .before .before .before .before .before .before .before .before .before .before .before .before .before .before .before .before .before .before .before .before .before .before .before .before .args) .numbers) .now) (((c .before .before .before .before .before .before .before .before .before .before .before .before .before .before .before .before .before .before .before .before .before .before .before .before .before .before .before .before .before .before .before .before .before .before .before .before .before .before .args) .args) .now) (((c .before .before .before .before .before .before .before .before .before .before .before .before .before .before .before .before .before .before .before .before .before .before .before .before .before .before .before .before .before .before .before .before .before .before .before .before .before .before .args) .instrs) .now) (((c .before .before .before .before .before .before .before .before .before .before .before .before .before .before .before .before .before .before .before .before .before .before .before .before .before .before .before .before .before .before .before .before .before .before .before .before .before .before .args) .blocks) .now)) ((c .before .before .before .before .before .before .before .before .before .before .before .before .before .before .before .before .before .before .before .before .before .before .before .before .before .before .before .name-code) .result) (fieldsFrom (lineIn (((c .before .before .before .before .before .before .before .before .before .before .before .before .before .before .before .before .before .before .before .before .before .before .before .before .before .before .before .before .before .before .before .before .before .before .before .before .before .before .args) .text) .now)) ((c .before .before .before .before .before .before .before .before .before .before .before .before .before .before .before .before .before .before .before .before .before .before .before .before .before .before .before .before .before .field-end) .result + 1)) (entry-is (lineIn (((c .before .before .before .before .before .before .before .before .before .before .before .before .before .before .before .before .before .before .before .before .before .before .before .before .before .before .before .before .before .before .before .before .before .before .before .before .before .before .args) .text) .now)) ((c .before .before .before .before .before .before .before .before .before .before .before .before .before .before .before .before .before .before .before .before .before .before .before .before .before .before .before .before .before .field-end) .result) ((c .before .before .before .before .before .before .before .before .before .before .before .before .before .before .before .before .before .before .before .before .before .before .before .before .before .before .before .name-code) .result) ((c .before .before .before .before .before .before .before .before .before .before .before .before .before .before .before .before .before .before .before .before .before .before .before .before .before .before .before .before .before .field-end) .ensures) ((c .before .before .before .before .before .before .before .before .before .before .before .before .before .before .before .before .before .before .before .before .before .before .before .before .before .before .before .name-code) .ensures ∙ ap nameCode (same-field (((c .before .before .before .before .before .before .before .before .before .before .before .before .before .before .before .before .before .before .before .before .before .before .before .before .before .before .before .before .before .before .before .before .before .before .before .before .before .before .args) .text) .now) 0 ((c .before .before .before .before .before .before .before .before .before .before .before .before .before .before .before .before .before .before .before .before .before .before .before .before .before .before .before .before .before .field-end) .result) ((c .before .before .before .before .before .before .before .before .before .before .before .before .before .before .before .before .before .before .before .before .before .before .before .before .before .before .before .before .before .before .before .before .before .before .before .before .before .before .pre) .2) ((c .before .before .before .before .before .before .before .before .before .before .before .before .before .before .before .before .before .before .before .before .before .before .before .before .before .before .before .before .before .field-end) .ensures)))) ((c .before .before .before .before .before .before .before .before .before .before .before .before .before .before .before .before .before .before .before .before .before .read-rest) .last .1 .1 .1 .0) ((c .before .before .before .before .before .before .before .before .before .before .before .before .before .before .before .before .before .before .before .before .before .read-rest) .last .1 .1 .1 .1 .0) ((c .before .before .before .before .before .before .before .before .before .before .before .before .before .before .before .before .before .before .before .before .before .read-rest) .last .1 .1 .1 .1 .1 .0) ((c .before .before .before .before .before .before .before .before .before .before .before .before .before .before .before .before .before .before .before .before .before .read-rest) .last .1 .1 .1 .1 .1 .1 .0) ((c .before .before .before .before .before .before .before .before .before .before .before .before .before .before .before .before .before .before .before .before .before .read-rest) .result) ((c .before .before .before .before .before .before .before .before .before .before .before .before .before .before .before .before .before .before .before .before .before .read-rest) .ensures .0) t ((c .before .before .before .before .before .before .before .before .before .before .before .before .before .before .before .before .before .before .before .before .before .before .before .before .before .before .before .before .before .before .before .before .before .before .before .before .before .before .pre) .0) (w .1 .1 .0) (w .1 .1 .1 .0) (w .1 .1 .1 .1 .0) ((c .before .before .before .before .before .before .before .put-line) .result) ((c .before .before .before .before .before .before .before .before .before .before .before .before .before .before .before .before .before .before .before .before .before .before .before .before .before .before .if1) .left) ((c .before .before .before .before .before .before .before .put-line) .ensures), λ h. (c .before .before .before .before .before .before .before .before .before .before .before .before .before .before .before .before .before .before .before .before .before .read-rest) .ensures .1 t)
+    let r : tie.After-read-rest = search in
+    let t : tie.After-put-line = search in
+    let ok = not-false (r .read-rest .result .ok) (search) in
+    let n = name-of r in
+    let s = start-of n in
+    let a = s .args in
+    let w = r .read-rest .last in
+    let l₂ = t .put-line .last .1 .1 .0 in
+    let o₁ = ordered-as (a .p) (a .image .now) (w .1 .1 .1 .0) (r .read-rest .ensures .2 .size) (s .pre .0) in
+    (good-in (lineIn (a .text .now)) (a .u) (a .p) (a .image .now) (a .numbers .now) (s .pre .0) (n .name-code .result) (fieldsFrom (lineIn (a .text .now)) (end-of n .field-end .result + 1)) (fields-are n) (w .1 .1 .1 .0) (w .1 .1 .1 .1 .1 .0) (r .read-rest .ensures .2) (r .read-rest .result) (r .read-rest .ensures .0) o₁ l₂ (t .put-line .ensures .1) (t .put-line .result) ok (s .pre .1) (code-of r) (t .put-line .ensures .0), λ h. r .read-rest .ensures .1 ok, good-outside (lineIn (a .text .now)) (a .u) (a .p) (a .image .now) (a .numbers .now) (s .pre .0) (n .name-code .result) (fieldsFrom (lineIn (a .text .now)) (end-of n .field-end .result + 1)) (fields-are n) (w .1 .1 .1 .0) (w .1 .1 .1 .1 .1 .0) (r .read-rest .ensures .2) (r .read-rest .result) (r .read-rest .ensures .0) o₁ l₂ (t .put-line .ensures .1) (t .put-line .result))
 
 pub read-line-spec : {M : Type 1} → statement M
 read-line-spec =
     tie.close
     (tie.spec
-    field-end-requires
-    sub-name-code
-    part-name-code-start
-    part-name-code-end
-    name-code-requires
-    no-line-requires
-    returns
-    read-rest-requires
-    no-line-requires-2
-    same-length
-    same-length-2
-    same-length-3
-    same-length-4
-    returns-2
-    put-line-requires
-    add-t15
-    same-length-5
-    same-length-6
-    same-length-7
-    same-length-8
-    same-length-9
-    same-length-10
-    same-length-11
-    returns-3)
+    (λ c κs. search needs) (λ c. search needs) (λ c. search needs) part-name-code-end (λ c κs. search needs) (λ c κs. search needs) returns
+    read-rest-requires (λ c κs. search needs) (λ c. search needs) (λ c. search needs) returns-2
+    put-line-requires add-t11 (λ c. search needs) (λ c. search needs) returns-3)

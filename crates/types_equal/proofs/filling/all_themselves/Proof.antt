@@ -7,10 +7,6 @@ use lib.ListN.{length}
 use Rattle.types_equal.specs.filling.Filling.{Themselves}
 use Rattle.types_equal.proofs.filling.all_themselves.Statement.{statement}
 use Rattle.types_equal.proofs.filling.all_themselves.Tie as tie
-use Rattle.types_equal.proofs.filling.all_themselves.Reads as reads
-use Rattle.types_equal.proofs.filling.all_themselves.Lts as lts
-use Rattle.types_equal.proofs.filling.is_itself.Reads as is-itself-reads
-use Rattle.types_rows.proofs.at.Reads as at-reads
 
 abbrev Inv-loop : tie.InvT-loop
 Inv-loop rows parts p args j₀ j = (j ≤ length args) × Themselves rows parts p args j
@@ -19,31 +15,36 @@ abbrev μ-loop : tie.MeasureT-loop
 μ-loop rows parts p args j₀ j = length args - j
 
 loop-holds : tie.Need-loop-holds Inv-loop μ-loop
-loop-holds c = (omega arith, λ j h. absurd (omega arith))
+loop-holds c = search needs
 
 add-at : tie.Need-add-at Inv-loop μ-loop
-add-at c = omega (arith, (c .before .before .before .before .before .pre) .0, (c .before .before .before .before .before .pre) .1)
+add-at c = search needs
 
 at-requires : tie.Need-at-requires Inv-loop μ-loop
-at-requires c κs = search needs
+at-requires c κs = search
 
 at-requires-2 : tie.Need-at-requires-2 Inv-loop μ-loop
-at-requires-2 c κs = search needs
+at-requires-2 c κs = search
 
 is-itself-requires : tie.Need-is-itself-requires Inv-loop μ-loop
-is-itself-requires c κs = (c .at2) .ensures .1
+is-itself-requires c κs = search
 
 returns : tie.Need-returns Inv-loop μ-loop
 returns c = none-true
 
 add-j : tie.Need-add-j Inv-loop μ-loop
-add-j c = omega arith
+add-j c = search needs
 
 loop-less : tie.Need-loop-less Inv-loop μ-loop
-loop-less c = omega arith
+loop-less c = search needs
 
 loop-again : tie.Need-loop-again Inv-loop μ-loop
-loop-again c = (omega arith, themselves-next ((c .before .before .before .before .before .before .before .before .before .args) .rows .now) ((c .before .before .before .before .before .before .before .before .before .args) .parts .now) ((c .before .before .before .before .before .before .before .before .before .args) .args .now) ((c .before .before .before .before .before .before .before .before .before .args) .p) ((c .before .before .before .before .before .loop) .j) ((c .before .before .before .before .before .loop) .inv .1) ((c .before .before .before .at) .ensures .0) ((c .before .before .at2) .ensures .0) ((c .before .is-itself) .ensures) ((c .if1) .left))
+loop-again c =
+    let s : tie.Start Inv-loop μ-loop = search in
+    let loop2 : tie.At-loop Inv-loop μ-loop = search in
+    let at3 : tie.After-at Inv-loop μ-loop = search in
+    let at4 : tie.After-at2 Inv-loop μ-loop = search in
+    (omega arith, themselves-next ((s .args) .rows .now) ((s .args) .parts .now) ((s .args) .args .now) ((s .args) .p) ((loop2 .loop) .j) ((loop2 .loop) .inv .1) ((at3 .at) .ensures .0) ((at4 .at2) .ensures .0) ((c .before .is-itself) .ensures) ((c .if1) .left))
 
 returns-2 : tie.Need-returns-2 Inv-loop μ-loop
 returns-2 c = λ t j h. (c .before .loop) .inv .1 j (omega (arith, (c .loop-test) .left))
@@ -51,16 +52,4 @@ returns-2 c = λ t j h. (c .before .loop) .inv .1 j (omega (arith, (c .loop-test
 pub all-themselves-spec : {M : Type 1} → statement M
 all-themselves-spec =
     tie.close
-    (tie.spec
-    Inv-loop
-    μ-loop
-    loop-holds
-    add-at
-    at-requires
-    at-requires-2
-    is-itself-requires
-    returns
-    add-j
-    loop-less
-    loop-again
-    returns-2)
+    (tie.spec Inv-loop μ-loop loop-holds add-at at-requires at-requires-2 is-itself-requires returns add-j loop-less loop-again returns-2)

@@ -1,3 +1,4 @@
+use borrow.Author.Needs.{needs}
 use mathlib.Core.Path.{refl, _∙_}
 use Prim.Native.Nat.{_-_}
 use native.Mathlib.Omega.{arith}
@@ -9,113 +10,111 @@ use Rattle.types_equal.proofs.filling.Itself.{closed-stack}
 use Rattle.types_equal.proofs.filling.Fill.{big-most, f-many, f-off, f-on}
 use Rattle.types_equal.proofs.filling.fill_code.Statement.{statement}
 use Rattle.types_equal.proofs.filling.fill_code.Tie as tie
-use Rattle.types_equal.proofs.filling.fill_code.Reads as reads
-use Rattle.types_equal.proofs.filling.fill_code.Lts as lts
-use Rattle.types_equal.proofs.filling.eq_filled.Reads as eq-filled-reads
-use Rattle.types_equal.proofs.eq_parts.Reads as eq-parts-reads
-use Rattle.types_equal.proofs.value_pairs.same_letters.Reads as same-letters-reads
-use Rattle.types_rows.proofs.letter_count.Reads as letter-count-reads
 
 letter-count-requires : tie.Need-letter-count-requires
-letter-count-requires c κs = (c .before .before .before .before .before .pre) .2
+letter-count-requires c κs = search
 
 letter-count-requires-2 : tie.Need-letter-count-requires-2
-letter-count-requires-2 c κs = (c .before .before .before .before .before .before .pre) .4
+letter-count-requires-2 c κs = search
 
 returns : tie.Need-returns
-returns c = f-many (tab ((c .before .before .before .before .before .before .before .before .args) .rows .now) ((c .before .before .before .before .before .before .before .before .args) .parts .now)) ((c .before .before .before .before .before .before .before .before .args) .args .now) ((c .before .before .before .before .before .before .before .before .args) .l) ((c .before .before .before .before .before .before .before .before .args) .r) ((c .before .before .before .before .before .before .before .before .args) .x) ((c .before .before .before .before .before .before .before .before .args) .p) ((c .before .before .before .before .before .before .before .before .args) .y) ((c .before .before .before .before .before .before .before .before .args) .q) (length ((c .before .before .before .before .before .before .before .before .args) .args .now)) ((c .before .before .letter-count) .result) ((c .before .letter-count2) .result) refl ((c .before .before .letter-count) .ensures .0) ((c .before .letter-count2) .ensures .0) ((c .if1) .taken)
+returns c =
+    let s : tie.Start = search in
+    let lett : tie.After-letter-count = search in
+    f-many (tab _ _) _ _ _ _ _ _ _ _ _ _ refl ((lett .letter-count) .ensures .0) ((c .before .letter-count2) .ensures .0) ((c .if1) .taken)
 
 add-same-letters : tie.Need-add-same-letters
-add-same-letters c =
-    let p1 = (c .before .before .before .before .before .before .before .before .pre) .1 in
-    let p2 = (c .before .before .before .before .before .before .before .before .pre) .2 in
-    let p3 = (c .before .before .before .before .before .before .before .before .pre) .3 in
-    let p4 = (c .before .before .before .before .before .before .before .before .pre) .4 in
-    omega arith
+add-same-letters c = search needs
 
 add-same-letters-2 : tie.Need-add-same-letters-2
-add-same-letters-2 c =
-    let p1 = (c .before .before .before .before .before .before .before .before .pre) .1 in
-    let p2 = (c .before .before .before .before .before .before .before .before .pre) .2 in
-    let p3 = (c .before .before .before .before .before .before .before .before .pre) .3 in
-    let p4 = (c .before .before .before .before .before .before .before .before .pre) .4 in
-    omega arith
+add-same-letters-2 c = search needs
 
 same-letters-requires : tie.Need-same-letters-requires
-same-letters-requires c κs =
-    let p1 = (c .before .before .before .before .before .before .before .before .pre) .1 in
-    let p2 = (c .before .before .before .before .before .before .before .before .pre) .2 in
-    let p3 = (c .before .before .before .before .before .before .before .before .pre) .3 in
-    let p4 = (c .before .before .before .before .before .before .before .before .pre) .4 in
-    let la = (c .before .before .letter-count) .ensures .1 in
-    let lb = (c .before .letter-count2) .ensures .1 in
-    (omega arith, omega arith)
+same-letters-requires c κs = search needs
 
 eq-filled-requires : tie.Need-eq-filled-requires
 eq-filled-requires c κs =
-    let p1 = (c .before .before .before .before .before .before .before .before .before .before .before .before .pre) .1 in
-    let p2 = (c .before .before .before .before .before .before .before .before .before .before .before .before .pre) .2 in
-    let p3 = (c .before .before .before .before .before .before .before .before .before .before .before .before .pre) .3 in
-    let p4 = (c .before .before .before .before .before .before .before .before .before .before .before .before .pre) .4 in
-    let la = (c .before .before .before .before .before .before .letter-count) .ensures .1 in
-    let lb = (c .before .before .before .before .before .letter-count2) .ensures .1 in
-    let fl = few-left (tab ((c .before .before .before .before .before .before .before .before .before .before .before .before .args) .rows .now) ((c .before .before .before .before .before .before .before .before .before .before .before .before .args) .parts .now)) ((c .before .before .before .before .before .before .before .before .before .before .before .before .args) .args .now) ((c .before .before .before .before .before .before .before .before .before .before .before .before .pre) .0) in
-    let fr = few-right (tab ((c .before .before .before .before .before .before .before .before .before .before .before .before .args) .rows .now) ((c .before .before .before .before .before .before .before .before .before .before .before .before .args) .parts .now)) ((c .before .before .before .before .before .before .before .before .before .before .before .before .args) .args .now) ((c .before .before .before .before .before .before .before .before .before .before .before .before .pre) .0) in
-    let nl = (c .before .before .before .before .if1) .left in
-    let bm = big-most (length ((c .before .before .before .before .before .before .before .before .before .before .before .before .args) .args .now)) in
-    (tabled-low (tab ((c .before .before .before .before .before .before .before .before .before .before .before .before .args) .rows .now) ((c .before .before .before .before .before .before .before .before .before .before .before .before .args) .parts .now)) ((c .before .before .before .before .before .before .before .before .before .before .before .before .args) .args .now) ((c .before .before .before .before .before .before .before .before .before .before .before .before .args) .x) ((c .before .before .before .before .before .before .before .before .before .before .before .before .args) .y) ((c .before .before .before .before .before .before .before .before .before .before .before .before .pre) .0) (omega arith) (omega arith), p2, la, lb, (c .before .before .before .before .before .before .letter-count) .ensures .0, nl, spare-low (length ((c .before .before .before .before .before .before .before .before .before .before .before .before .args) .args .now)) ((c .before .before .before .before .before .before .before .before .before .before .before .before .args) .l) ((c .before .before .before .before .before .before .before .before .before .before .before .before .args) .r) (length ((c .before .before .before .before .before .before .before .before .before .before .before .before .args) .left .now)) (length ((c .before .before .before .before .before .before .before .before .before .before .before .before .args) .right .now)) ((c .before .before .before .before .before .before .before .before .before .before .before .before .args) .x) ((c .before .before .before .before .before .before .before .before .before .before .before .before .args) .y) ((c .before .before .before .before .before .before .before .before .before .before .before .before .pre) .5) (omega arith) (omega arith), closed-stack (tab ((c .before .before .before .before .before .before .before .before .before .before .before .before .args) .rows .now) ((c .before .before .before .before .before .before .before .before .before .before .before .before .args) .parts .now)) ((c .before .before .before .before .before .before .before .before .before .before .before .before .args) .l) ((c .before .before .before .before .before .before .before .before .before .before .before .before .args) .x) ((c .before .before .before .before .before .before .before .before .before .before .before .before .args) .p) ((c .before .before .before .before .before .before .before .before .before .before .before .before .pre) .6))
+    let s : tie.Start = search in
+    let lett : tie.After-letter-count = search in
+    let lett2 : tie.After-letter-count2 = search in
+    let if : tie.Else1 = search in
+    let p1 = (s .pre) .1 in
+    let p2 = (s .pre) .2 in
+    let p3 = (s .pre) .3 in
+    let p4 = (s .pre) .4 in
+    let la = (lett .letter-count) .ensures .1 in
+    let lb = (lett2 .letter-count2) .ensures .1 in
+    let fl = few-left (tab ((s .args) .rows .now) ((s .args) .parts .now)) ((s .args) .args .now) ((s .pre) .0) in
+    let fr = few-right (tab ((s .args) .rows .now) ((s .args) .parts .now)) ((s .args) .args .now) ((s .pre) .0) in
+    let nl = (if .if1) .left in
+    let bm = big-most (length ((s .args) .args .now)) in
+    (tabled-low (tab ((s .args) .rows .now) ((s .args) .parts .now)) ((s .args) .args .now) ((s .args) .x) ((s .args) .y) ((s .pre) .0) (omega arith) (omega arith), p2, la, lb, (lett .letter-count) .ensures .0, nl, spare-low (length ((s .args) .args .now)) ((s .args) .l) ((s .args) .r) (length ((s .args) .left .now)) (length ((s .args) .right .now)) ((s .args) .x) ((s .args) .y) ((s .pre) .5) (omega arith) (omega arith), closed-stack (tab ((s .args) .rows .now) ((s .args) .parts .now)) ((s .args) .l) ((s .args) .x) ((s .args) .p) ((s .pre) .6))
 
 eq-parts-requires : tie.Need-eq-parts-requires
 eq-parts-requires c κs =
-    let p1 = (c .before .before .before .before .before .before .before .before .before .before .before .before .before .before .before .before .before .before .before .before .pre) .1 in
-    let p2 = (c .before .before .before .before .before .before .before .before .before .before .before .before .before .before .before .before .before .before .before .before .pre) .2 in
-    let p3 = (c .before .before .before .before .before .before .before .before .before .before .before .before .before .before .before .before .before .before .before .before .pre) .3 in
-    let p4 = (c .before .before .before .before .before .before .before .before .before .before .before .before .before .before .before .before .before .before .before .before .pre) .4 in
-    let la = (c .before .before .before .before .before .before .before .before .before .before .before .before .before .before .letter-count) .ensures .1 in
-    let lb = (c .before .before .before .before .before .before .before .before .before .before .before .before .before .letter-count2) .ensures .1 in
-    let fl = few-left (tab ((c .before .before .before .before .before .before .before .before .before .before .before .before .before .before .before .before .before .before .before .before .args) .rows .now) ((c .before .before .before .before .before .before .before .before .before .before .before .before .before .before .before .before .before .before .before .before .args) .parts .now)) ((c .before .before .before .before .before .before .before .before .before .before .before .before .before .before .before .before .before .before .before .before .args) .args .now) ((c .before .before .before .before .before .before .before .before .before .before .before .before .before .before .before .before .before .before .before .before .pre) .0) in
-    let fr = few-right (tab ((c .before .before .before .before .before .before .before .before .before .before .before .before .before .before .before .before .before .before .before .before .args) .rows .now) ((c .before .before .before .before .before .before .before .before .before .before .before .before .before .before .before .before .before .before .before .before .args) .parts .now)) ((c .before .before .before .before .before .before .before .before .before .before .before .before .before .before .before .before .before .before .before .before .args) .args .now) ((c .before .before .before .before .before .before .before .before .before .before .before .before .before .before .before .before .before .before .before .before .pre) .0) in
-    let nl = (c .before .before .before .before .before .before .before .before .before .before .before .before .if1) .left in
-    let bm = big-most (length ((c .before .before .before .before .before .before .before .before .before .before .before .before .before .before .before .before .before .before .before .before .args) .args .now)) in
-    ((c .before .before .before .before .before .before .before .before .before .before .before .before .before .before .before .before .before .before .before .before .pre) .0, omega arith, omega arith, omega arith, omega arith, omega arith, omega arith, omega arith, spare-kept (length ((c .before .before .before .before .before .before .before .before .before .before .before .before .before .before .before .before .before .before .before .before .args) .args .now)) ((c .before .before .before .before .before .before .before .before .before .before .before .before .before .before .before .before .before .before .before .before .args) .l) ((c .before .before .before .before .before .before .before .before .before .before .before .before .before .before .before .before .before .before .before .before .args) .r) (length ((c .before .before .before .before .before .before .before .before .before .before .before .before .before .before .before .before .before .before .before .before .args) .left .now)) (length ((c .before .before .before .before .before .before .before .before .before .before .before .before .before .before .before .before .before .before .before .before .args) .right .now)) (length ((c .before .before .before .before .before .before .before .eq-filled) .last .1 .1 .1 .1 .1 .1 .1 .1 .1 .0)) (length ((c .before .before .before .before .before .before .before .eq-filled) .last .1 .1 .1 .1 .1 .1 .1 .1 .1 .1 .0)) ((c .before .before .before .before .before .before .before .before .before .before .before .before .before .before .before .before .before .before .before .before .pre) .5) ((c .before .before .before .before .before .before .before .eq-filled) .kept .1 .1 .1 .1 .1 .1 .1 .1 .1 .0) ((c .before .before .before .before .before .before .before .eq-filled) .kept .1 .1 .1 .1 .1 .1 .1 .1 .1 .1 .0))
+    let s = c .before .before .before .before .before .before .before .before .before .before .before .before .before .before .before .before .before .before .before .before in
+    let lett = c .before .before .before .before .before .before .before .before .before .before .before .before .before .before in
+    let lett2 = c .before .before .before .before .before .before .before .before .before .before .before .before .before in
+    let if = c .before .before .before .before .before .before .before .before .before .before .before .before in
+    let eqfi = c .before .before .before .before .before .before .before in
+    let p1 = (s .pre) .1 in
+    let p2 = (s .pre) .2 in
+    let p3 = (s .pre) .3 in
+    let p4 = (s .pre) .4 in
+    let la = (lett .letter-count) .ensures .1 in
+    let lb = (lett2 .letter-count2) .ensures .1 in
+    let fl = few-left (tab ((s .args) .rows .now) ((s .args) .parts .now)) ((s .args) .args .now) ((s .pre) .0) in
+    let fr = few-right (tab ((s .args) .rows .now) ((s .args) .parts .now)) ((s .args) .args .now) ((s .pre) .0) in
+    let nl = (if .if1) .left in
+    let bm = big-most (length ((s .args) .args .now)) in
+    ((s .pre) .0, omega arith, omega arith, omega arith, omega arith, omega arith, omega arith, omega arith, spare-kept (length ((s .args) .args .now)) ((s .args) .l) ((s .args) .r) (length ((s .args) .left .now)) (length ((s .args) .right .now)) (length ((eqfi .eq-filled) .last .1 .1 .1 .1 .1 .1 .1 .1 .1 .0)) (length ((eqfi .eq-filled) .last .1 .1 .1 .1 .1 .1 .1 .1 .1 .1 .0)) ((s .pre) .5) ((eqfi .eq-filled) .kept .1 .1 .1 .1 .1 .1 .1 .1 .1 .0) ((eqfi .eq-filled) .kept .1 .1 .1 .1 .1 .1 .1 .1 .1 .1 .0))
 
 same-length : tie.Need-same-length
-same-length c = ((c .before .before .before .before .eq-parts) .kept .1 .1 .1 .1 .1 .1 .1 .1 .1 .1 .1 .1 .1 .1 .0) ∙ ((c .before .before .before .before .before .before .before .before .before .before .before .before .eq-filled) .kept .1 .1 .1 .1 .1 .1 .1 .1 .1 .0)
+same-length c = search needs
 
 same-length-2 : tie.Need-same-length-2
-same-length-2 c = ((c .before .before .before .before .eq-parts) .kept .1 .1 .1 .1 .1 .1 .1 .1 .1 .1 .1 .1 .1 .1 .1 .0) ∙ ((c .before .before .before .before .before .before .before .before .before .before .before .before .eq-filled) .kept .1 .1 .1 .1 .1 .1 .1 .1 .1 .1 .0)
+same-length-2 c = search needs
 
 returns-2 : tie.Need-returns-2
-returns-2 c = both-same ((c .before .before .before .before .before .before .before .if3) .taken) ((c .before .before .before .before .before .before .before .before .before .before .before .before .eq-filled) .ensures) ((c .before .before .before .before .eq-parts) .ensures) ∙ f-on (tab ((c .before .before .before .before .before .before .before .before .before .before .before .before .before .before .before .before .before .before .before .before .before .before .before .before .before .args) .rows .now) ((c .before .before .before .before .before .before .before .before .before .before .before .before .before .before .before .before .before .before .before .before .before .before .before .before .before .args) .parts .now)) ((c .before .before .before .before .before .before .before .before .before .before .before .before .before .before .before .before .before .before .before .before .before .before .before .before .before .args) .args .now) ((c .before .before .before .before .before .before .before .before .before .before .before .before .before .before .before .before .before .before .before .before .before .before .before .before .before .args) .l) ((c .before .before .before .before .before .before .before .before .before .before .before .before .before .before .before .before .before .before .before .before .before .before .before .before .before .args) .r) ((c .before .before .before .before .before .before .before .before .before .before .before .before .before .before .before .before .before .before .before .before .before .before .before .before .before .args) .x) ((c .before .before .before .before .before .before .before .before .before .before .before .before .before .before .before .before .before .before .before .before .before .before .before .before .before .args) .p) ((c .before .before .before .before .before .before .before .before .before .before .before .before .before .before .before .before .before .before .before .before .before .before .before .before .before .args) .y) ((c .before .before .before .before .before .before .before .before .before .before .before .before .before .before .before .before .before .before .before .before .before .before .before .before .before .args) .q) (length ((c .before .before .before .before .before .before .before .before .before .before .before .before .before .before .before .before .before .before .before .before .before .before .before .before .before .args) .args .now)) ((c .before .before .before .before .before .before .before .before .before .before .before .before .before .before .before .before .before .before .before .letter-count) .result) ((c .before .before .before .before .before .before .before .before .before .before .before .before .before .before .before .before .before .before .letter-count2) .result) refl ((c .before .before .before .before .before .before .before .before .before .before .before .before .before .before .before .before .before .before .before .letter-count) .ensures .0) ((c .before .before .before .before .before .before .before .before .before .before .before .before .before .before .before .before .before .before .letter-count2) .ensures .0) ((c .before .before .before .before .before .before .before .before .before .before .before .before .before .before .before .before .before .if1) .left) ((c .before .before .before .before .before .before .before .before .before .before .before .before .before .before .before .before .same-letters) .ensures) ((c .before .before .before .before .before .before .before .before .before .before .before .before .before .before .before .if2) .taken)
+returns-2 c =
+    let s = c .before .before .before .before .before .before .before .before .before .before .before .before .before .before .before .before .before .before .before .before .before .before .before .before .before in
+    let lett = c .before .before .before .before .before .before .before .before .before .before .before .before .before .before .before .before .before .before .before in
+    let lett2 = c .before .before .before .before .before .before .before .before .before .before .before .before .before .before .before .before .before .before in
+    let if = c .before .before .before .before .before .before .before .before .before .before .before .before .before .before .before .before .before in
+    let same2 = c .before .before .before .before .before .before .before .before .before .before .before .before .before .before .before .before in
+    let if4 = c .before .before .before .before .before .before .before .before .before .before .before .before .before .before .before in
+    let eqfi = c .before .before .before .before .before .before .before .before .before .before .before .before in
+    let if5 = c .before .before .before .before .before .before .before in
+    let eqpa = c .before .before .before .before in
+    both-same ((if5 .if3) .taken) ((eqfi .eq-filled) .ensures) ((eqpa .eq-parts) .ensures) ∙ f-on (tab _ _) _ _ _ _ _ _ _ _ _ _ refl ((lett .letter-count) .ensures .0) ((lett2 .letter-count2) .ensures .0) ((if .if1) .left) ((same2 .same-letters) .ensures) ((if4 .if2) .taken)
 
 same-length-3 : tie.Need-same-length-3
-same-length-3 c = ((c .before .before .before .before .before .eq-filled) .kept .1 .1 .1 .1 .1 .1 .1 .1 .1 .0)
+same-length-3 c = search
 
 same-length-4 : tie.Need-same-length-4
-same-length-4 c = ((c .before .before .before .before .before .eq-filled) .kept .1 .1 .1 .1 .1 .1 .1 .1 .1 .1 .0)
+same-length-4 c = search
 
 returns-3 : tie.Need-returns-3
-returns-3 c = one-differs _ ((c .if3) .left) ((c .before .before .before .before .before .eq-filled) .ensures) ∙ f-on (tab ((c .before .before .before .before .before .before .before .before .before .before .before .before .before .before .before .before .before .before .args) .rows .now) ((c .before .before .before .before .before .before .before .before .before .before .before .before .before .before .before .before .before .before .args) .parts .now)) ((c .before .before .before .before .before .before .before .before .before .before .before .before .before .before .before .before .before .before .args) .args .now) ((c .before .before .before .before .before .before .before .before .before .before .before .before .before .before .before .before .before .before .args) .l) ((c .before .before .before .before .before .before .before .before .before .before .before .before .before .before .before .before .before .before .args) .r) ((c .before .before .before .before .before .before .before .before .before .before .before .before .before .before .before .before .before .before .args) .x) ((c .before .before .before .before .before .before .before .before .before .before .before .before .before .before .before .before .before .before .args) .p) ((c .before .before .before .before .before .before .before .before .before .before .before .before .before .before .before .before .before .before .args) .y) ((c .before .before .before .before .before .before .before .before .before .before .before .before .before .before .before .before .before .before .args) .q) (length ((c .before .before .before .before .before .before .before .before .before .before .before .before .before .before .before .before .before .before .args) .args .now)) ((c .before .before .before .before .before .before .before .before .before .before .before .before .letter-count) .result) ((c .before .before .before .before .before .before .before .before .before .before .before .letter-count2) .result) refl ((c .before .before .before .before .before .before .before .before .before .before .before .before .letter-count) .ensures .0) ((c .before .before .before .before .before .before .before .before .before .before .before .letter-count2) .ensures .0) ((c .before .before .before .before .before .before .before .before .before .before .if1) .left) ((c .before .before .before .before .before .before .before .before .before .same-letters) .ensures) ((c .before .before .before .before .before .before .before .before .if2) .taken)
+returns-3 c =
+    let s = c .before .before .before .before .before .before .before .before .before .before .before .before .before .before .before .before .before .before in
+    let lett = c .before .before .before .before .before .before .before .before .before .before .before .before in
+    let lett2 = c .before .before .before .before .before .before .before .before .before .before .before in
+    let if = c .before .before .before .before .before .before .before .before .before .before in
+    let same2 = c .before .before .before .before .before .before .before .before .before in
+    let if4 = c .before .before .before .before .before .before .before .before in
+    let eqfi = c .before .before .before .before .before in
+    one-differs _ ((c .if3) .left) ((eqfi .eq-filled) .ensures) ∙ f-on (tab _ _) _ _ _ _ _ _ _ _ _ _ refl ((lett .letter-count) .ensures .0) ((lett2 .letter-count2) .ensures .0) ((if .if1) .left) ((same2 .same-letters) .ensures) ((if4 .if2) .taken)
 
 returns-4 : tie.Need-returns-4
-returns-4 c = f-off (tab ((c .before .before .before .before .before .before .before .before .before .before .args) .rows .now) ((c .before .before .before .before .before .before .before .before .before .before .args) .parts .now)) ((c .before .before .before .before .before .before .before .before .before .before .args) .args .now) ((c .before .before .before .before .before .before .before .before .before .before .args) .l) ((c .before .before .before .before .before .before .before .before .before .before .args) .r) ((c .before .before .before .before .before .before .before .before .before .before .args) .x) ((c .before .before .before .before .before .before .before .before .before .before .args) .p) ((c .before .before .before .before .before .before .before .before .before .before .args) .y) ((c .before .before .before .before .before .before .before .before .before .before .args) .q) (length ((c .before .before .before .before .before .before .before .before .before .before .args) .args .now)) ((c .before .before .before .before .letter-count) .result) ((c .before .before .before .letter-count2) .result) refl ((c .before .before .before .before .letter-count) .ensures .0) ((c .before .before .before .letter-count2) .ensures .0) ((c .before .before .if1) .left) ((c .before .same-letters) .ensures) ((c .if2) .left)
+returns-4 c =
+    let s : tie.Start = search in
+    let lett : tie.After-letter-count = search in
+    let lett2 : tie.After-letter-count2 = search in
+    let if : tie.Else1 = search in
+    f-off (tab _ _) _ _ _ _ _ _ _ _ _ _ refl ((lett .letter-count) .ensures .0) ((lett2 .letter-count2) .ensures .0) ((if .if1) .left) ((c .before .same-letters) .ensures) ((c .if2) .left)
 
 pub fill-code-spec : {M : Type 1} → statement M
 fill-code-spec =
     tie.close
-    (tie.spec
-    letter-count-requires
-    letter-count-requires-2
-    returns
-    add-same-letters
-    add-same-letters-2
-    same-letters-requires
-    eq-filled-requires
-    eq-parts-requires
-    same-length
-    same-length-2
-    returns-2
-    same-length-3
-    same-length-4
-    returns-3
-    returns-4)
+    (tie.spec letter-count-requires letter-count-requires-2 returns add-same-letters add-same-letters-2 same-letters-requires
+    eq-filled-requires eq-parts-requires same-length same-length-2 returns-2 same-length-3 same-length-4 returns-3 returns-4)

@@ -3,16 +3,12 @@ use Rattle.types.proofs.Equal.{none-true}
 use borrow.Author.Needs.{needs}
 use Rattle.types_equal.proofs.filling.is_itself.Statement.{statement}
 use Rattle.types_equal.proofs.filling.is_itself.Tie as tie
-use Rattle.types_equal.proofs.filling.is_itself.Reads as reads
-use Rattle.types_equal.proofs.filling.is_itself.Lts as lts
-use Rattle.types_equal.proofs.filling.variable_kind.Reads as variable-kind-reads
-use Rattle.types_rows.proofs.entry.Reads as entry-reads
 
 entry-requires : tie.Need-entry-requires
 entry-requires c κs = search needs
 
 variable-kind-requires : tie.Need-variable-kind-requires
-variable-kind-requires c κs = search needs
+variable-kind-requires c κs = search
 
 returns : tie.Need-returns
 returns c = none-true
@@ -21,7 +17,11 @@ entry-requires-2 : tie.Need-entry-requires-2
 entry-requires-2 c κs = search needs
 
 returns-2 : tie.Need-returns-2
-returns-2 c = itself-is ((c .before .before .before .before .before .args) .rows .now) ((c .before .before .before .before .before .args) .x) ((c .before .before .before .before .before .args) .a) ((c .before .before .before .before .before .args) .j) ((c .before .before .before .entry) .ensures .0) ((c .before .before .variable-kind) .ensures) ((c .before .if1) .left) ((c .entry2) .ensures .0)
+returns-2 c =
+    let s : tie.Start = search in
+    let entr : tie.After-entry = search in
+    let vari : tie.After-variable-kind = search in
+    itself-is _ _ _ _ ((entr .entry) .ensures .0) ((vari .variable-kind) .ensures) ((c .before .if1) .left) ((c .entry2) .ensures .0)
 
 pub is-itself-spec : {M : Type 1} → statement M
 is-itself-spec =

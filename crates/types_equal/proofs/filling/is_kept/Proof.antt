@@ -7,9 +7,6 @@ use Rattle.types_equal.proofs.filling.Itself.{stack-kept}
 use borrow.Author.Needs.{needs}
 use Rattle.types_equal.proofs.filling.is_kept.Statement.{statement}
 use Rattle.types_equal.proofs.filling.is_kept.Tie as tie
-use Rattle.types_equal.proofs.filling.is_kept.Reads as reads
-use Rattle.types_equal.proofs.filling.is_kept.Lts as lts
-use Rattle.types_equal.proofs.filling.all_themselves.Reads as all-themselves-reads
 
 returns : tie.Need-returns
 returns c = none-true
@@ -21,7 +18,7 @@ add-all-themselves : tie.Need-add-all-themselves
 add-all-themselves c = search needs
 
 sub-all-themselves : tie.Need-sub-all-themselves
-sub-all-themselves c = search needs
+sub-all-themselves c = search
 
 add-all-themselves-2 : tie.Need-add-all-themselves-2
 add-all-themselves-2 c = search needs
@@ -30,16 +27,12 @@ all-themselves-requires : tie.Need-all-themselves-requires
 all-themselves-requires c κs = search needs
 
 returns-3 : tie.Need-returns-3
-returns-3 c = λ t b. stack-kept (tab ((c .before .before .before .before .before .before .args) .rows .now) ((c .before .before .before .before .before .before .args) .parts .now)) ((c .before .before .before .before .before .before .args) .args .now) ((c .before .before .before .before .before .before .args) .a) ((c .before .before .before .before .before .before .args) .x) ((c .before .before .before .before .before .before .args) .p) ((c .before .before .before .before .before .before .args) .y) b (length ((c .before .before .before .before .before .before .args) .args .now)) ((c .before .before .before .before .before .before .pre) .3) ((c .before .before .before .before .before .before .pre) .2) ((c .before .before .before .before .before .before .pre) .4 (not-false _ ((c .before .before .if1) .left))) ((c .before .if2) .left) ((c .all-themselves) .ensures t)
+returns-3 c =
+    let s : tie.Start = search in
+    let if : tie.Else1 = search in
+    λ t b. stack-kept (tab _ _) _ _ _ _ _ b _ ((s .pre) .3) ((s .pre) .2) ((s .pre) .4 (not-false _ ((if .if1) .left))) ((c .before .if2) .left) ((c .all-themselves) .ensures t)
 
 pub is-kept-spec : {M : Type 1} → statement M
 is-kept-spec =
     tie.close
-    (tie.spec
-    returns
-    returns-2
-    add-all-themselves
-    sub-all-themselves
-    add-all-themselves-2
-    all-themselves-requires
-    returns-3)
+    (tie.spec returns returns-2 add-all-themselves sub-all-themselves add-all-themselves-2 all-themselves-requires returns-3)

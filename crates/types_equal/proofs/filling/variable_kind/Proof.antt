@@ -1,14 +1,12 @@
 use Rattle.types_equal.proofs.filling.Itself.{kind-value, kind-stack}
 use Rattle.types_equal.proofs.filling.variable_kind.Statement.{statement}
 use Rattle.types_equal.proofs.filling.variable_kind.Tie as tie
-use Rattle.types_equal.proofs.filling.variable_kind.Reads as reads
-use Rattle.types_equal.proofs.filling.variable_kind.Lts as lts
 
 returns : tie.Need-returns
-returns c = kind-value ((c .before .args) .x) ((c .if1) .taken)
+returns c = kind-value _ ((c .if1) .taken)
 
 returns-2 : tie.Need-returns-2
-returns-2 c = kind-stack ((c .before .args) .x) ((c .if1) .left)
+returns-2 c = kind-stack _ ((c .if1) .left)
 
 pub variable-kind-spec : {M : Type 1} → statement M
 variable-kind-spec = tie.close (tie.spec returns returns-2)

@@ -27,139 +27,64 @@ same-letters-below t =
     (falls 1 same-letters-kinds.ps _<_ μ-same-letters t)
     same-letters.Pre
 
-same-letters-returns : (t : ℕ) → same-letters-lts.Need-returns (
-  at-reads.Asked,
-  at-reads.Learnt,
-  same-letter-reads.Asked,
-  same-letter-reads.Learnt,
-  same-letters-below t,
-  same-letters.Post,
-) (same-letters-at t) same-letters.Post
-same-letters-returns t c = letters-end ((c .before .before .args) .parts .now) ((c .before .before .args) .p) ((c .before .before .args) .q) ((c .before .before .args) .a) ((c .before .before .args) .b) ((c .if1) .taken)
+abbrev same-letters-claims : ℕ → same-letters-lts.Claims
+same-letters-claims t = (at-reads.Asked, at-reads.Learnt, same-letter-reads.Asked, same-letter-reads.Learnt, same-letters-below t, same-letters.Post)
 
-same-letters-returns-2 : (t : ℕ) → same-letters-lts.Need-returns-2 (
-  at-reads.Asked,
-  at-reads.Learnt,
-  same-letter-reads.Asked,
-  same-letter-reads.Learnt,
-  same-letters-below t,
-  same-letters.Post,
-) (same-letters-at t) same-letters.Post
-same-letters-returns-2 t c = letters-short ((c .before .before .before .args) .parts .now) ((c .before .before .before .args) .p) ((c .before .before .before .args) .q) ((c .before .before .before .args) .a) ((c .before .before .before .args) .b) ((c .before .if1) .left) ((c .if2) .taken)
+same-letters-returns : (t : ℕ) → same-letters-lts.Need-returns (same-letters-claims t) (same-letters-at t) same-letters.Post
+same-letters-returns t c =
+    let s : same-letters-lts.Start (same-letters-claims t) (same-letters-at t) same-letters.Post = search in
+    letters-end _ _ _ _ _ ((c .if1) .taken)
 
-same-letters-at-requires : (t : ℕ) → same-letters-lts.Need-at-requires (
-  at-reads.Asked,
-  at-reads.Learnt,
-  same-letter-reads.Asked,
-  same-letter-reads.Learnt,
-  same-letters-below t,
-  same-letters.Post,
-) (same-letters-at t) same-letters.Post
-same-letters-at-requires t c κs = search needs
+same-letters-returns-2 : (t : ℕ) → same-letters-lts.Need-returns-2 (same-letters-claims t) (same-letters-at t) same-letters.Post
+same-letters-returns-2 t c =
+    let s : same-letters-lts.Start (same-letters-claims t) (same-letters-at t) same-letters.Post = search in
+    letters-short _ _ _ _ _ ((c .before .if1) .left) ((c .if2) .taken)
 
-same-letters-at-requires-2 : (t : ℕ) → same-letters-lts.Need-at-requires-2 (
-  at-reads.Asked,
-  at-reads.Learnt,
-  same-letter-reads.Asked,
-  same-letter-reads.Learnt,
-  same-letters-below t,
-  same-letters.Post,
-) (same-letters-at t) same-letters.Post
-same-letters-at-requires-2 t c κs = search needs
+same-letters-at-requires : (t : ℕ) → same-letters-lts.Need-at-requires (same-letters-claims t) (same-letters-at t) same-letters.Post
+same-letters-at-requires t c κs = search
 
-same-letters-same-letter-requires : (t : ℕ) → same-letters-lts.Need-same-letter-requires (
-  at-reads.Asked,
-  at-reads.Learnt,
-  same-letter-reads.Asked,
-  same-letter-reads.Learnt,
-  same-letters-below t,
-  same-letters.Post,
-) (same-letters-at t) same-letters.Post
-same-letters-same-letter-requires t c κs = search needs
+same-letters-at-requires-2 : (t : ℕ) → same-letters-lts.Need-at-requires-2 (same-letters-claims t) (same-letters-at t) same-letters.Post
+same-letters-at-requires-2 t c κs = search
 
-same-letters-add-same-letters : (t : ℕ) → same-letters-lts.Need-add-same-letters (
-  at-reads.Asked,
-  at-reads.Learnt,
-  same-letter-reads.Asked,
-  same-letter-reads.Learnt,
-  same-letters-below t,
-  same-letters.Post,
-) (same-letters-at t) same-letters.Post
+same-letters-same-letter-requires : (t : ℕ) → same-letters-lts.Need-same-letter-requires (same-letters-claims t) (same-letters-at t) same-letters.Post
+same-letters-same-letter-requires t c κs = search
+
+same-letters-add-same-letters : (t : ℕ) → same-letters-lts.Need-add-same-letters (same-letters-claims t) (same-letters-at t) same-letters.Post
 same-letters-add-same-letters t c = search needs
 
-same-letters-sub-same-letters : (t : ℕ) → same-letters-lts.Need-sub-same-letters (
-  at-reads.Asked,
-  at-reads.Learnt,
-  same-letter-reads.Asked,
-  same-letter-reads.Learnt,
-  same-letters-below t,
-  same-letters.Post,
-) (same-letters-at t) same-letters.Post
+same-letters-sub-same-letters : (t : ℕ) → same-letters-lts.Need-sub-same-letters (same-letters-claims t) (same-letters-at t) same-letters.Post
 same-letters-sub-same-letters t c = search needs
 
-same-letters-add-same-letters-2 : (t : ℕ) → same-letters-lts.Need-add-same-letters-2 (
-  at-reads.Asked,
-  at-reads.Learnt,
-  same-letter-reads.Asked,
-  same-letter-reads.Learnt,
-  same-letters-below t,
-  same-letters.Post,
-) (same-letters-at t) same-letters.Post
+same-letters-add-same-letters-2 : (t : ℕ) → same-letters-lts.Need-add-same-letters-2 (same-letters-claims t) (same-letters-at t) same-letters.Post
 same-letters-add-same-letters-2 t c = search needs
 
-same-letters-sub-same-letters-2 : (t : ℕ) → same-letters-lts.Need-sub-same-letters-2 (
-  at-reads.Asked,
-  at-reads.Learnt,
-  same-letter-reads.Asked,
-  same-letter-reads.Learnt,
-  same-letters-below t,
-  same-letters.Post,
-) (same-letters-at t) same-letters.Post
+same-letters-sub-same-letters-2 : (t : ℕ) → same-letters-lts.Need-sub-same-letters-2 (same-letters-claims t) (same-letters-at t) same-letters.Post
 same-letters-sub-same-letters-2 t c = search needs
 
-same-letters-same-letters-requires : (t : ℕ) → same-letters-lts.Need-same-letters-requires (
-  at-reads.Asked,
-  at-reads.Learnt,
-  same-letter-reads.Asked,
-  same-letter-reads.Learnt,
-  same-letters-below t,
-  same-letters.Post,
-) (same-letters-at t) same-letters.Post
-same-letters-same-letters-requires t c κs =
-    let h = (c .before .before .before .before .before .before .before .pre) .0 in
-    let i = (c .before .before .before .before .before .if1) .left in
-    let j = (c .before .before .before .before .if2) .left in
-    (omega arith, omega arith)
+same-letters-same-letters-requires : (t : ℕ) → same-letters-lts.Need-same-letters-requires (same-letters-claims t) (same-letters-at t) same-letters.Post
+same-letters-same-letters-requires t c κs = search needs
 
-same-letters-returns-3 : (t : ℕ) → same-letters-lts.Need-returns-3 (
-  at-reads.Asked,
-  at-reads.Learnt,
-  same-letter-reads.Asked,
-  same-letter-reads.Learnt,
-  same-letters-below t,
-  same-letters.Post,
-) (same-letters-at t) same-letters.Post
-same-letters-returns-3 t c = letters-on ((c .before .before .before .before .before .before .before .before .args) .parts .now) ((c .before .before .before .before .before .before .before .before .args) .p) ((c .before .before .before .before .before .before .before .before .args) .q) ((c .before .before .before .before .before .before .before .before .args) .a) ((c .before .before .before .before .before .before .before .before .args) .b) ((c .before .before .before .before .at) .result) ((c .before .before .before .at2) .result) ((c .before .before .before .before .before .before .if1) .left) ((c .before .before .before .before .before .if2) .left) ((c .before .before .before .before .at) .ensures .0) ((c .before .before .before .at2) .ensures .0) ((c .before .if3) .taken) ((c .before .before .same-letter) .ensures) ((c .same-letters) .ensures)
+same-letters-returns-3 : (t : ℕ) → same-letters-lts.Need-returns-3 (same-letters-claims t) (same-letters-at t) same-letters.Post
+same-letters-returns-3 t c =
+    let s : same-letters-lts.Start (same-letters-claims t) (same-letters-at t) same-letters.Post = search in
+    let if : same-letters-lts.Else1 (same-letters-claims t) (same-letters-at t) same-letters.Post = search in
+    let if4 : same-letters-lts.Else2 (same-letters-claims t) (same-letters-at t) same-letters.Post = search in
+    let at3 : same-letters-lts.After-at (same-letters-claims t) (same-letters-at t) same-letters.Post = search in
+    let at4 : same-letters-lts.After-at2 (same-letters-claims t) (same-letters-at t) same-letters.Post = search in
+    let same2 : same-letters-lts.After-same-letter (same-letters-claims t) (same-letters-at t) same-letters.Post = search in
+    letters-on _ _ _ _ _ _ _ ((if .if1) .left) ((if4 .if2) .left) ((at3 .at) .ensures .0) ((at4 .at2) .ensures .0) ((c .before .if3) .taken) ((same2 .same-letter) .ensures) ((c .same-letters) .ensures)
 
-same-letters-returns-4 : (t : ℕ) → same-letters-lts.Need-returns-4 (
-  at-reads.Asked,
-  at-reads.Learnt,
-  same-letter-reads.Asked,
-  same-letter-reads.Learnt,
-  same-letters-below t,
-  same-letters.Post,
-) (same-letters-at t) same-letters.Post
-same-letters-returns-4 t c = letters-off ((c .before .before .before .before .before .before .before .args) .parts .now) ((c .before .before .before .before .before .before .before .args) .p) ((c .before .before .before .before .before .before .before .args) .q) ((c .before .before .before .before .before .before .before .args) .a) ((c .before .before .before .before .before .before .before .args) .b) ((c .before .before .before .at) .result) ((c .before .before .at2) .result) ((c .before .before .before .before .before .if1) .left) ((c .before .before .before .before .if2) .left) ((c .before .before .before .at) .ensures .0) ((c .before .before .at2) .ensures .0) ((c .if3) .left) ((c .before .same-letter) .ensures)
+same-letters-returns-4 : (t : ℕ) → same-letters-lts.Need-returns-4 (same-letters-claims t) (same-letters-at t) same-letters.Post
+same-letters-returns-4 t c =
+    let s : same-letters-lts.Start (same-letters-claims t) (same-letters-at t) same-letters.Post = search in
+    let if : same-letters-lts.Else1 (same-letters-claims t) (same-letters-at t) same-letters.Post = search in
+    let if4 : same-letters-lts.Else2 (same-letters-claims t) (same-letters-at t) same-letters.Post = search in
+    let at3 : same-letters-lts.After-at (same-letters-claims t) (same-letters-at t) same-letters.Post = search in
+    let at4 : same-letters-lts.After-at2 (same-letters-claims t) (same-letters-at t) same-letters.Post = search in
+    letters-off _ _ _ _ _ _ _ ((if .if1) .left) ((if4 .if2) .left) ((at3 .at) .ensures .0) ((at4 .at2) .ensures .0) ((c .if3) .left) ((c .before .same-letter) .ensures)
 
 pub +same-letters-spec : {M : Type 1} → statement M
-+same-letters-spec = close μ-same-letters λ t. same-letters-lts.spec (
-  at-reads.Asked,
-  at-reads.Learnt,
-  same-letter-reads.Asked,
-  same-letter-reads.Learnt,
-  same-letters-below t,
-  same-letters.Post,
-)
++same-letters-spec = close μ-same-letters λ t. same-letters-lts.spec (same-letters-claims t)
     (same-letters-at t)
     same-letters.Post
     (same-letters-returns t)

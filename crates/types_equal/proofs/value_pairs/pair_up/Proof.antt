@@ -4,96 +4,84 @@ use Rattle.types_equal.specs.value_pairs.Pairs.{pairOf}
 use borrow.Author.Needs.{needs}
 use Rattle.types_equal.proofs.value_pairs.pair_up.Statement.{statement}
 use Rattle.types_equal.proofs.value_pairs.pair_up.Tie as tie
-use Rattle.types_equal.proofs.value_pairs.pair_up.Reads as reads
-use Rattle.types_equal.proofs.value_pairs.pair_up.Lts as lts
-use Rattle.types_equal.proofs.value_pairs.with_code.Reads as with-code-reads
-use Rattle.types_equal.proofs.value_pairs.with_int.Reads as with-int-reads
-use Rattle.types_equal.proofs.value_pairs.with_junk.Reads as with-junk-reads
-use Rattle.types_equal.proofs.value_pairs.with_pointer.Reads as with-pointer-reads
-use Rattle.types_equal.proofs.value_pairs.with_tuple.Reads as with-tuple-reads
-use Rattle.types_equal.proofs.value_pairs.with_var.Reads as with-var-reads
 
 enum-told : tie.Need-enum-told
-enum-told c = search needs
+enum-told c = search
 
 with-int-requires : tie.Need-with-int-requires
-with-int-requires c κs = search needs
+with-int-requires c κs = search
 
 enum-told-2 : tie.Need-enum-told-2
-enum-told-2 c = search needs
+enum-told-2 c = search
 
 with-junk-requires : tie.Need-with-junk-requires
-with-junk-requires c κs = search needs
+with-junk-requires c κs = search
 
 enum-known-n : tie.Need-enum-known-n
-enum-known-n c = search needs
+enum-known-n c = search
 
 with-var-requires : tie.Need-with-var-requires
-with-var-requires c κs = search needs
+with-var-requires c κs = search
 
 enum-known-n-2 : tie.Need-enum-known-n-2
-enum-known-n-2 c = search needs
+enum-known-n-2 c = search
 
 enum-known-n-3 : tie.Need-enum-known-n-3
-enum-known-n-3 c = search needs
+enum-known-n-3 c = search
 
 with-tuple-requires : tie.Need-with-tuple-requires
-with-tuple-requires c κs = search needs
+with-tuple-requires c κs = search
 
 enum-known-n-4 : tie.Need-enum-known-n-4
-enum-known-n-4 c = search needs
+enum-known-n-4 c = search
 
 with-pointer-requires : tie.Need-with-pointer-requires
-with-pointer-requires c κs = search needs
+with-pointer-requires c κs = search
 
 enum-known-n-5 : tie.Need-enum-known-n-5
-enum-known-n-5 c = search needs
+enum-known-n-5 c = search
 
 with-code-requires : tie.Need-with-code-requires
-with-code-requires c κs = search needs
+with-code-requires c κs = search
 
 returns : tie.Need-returns
-returns c = search needs
+returns c = search
 
 returns-2 : tie.Need-returns-2
-returns-2 c = search needs
+returns-2 c = search
 
 returns-3 : tie.Need-returns-3
-returns-3 c = (c .with-var) .ensures ∙ ap (λ (z : Val). pairOf z ((c .before .before .before .before .args) .w)) (sym ((c .before .before .n) .given .1))
+returns-3 c =
+    let s : tie.Start = search in
+    let n2 : tie.After-n = search in
+    (c .with-var) .ensures ∙ ap (λ (z : Val). pairOf z ((s .args) .w)) (sym ((n2 .n) .given .1))
 
 returns-4 : tie.Need-returns-4
-returns-4 c = ap (λ (z : Val). pairOf z ((c .before .before .before .args) .w)) (sym ((c .before .n2) .given .1))
+returns-4 c =
+    let s : tie.Start = search in
+    ap (λ (z : Val). pairOf z ((s .args) .w)) (sym ((c .before .n2) .given .1))
 
 returns-5 : tie.Need-returns-5
-returns-5 c = (c .with-tuple) .ensures ∙ ap (λ (z : Val). pairOf z ((c .before .before .before .before .args) .w)) (sym ((c .before .before .n3) .given .1))
+returns-5 c =
+    let s : tie.Start = search in
+    let n : tie.After-n3 = search in
+    (c .with-tuple) .ensures ∙ ap (λ (z : Val). pairOf z ((s .args) .w)) (sym ((n .n3) .given .1))
 
 returns-6 : tie.Need-returns-6
-returns-6 c = (c .with-pointer) .ensures ∙ ap (λ (z : Val). pairOf z ((c .before .before .before .before .args) .w)) (sym ((c .before .before .n4) .given .1))
+returns-6 c =
+    let s : tie.Start = search in
+    let n : tie.After-n4 = search in
+    (c .with-pointer) .ensures ∙ ap (λ (z : Val). pairOf z ((s .args) .w)) (sym ((n .n4) .given .1))
 
 returns-7 : tie.Need-returns-7
-returns-7 c = (c .with-code) .ensures ∙ ap (λ (z : Val). pairOf z ((c .before .before .before .before .args) .w)) (sym ((c .before .before .n5) .given .1))
+returns-7 c =
+    let s : tie.Start = search in
+    let n : tie.After-n5 = search in
+    (c .with-code) .ensures ∙ ap (λ (z : Val). pairOf z ((s .args) .w)) (sym ((n .n5) .given .1))
 
 pub pair-up-spec : {M : Type 1} → statement M
 pair-up-spec =
     tie.close
-    (tie.spec
-    enum-told
-    with-int-requires
-    enum-told-2
-    with-junk-requires
-    enum-known-n
-    with-var-requires
-    enum-known-n-2
-    enum-known-n-3
-    with-tuple-requires
-    enum-known-n-4
-    with-pointer-requires
-    enum-known-n-5
-    with-code-requires
-    returns
-    returns-2
-    returns-3
-    returns-4
-    returns-5
-    returns-6
-    returns-7)
+    (tie.spec enum-told with-int-requires enum-told-2 with-junk-requires enum-known-n with-var-requires enum-known-n-2 enum-known-n-3
+    with-tuple-requires enum-known-n-4 with-pointer-requires enum-known-n-5 with-code-requires returns returns-2 returns-3 returns-4
+    returns-5 returns-6 returns-7)

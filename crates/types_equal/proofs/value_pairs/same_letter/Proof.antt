@@ -2,14 +2,12 @@ use borrow.Author.Needs.{needs}
 use Rattle.types_equal.proofs.value_pairs.Letters.{letter-v, letter-s}
 use Rattle.types_equal.proofs.value_pairs.same_letter.Statement.{statement}
 use Rattle.types_equal.proofs.value_pairs.same_letter.Tie as tie
-use Rattle.types_equal.proofs.value_pairs.same_letter.Reads as reads
-use Rattle.types_equal.proofs.value_pairs.same_letter.Lts as lts
 
 returns : tie.Need-returns
-returns c = letter-v ((c .before .args) .x) ((c .before .args) .y) ((c .if1) .taken)
+returns c = letter-v _ _ ((c .if1) .taken)
 
 returns-2 : tie.Need-returns-2
-returns-2 c = letter-s ((c .before .args) .x) ((c .before .args) .y) ((c .if1) .left)
+returns-2 c = letter-s _ _ ((c .if1) .left)
 
 pub same-letter-spec : {M : Type 1} → statement M
 same-letter-spec = tie.close (tie.spec returns returns-2)

@@ -1,126 +1,65 @@
+-- `types_rows::item_counts::count_items` meets its contract. The loop holds `Filling`, for all parts that fit.
 use borrow.Author.Needs.{needs}
 use mathlib.Core.Path.{_≡_, refl}
-use Prim.Native.Nat.{_+_, _-_, _*_, _≤_, _<_}
+use mathlib.Core.List.{List}
+use Prim.Native.Nat.{ℕ, _+_, _-_, _≤_}
 use native.Mathlib.Omega.{arith}
-use lib.ListN.{length}
-use Rattle.types_rows.specs.Read.{tab}
+use lib.ListN.{length, length-set}
+use Rattle.types_rows.specs.item_counts.Counts.{SizesFit}
 use Rattle.types_rows.proofs.item_counts.Counts.{Filling, filling-first, filling-low, filling-count, filling-small, filling-next, filling-last}
 use Rattle.types_rows.proofs.item_counts.count_items.Statement.{statement}
 use Rattle.types_rows.proofs.item_counts.count_items.Tie as tie
-use Rattle.types_rows.proofs.item_counts.count_items.Reads as reads
-use Rattle.types_rows.proofs.item_counts.count_items.Lts as lts
-use Rattle.types_rows.proofs.item_counts.count_row.Reads as count-row-reads
-use Rattle.types_rows.proofs.measure.narrow.Reads as narrow-reads
 
 abbrev Inv-loop : tie.InvT-loop
-Inv-loop rows₀ parts n r₀ rows r = Filling rows₀ parts n rows r
+Inv-loop rows₀ n r₀ rows r = (r ≤ n) × (length rows ≡ length rows₀) × ((parts : List ℕ) → SizesFit rows₀ parts n → Filling rows₀ parts n rows r)
 
 abbrev μ-loop : tie.MeasureT-loop
-μ-loop rows₀ parts n r₀ rows r = n - r
+μ-loop rows₀ n r₀ rows r = n - r
+
+abbrev Start : Type 0
+Start = tie.Start Inv-loop μ-loop
+
+abbrev At-loop : Type 0
+At-loop = tie.At-loop Inv-loop μ-loop
+
+abbrev Counted-row : Type 0
+Counted-row = tie.After-count-row Inv-loop μ-loop
 
 loop-holds : tie.Need-loop-holds Inv-loop μ-loop
-loop-holds c = filling-first ((c .before .before .args) .rows .now) ((c .before .before .args) .parts .now) ((c .before .before .args) .n)
-
-add-count-row : tie.Need-add-count-row Inv-loop μ-loop
-add-count-row c =
-    let i0 = (c .before .before .loop) .inv .0 in
-    let i1 = (c .before .before .loop) .inv .1 in
-    let p0 = (c .before .before .before .before .before .pre) .0 in
-    let p1 = (c .before .before .before .before .before .pre) .1 in
-    let t = (c .before .loop-test) .taken in
-    omega arith
-
-count-row-requires : tie.Need-count-row-requires Inv-loop μ-loop
-count-row-requires c κs =
-    let i0 = (c .before .before .loop) .inv .0 in
-    let i1 = (c .before .before .loop) .inv .1 in
-    let p0 = (c .before .before .before .before .before .pre) .0 in
-    let p1 = (c .before .before .before .before .before .pre) .1 in
-    let t = (c .before .loop-test) .taken in
-    (omega arith, filling-low ((c .before .before .before .before .before .args) .rows .now) ((c .before .before .before .before .before .args) .parts .now) ((c .before .before .before .before .before .args) .n) ((c .before .before .loop) .rows) ((c .before .before .loop) .r) ((c .before .before .loop) .inv) ((c .before .before .loop) .r + 1) refl)
+loop-holds c = (omega arith, refl, λ parts h. filling-first _ parts _)
 
 narrow-requires : tie.Need-narrow-requires Inv-loop μ-loop
-narrow-requires c κs = filling-small ((c .before .before .before .before .before .before .args) .rows .now) ((c .before .before .before .before .before .before .args) .parts .now) ((c .before .before .before .before .before .before .args) .n) ((c .before .before .before .loop) .rows) ((c .before .before .before .loop) .r) ((c .before .before .before .loop) .inv) ((c .count-row) .result) ((c .before .before .loop-test) .taken) ((c .before .before .before .before .before .before .pre) .2) (filling-count ((c .before .before .before .before .before .before .args) .rows .now) ((c .before .before .before .before .before .before .args) .parts .now) ((c .before .before .before .before .before .before .args) .n) ((c .before .before .before .loop) .rows) ((c .before .before .before .loop) .r) ((c .before .before .before .loop) .inv) ((c .before .before .before .loop) .r + 1) ((c .count-row) .result) refl ((c .count-row) .ensures))
-
-mul-rows : tie.Need-mul-rows Inv-loop μ-loop
-mul-rows c =
-    let i0 = (c .before .before .before .before .loop) .inv .0 in
-    let i1 = (c .before .before .before .before .loop) .inv .1 in
-    let p0 = (c .before .before .before .before .before .before .before .pre) .0 in
-    let p1 = (c .before .before .before .before .before .before .before .pre) .1 in
-    let t = (c .before .before .before .loop-test) .taken in
-    omega arith
-
-add-rows : tie.Need-add-rows Inv-loop μ-loop
-add-rows c =
-    let i0 = (c .before .before .before .before .loop) .inv .0 in
-    let i1 = (c .before .before .before .before .loop) .inv .1 in
-    let p0 = (c .before .before .before .before .before .before .before .pre) .0 in
-    let p1 = (c .before .before .before .before .before .before .before .pre) .1 in
-    let t = (c .before .before .before .loop-test) .taken in
-    omega arith
-
-mul-rows-2 : tie.Need-mul-rows-2 Inv-loop μ-loop
-mul-rows-2 c =
-    let i0 = (c .before .before .before .before .loop) .inv .0 in
-    let i1 = (c .before .before .before .before .loop) .inv .1 in
-    let p0 = (c .before .before .before .before .before .before .before .pre) .0 in
-    let p1 = (c .before .before .before .before .before .before .before .pre) .1 in
-    let t = (c .before .before .before .loop-test) .taken in
-    omega arith
-
-slice-write-rows : tie.Need-slice-write-rows Inv-loop μ-loop
-slice-write-rows c =
-    let i0 = (c .before .before .before .before .loop) .inv .0 in
-    let i1 = (c .before .before .before .before .loop) .inv .1 in
-    let p0 = (c .before .before .before .before .before .before .before .pre) .0 in
-    let p1 = (c .before .before .before .before .before .before .before .pre) .1 in
-    let t = (c .before .before .before .loop-test) .taken in
-    omega arith
-
-add-r : tie.Need-add-r Inv-loop μ-loop
-add-r c =
-    let i0 = (c .before .before .before .before .loop) .inv .0 in
-    let i1 = (c .before .before .before .before .loop) .inv .1 in
-    let p0 = (c .before .before .before .before .before .before .before .pre) .0 in
-    let p1 = (c .before .before .before .before .before .before .before .pre) .1 in
-    let t = (c .before .before .before .loop-test) .taken in
-    omega arith
-
-loop-less : tie.Need-loop-less Inv-loop μ-loop
-loop-less c =
-    let i0 = (c .before .before .before .before .loop) .inv .0 in
-    let i1 = (c .before .before .before .before .loop) .inv .1 in
-    let p0 = (c .before .before .before .before .before .before .before .pre) .0 in
-    let p1 = (c .before .before .before .before .before .before .before .pre) .1 in
-    let t = (c .before .before .before .loop-test) .taken in
-    omega arith
+narrow-requires c κs =
+    let s : Start = search in
+    let l : At-loop = search in
+    let rows = s .args .rows .now in
+    let ps = s .pre .2 .0 in
+    let fit = s .pre .2 .1 in
+    let f = l .loop .inv .2 ps fit in
+    let n = c .count-row .ensures ps (filling-low rows ps (s .args .n) (l .loop .rows) (l .loop .r) f (l .loop .r + 1) refl) in
+    filling-small rows ps (s .args .n) (l .loop .rows) (l .loop .r) f (c .count-row .result) (omega arith) fit (filling-count rows ps (s .args .n) (l .loop .rows) (l .loop .r) f (l .loop .r + 1) (c .count-row .result) refl n)
 
 loop-again : tie.Need-loop-again Inv-loop μ-loop
-loop-again c = filling-next ((c .before .before .before .before .before .before .before .args) .rows .now) ((c .before .before .before .before .before .before .before .args) .parts .now) ((c .before .before .before .before .before .before .before .args) .n) ((c .before .before .before .before .loop) .rows) ((c .before .before .before .before .loop) .r) ((c .before .before .before .before .loop) .inv) ((c .before .count-row) .result) ((c .narrow) .result) ((c .before .before .before .loop-test) .taken) ((c .before .before .before .before .before .before .before .pre) .1) (filling-count ((c .before .before .before .before .before .before .before .args) .rows .now) ((c .before .before .before .before .before .before .before .args) .parts .now) ((c .before .before .before .before .before .before .before .args) .n) ((c .before .before .before .before .loop) .rows) ((c .before .before .before .before .loop) .r) ((c .before .before .before .before .loop) .inv) ((c .before .before .before .before .loop) .r + 1) ((c .before .count-row) .result) refl ((c .before .count-row) .ensures)) ((c .narrow) .ensures)
-
-same-length : tie.Need-same-length Inv-loop μ-loop
-same-length c = (c .before .loop) .inv .1
+loop-again c =
+    let s : Start = search in
+    let l : At-loop = search in
+    let t : Counted-row = search in
+    let rows = s .args .rows .now in (
+      omega arith,
+      simp length-set (l .loop .inv .1),
+      λ ps fit.
+          let f = l .loop .inv .2 ps fit in
+          let n = t .count-row .ensures ps (filling-low rows ps (s .args .n) (l .loop .rows) (l .loop .r) f (l .loop .r + 1) refl) in
+          filling-next rows ps (s .args .n) (l .loop .rows) (l .loop .r) f (t .count-row .result) (c .narrow .result) (omega arith) (s .pre .1) (filling-count rows ps (s .args .n) (l .loop .rows) (l .loop .r) f (l .loop .r + 1) (t .count-row .result) refl n) (c .narrow .ensures),
+    )
 
 returns : tie.Need-returns Inv-loop μ-loop
-returns c = filling-last ((c .before .before .before .before .args) .rows .now) ((c .before .before .before .before .args) .parts .now) ((c .before .before .before .before .args) .n) ((c .before .loop) .rows) ((c .before .loop) .r) ((c .before .loop) .inv) ((c .loop-test) .left) ((c .before .before .before .before .pre) .0)
+returns c =
+    let s : Start = search in
+    let l : At-loop = search in
+    λ ps fit. filling-last (s .args .rows .now) ps (s .args .n) (l .loop .rows) (l .loop .r) (l .loop .inv .2 ps fit) (omega arith) (s .pre .0)
 
 pub count-items-spec : {M : Type 1} → statement M
 count-items-spec =
     tie.close
-    (tie.spec
-    Inv-loop
-    μ-loop
-    loop-holds
-    add-count-row
-    count-row-requires
-    narrow-requires
-    mul-rows
-    add-rows
-    mul-rows-2
-    slice-write-rows
-    add-r
-    loop-less
-    loop-again
-    same-length
-    returns)
+    (tie.spec Inv-loop μ-loop loop-holds (λ c. search needs) (λ c κs. search needs) narrow-requires (λ c. search needs) (λ c. search needs) (λ c. search needs) (λ c. search needs) (λ c. search needs) (λ c. search needs) loop-again (λ c. search) returns)

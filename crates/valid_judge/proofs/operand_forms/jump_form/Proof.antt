@@ -1,53 +1,58 @@
 use native.Mathlib.Omega.{arith}
-use Prim.Native.Nat.{ℕ, _<_}
-use mathlib.Core.List.{map}
-use Rattle.tables.specs.Tables.{span, letterOf}
 use Rattle.valid_context.specs.Context.{contextOf}
-use Rattle.valid_typing.specs.Typing.{typesIn}
-use Rattle.valid_typing.specs.operands.Operands.{operandTable}
 use Rattle.valid_judge.proofs.codes.Laws.{answered-as, answered-bop, is-jmp, short-jmp, short-bop, not-jump}
+use Rattle.image.specs.Sections.{part, instrSection}
+use Rattle.valid_typing.specs.Image.{typesAt, operandsIn, lettersIn}
 use borrow.Author.Needs.{needs}
 use Rattle.valid_judge.proofs.operand_forms.jump_form.Statement.{statement}
 use Rattle.valid_judge.proofs.operand_forms.jump_form.Tie as tie
-use Rattle.valid_judge.proofs.operand_forms.jump_form.Reads as reads
-use Rattle.valid_judge.proofs.operand_forms.jump_form.Lts as lts
-use Rattle.valid_judge.proofs.codes.entry.Reads as entry-reads
-use Rattle.valid_judge.proofs.jumps.branch.Reads as branch-reads
-use Rattle.valid_judge.proofs.jumps.jump.Reads as jump-reads
-
-entry-requires : tie.Need-entry-requires
-entry-requires c κs = search needs
 
 jump-requires : tie.Need-jump-requires
-jump-requires c κs = ((c .before .before .before .before .before .before .before .before .before .before .before .before .before .before .before .pre) .0, (c .before .before .before .before .before .before .before .before .before .before .before .before .before .before .before .pre) .1, short-jmp ((c .before .before .before .before .before .before .before .before .before .before .before .before .before .before .before .args) .instrs .now) (operandTable ((c .before .before .before .before .before .before .before .before .before .before .before .before .before .before .before .args) .operands .now) ((c .before .before .before .before .before .before .before .before .before .before .before .before .before .before .before .args) .numbers .now) ((c .before .before .before .before .before .before .before .before .before .before .before .before .before .before .before .args) .args .now)) ((c .before .before .before .before .before .before .before .before .before .before .before .before .before .before .before .args) .j) ((c .before .before .before .before .before .before .before .before .before .before .before .before .before .before .before .args) .k) ((c .before .before .before .before .before .before .before .before .before .before .before .before .before .before .before .pre) .2) ((c .before .before .before .before .before .before .before .before .before .before .before .before .before .before .before .pre) .4) ((c .before .before .entry) .ensures .0) ((c .before .if1) .taken), omega (arith, (c .before .before .entry) .ensures .1), (c .before .before .before .before .before .before .before .before .before .before .before .before .before .before .before .pre) .3)
-
-same-length : tie.Need-same-length
-same-length c = search needs
+unfolding part
+jump-requires c κs =
+    let s : tie.Start = search in
+    let a = s .args in
+    let l = a .image .now in
+    let t-entry : tie.After-entry = search in
+    let i1 : tie.Then1 = search in
+    (s .pre .0, s .pre .1, s .pre .2, short-jmp (instrSection (a .p) l) (operandsIn (a .p) l (a .literals .now)) (a .x .at) (a .x .code) (s .pre .3) (s .pre .5) (t-entry .entry .ensures .0) (i1 .if1 .taken), omega (arith, t-entry .entry .ensures .1), s .pre .4)
 
 returns : tie.Need-returns
-returns c = λ P h. answered-as P (map letterOf (span ((c .before .before .before .before .before .before .before .before .before .before .before .before .before .before .before .before .before .before .args) .parts .now) ((c .before .before .before .before .before .before .before .before .before .before .before .before .before .before .before .before .before .before .args) .l) ((c .before .before .before .before .before .before .before .before .before .before .before .before .before .before .before .before .before .before .args) .q))) (contextOf (typesIn ((c .before .before .before .before .before .before .before .before .before .before .before .before .before .before .before .before .before .before .args) .rows .now) ((c .before .before .before .before .before .before .before .before .before .before .before .before .before .before .before .before .before .before .args) .parts .now) ((c .before .before .before .before .before .before .before .before .before .before .before .before .before .before .before .before .before .before .args) .n)) ((c .before .before .before .before .before .before .before .before .before .before .before .before .before .before .before .before .before .before .args) .regs .now) ((c .before .before .before .before .before .before .before .before .before .before .before .before .before .before .before .before .before .before .args) .sp .now) ((c .before .before .before .before .before .before .before .before .before .before .before .before .before .before .before .before .before .before .args) .m)) _ (contextOf (typesIn ((c .before .before .before .before .before .before .before .before .before .before .before .before .before .before .before .before .before .before .args) .rows .now) ((c .before .before .before .before .before .before .before .before .before .before .before .before .before .before .before .before .before .before .args) .parts .now) ((c .before .before .before .before .before .before .before .before .before .before .before .before .before .before .before .before .before .before .args) .n)) ((c .before .before .before .before .before .before .before .before .before .before .before .before .before .before .before .before .before .before .args) .regs .now) ((c .before .before .before .before .before .before .before .before .before .before .before .before .before .before .before .before .before .before .args) .sp .now) ((c .before .before .before .before .before .before .before .before .before .before .before .before .before .before .before .before .before .before .args) .m)) _ (is-jmp ((c .before .before .before .before .before .before .before .before .before .before .before .before .before .before .before .before .before .before .args) .instrs .now) (operandTable ((c .before .before .before .before .before .before .before .before .before .before .before .before .before .before .before .before .before .before .args) .operands .now) ((c .before .before .before .before .before .before .before .before .before .before .before .before .before .before .before .before .before .before .args) .numbers .now) ((c .before .before .before .before .before .before .before .before .before .before .before .before .before .before .before .before .before .before .args) .args .now)) ((c .before .before .before .before .before .before .before .before .before .before .before .before .before .before .before .before .before .before .args) .j) ((c .before .before .before .before .before .before .before .before .before .before .before .before .before .before .before .before .before .before .args) .k) ((c .before .before .before .before .before .before .before .before .before .before .before .before .before .before .before .before .before .before .pre) .4) ((c .before .before .before .before .before .entry) .ensures .0) ((c .before .before .before .before .if1) .taken)) ((c .before .before .jump) .ensures P h)
-
-entry-requires-2 : tie.Need-entry-requires-2
-entry-requires-2 c κs = search needs
+unfolding part
+returns c =
+    let s : tie.Start = search in
+    let a = s .args in
+    let l = a .image .now in
+    let t-entry : tie.After-entry = search in
+    let i1 : tie.Then1 = search in
+    let t-jump : tie.After-jump = search in
+    λ P h. answered-as P (lettersIn (a .p) l (a .w)) (contextOf (typesAt (a .p) l (a .c .rows)) (a .regs .now) (a .sp .now) (a .m)) _ (contextOf (typesAt (a .p) l (a .c .rows)) (a .regs .now) (a .sp .now) (a .m)) _ (is-jmp (instrSection (a .p) l) (operandsIn (a .p) l (a .literals .now)) (a .x .at) (a .x .code) (s .pre .5) (t-entry .entry .ensures .0) (i1 .if1 .taken)) (t-jump .jump .ensures P h)
 
 branch-requires : tie.Need-branch-requires
-branch-requires c κs = ((c .before .before .before .before .before .before .before .before .before .before .before .before .before .before .before .before .pre) .0, (c .before .before .before .before .before .before .before .before .before .before .before .before .before .before .before .before .pre) .1, short-bop ((c .before .before .before .before .before .before .before .before .before .before .before .before .before .before .before .before .args) .instrs .now) (operandTable ((c .before .before .before .before .before .before .before .before .before .before .before .before .before .before .before .before .args) .operands .now) ((c .before .before .before .before .before .before .before .before .before .before .before .before .before .before .before .before .args) .numbers .now) ((c .before .before .before .before .before .before .before .before .before .before .before .before .before .before .before .before .args) .args .now)) ((c .before .before .before .before .before .before .before .before .before .before .before .before .before .before .before .before .args) .j) ((c .before .before .before .before .before .before .before .before .before .before .before .before .before .before .before .before .args) .k) ((c .before .before .before .before .before .before .before .before .before .before .before .before .before .before .before .before .pre) .2) ((c .before .before .before .before .before .before .before .before .before .before .before .before .before .before .before .before .pre) .4) ((c .before .before .before .entry) .ensures .0) ((c .before .before .before .before .before .before .before .before .before .before .before .before .before .before .before .before .pre) .5) (not-jump ((c .before .before .before .before .before .before .before .before .before .before .before .before .before .before .before .before .args) .k) ((c .before .before .before .before .before .before .before .before .before .before .before .before .before .before .before .before .pre) .6) ((c .before .before .if1) .left)), omega (arith, (c .before .before .before .entry) .ensures .1), (c .before .before .before .before .before .before .before .before .before .before .before .before .before .before .before .before .pre) .3)
-
-same-length-2 : tie.Need-same-length-2
-same-length-2 c = search needs
+unfolding part
+branch-requires c κs =
+    let s : tie.Start = search in
+    let a = s .args in
+    let l = a .image .now in
+    let t-entry : tie.After-entry = search in
+    let i1 : tie.Else1 = search in
+    (s .pre .0, s .pre .1, s .pre .2, short-bop (instrSection (a .p) l) (operandsIn (a .p) l (a .literals .now)) (a .x .at) (a .x .code) (s .pre .3) (s .pre .5) (t-entry .entry .ensures .0) (s .pre .6) (not-jump (a .x .code) (s .pre .7) (i1 .if1 .left)), omega (arith, t-entry .entry .ensures .1), s .pre .4)
 
 returns-2 : tie.Need-returns-2
-returns-2 c = λ P h. answered-bop ((c .before .before .before .before .before .before .before .before .before .before .before .before .before .before .before .before .before .before .before .args) .instrs .now) (operandTable ((c .before .before .before .before .before .before .before .before .before .before .before .before .before .before .before .before .before .before .before .args) .operands .now) ((c .before .before .before .before .before .before .before .before .before .before .before .before .before .before .before .before .before .before .before .args) .numbers .now) ((c .before .before .before .before .before .before .before .before .before .before .before .before .before .before .before .before .before .before .before .args) .args .now)) ((c .before .before .before .before .before .before .before .before .before .before .before .before .before .before .before .before .before .before .before .args) .j) ((c .before .before .before .before .before .before .before .before .before .before .before .before .before .before .before .before .before .before .before .args) .k) ((c .before .before .before .before .before .before .before .before .before .before .before .before .before .before .before .before .before .before .before .pre) .4) ((c .before .before .before .before .before .before .entry) .ensures .0) ((c .before .before .before .before .entry2) .ensures .0) P (map letterOf (span ((c .before .before .before .before .before .before .before .before .before .before .before .before .before .before .before .before .before .before .before .args) .parts .now) ((c .before .before .before .before .before .before .before .before .before .before .before .before .before .before .before .before .before .before .before .args) .l) ((c .before .before .before .before .before .before .before .before .before .before .before .before .before .before .before .before .before .before .before .args) .q))) (contextOf (typesIn ((c .before .before .before .before .before .before .before .before .before .before .before .before .before .before .before .before .before .before .before .args) .rows .now) ((c .before .before .before .before .before .before .before .before .before .before .before .before .before .before .before .before .before .before .before .args) .parts .now) ((c .before .before .before .before .before .before .before .before .before .before .before .before .before .before .before .before .before .before .before .args) .n)) ((c .before .before .before .before .before .before .before .before .before .before .before .before .before .before .before .before .before .before .before .args) .regs .now) ((c .before .before .before .before .before .before .before .before .before .before .before .before .before .before .before .before .before .before .before .args) .sp .now) ((c .before .before .before .before .before .before .before .before .before .before .before .before .before .before .before .before .before .before .before .args) .m)) _ (contextOf (typesIn ((c .before .before .before .before .before .before .before .before .before .before .before .before .before .before .before .before .before .before .before .args) .rows .now) ((c .before .before .before .before .before .before .before .before .before .before .before .before .before .before .before .before .before .before .before .args) .parts .now) ((c .before .before .before .before .before .before .before .before .before .before .before .before .before .before .before .before .before .before .before .args) .n)) ((c .before .before .before .before .before .before .before .before .before .before .before .before .before .before .before .before .before .before .before .args) .regs .now) ((c .before .before .before .before .before .before .before .before .before .before .before .before .before .before .before .before .before .before .before .args) .sp .now) ((c .before .before .before .before .before .before .before .before .before .before .before .before .before .before .before .before .before .before .before .args) .m)) _ ((c .before .before .before .before .before .before .before .before .before .before .before .before .before .before .before .before .before .before .before .pre) .5) (not-jump ((c .before .before .before .before .before .before .before .before .before .before .before .before .before .before .before .before .before .before .before .args) .k) ((c .before .before .before .before .before .before .before .before .before .before .before .before .before .before .before .before .before .before .before .pre) .6) ((c .before .before .before .before .before .if1) .left)) (λ o. (c .before .before .branch) .ensures P o h)
+unfolding part
+returns-2 c =
+    let s : tie.Start = search in
+    let a = s .args in
+    let l = a .image .now in
+    let t-entry : tie.After-entry = search in
+    let t-entry2 : tie.After-entry2 = search in
+    let i1 : tie.Else1 = search in
+    let t-branch : tie.After-branch = search in
+    λ P h. answered-bop (instrSection (a .p) l) (operandsIn (a .p) l (a .literals .now)) (a .x .at) (a .x .code) (s .pre .5) (t-entry .entry .ensures .0) (t-entry2 .entry2 .ensures .0) P (lettersIn (a .p) l (a .w)) (contextOf (typesAt (a .p) l (a .c .rows)) (a .regs .now) (a .sp .now) (a .m)) _ (contextOf (typesAt (a .p) l (a .c .rows)) (a .regs .now) (a .sp .now) (a .m)) _ (s .pre .6) (not-jump (a .x .code) (s .pre .7) (i1 .if1 .left)) (λ o. t-branch .branch .ensures P o h)
 
 pub jump-form-spec : {M : Type 1} → statement M
 jump-form-spec =
     tie.close
     (tie.spec
-    entry-requires
-    jump-requires
-    same-length
-    returns
-    entry-requires-2
-    branch-requires
-    same-length-2
-    returns-2)
+    (λ c. search needs) (λ c. search) (λ c. search) (λ c. search needs) (λ c κs. search needs) jump-requires (λ c. search) returns
+    (λ c κs. search needs) branch-requires (λ c. search) returns-2)

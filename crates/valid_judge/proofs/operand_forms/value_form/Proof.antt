@@ -1,93 +1,112 @@
 use native.Mathlib.Omega.{arith}
-use Prim.Native.Nat.{ℕ}
-use mathlib.Core.Path.{_≡_, ap, _∙_}
-use mathlib.Core.List.{map}
+use mathlib.Core.Path.{ap, _∙_}
 use Rattle.syntax.specs.Syntax.{Instr}
-use Rattle.tables.specs.Tables.{span, letterOf}
 use Rattle.valid.specs.PassThree.{judge}
 use Rattle.valid_context.specs.Context.{regsOf}
 use Rattle.valid_context.specs.Told.{toldOf}
-use Rattle.valid_typing.specs.Typing.{typesIn}
-use Rattle.valid_typing.specs.operands.Operands.{operandTable}
 use Rattle.valid_judge.specs.heap.Forms.{held}
 use Rattle.valid_judge.proofs.codes.Laws.{told-aop, is-mov, is-malloc, short-aop, short-mov, short-malloc}
+use Rattle.image.specs.Sections.{part, instrSection}
+use Rattle.valid_typing.specs.Image.{typesAt, operandsIn, lettersIn}
 use borrow.Author.Needs.{needs}
 use Rattle.valid_judge.proofs.operand_forms.value_form.Statement.{statement}
 use Rattle.valid_judge.proofs.operand_forms.value_form.Tie as tie
-use Rattle.valid_judge.proofs.operand_forms.value_form.Reads as reads
-use Rattle.valid_judge.proofs.operand_forms.value_form.Lts as lts
-use Rattle.valid_judge.proofs.codes.entry.Reads as entry-reads
-use Rattle.valid_judge.proofs.values.compute.Reads as compute-reads
-use Rattle.valid_judge.proofs.values.make_tuple.Reads as make-tuple-reads
-use Rattle.valid_judge.proofs.values.move_to.Reads as move-to-reads
 
-entry-requires : tie.Need-entry-requires
-entry-requires c κs = search needs
+abbrev entry3-of : tie.After-entry4 → tie.After-entry3
+entry3-of t = search
 
-entry-requires-2 : tie.Need-entry-requires-2
-entry-requires-2 c κs = search needs
+abbrev else1-of : tie.After-entry4 → tie.Else1
+else1-of t = search
 
-entry-requires-3 : tie.Need-entry-requires-3
-entry-requires-3 c κs = search needs
+abbrev else2-of : tie.After-entry4 → tie.Else2
+else2-of t = search
+
+abbrev start-of : tie.After-entry3 → tie.Start
+start-of t = search
+
+abbrev entry-of : tie.After-entry3 → tie.After-entry
+entry-of t = search
+
+abbrev entry2-of : tie.After-entry3 → tie.After-entry2
+entry2-of t = search
 
 compute-requires : tie.Need-compute-requires
-compute-requires c κs = ((c .before .before .before .before .before .before .before .before .before .before .before .before .before .before .before .before .before .pre) .0, (c .before .before .before .before .before .before .before .before .before .before .before .before .before .before .before .before .before .pre) .1, short-aop ((c .before .before .before .before .before .before .before .before .before .before .before .before .before .before .before .before .before .args) .instrs .now) (operandTable ((c .before .before .before .before .before .before .before .before .before .before .before .before .before .before .before .before .before .args) .operands .now) ((c .before .before .before .before .before .before .before .before .before .before .before .before .before .before .before .before .before .args) .numbers .now) ((c .before .before .before .before .before .before .before .before .before .before .before .before .before .before .before .before .before .args) .args .now)) ((c .before .before .before .before .before .before .before .before .before .before .before .before .before .before .before .before .before .args) .j) ((c .before .before .before .before .before .before .before .before .before .before .before .before .before .before .before .before .before .args) .k) ((c .before .before .before .before .before .before .before .before .before .before .before .before .before .before .before .before .before .pre) .2) ((c .before .before .before .before .before .before .before .before .before .before .before .before .before .before .before .before .before .pre) .5) ((c .before .before .before .entry3) .ensures .0) ((c .before .before .if1) .taken), omega (arith, (c .before .before .before .entry3) .ensures .1), (c .before .before .before .before .before .before .before .before .before .before .before .before .before .before .before .before .before .pre) .3, (c .before .before .before .before .before .before .before .before .before .before .before .before .before .before .before .before .before .pre) .4)
-
-same-length : tie.Need-same-length
-same-length c = search needs
-
-same-length-2 : tie.Need-same-length-2
-same-length-2 c = search needs
+unfolding part
+compute-requires c κs =
+    let s : tie.Start = search in
+    let a = s .args in
+    let l = a .image .now in
+    let t-entry3 : tie.After-entry3 = search in
+    let i1 : tie.Then1 = search in
+    (s .pre .0, s .pre .1, s .pre .2, short-aop (instrSection (a .p) l) (operandsIn (a .p) l (a .literals .now)) (a .x .at) (a .x .code) (s .pre .3) (s .pre .6) (t-entry3 .entry3 .ensures .0) (i1 .if1 .taken), omega (arith, t-entry3 .entry3 .ensures .1), s .pre .4, s .pre .5)
 
 returns : tie.Need-returns
-returns c = λ P s h. told-aop ((c .before .before .before .before .before .before .before .before .before .before .before .before .before .before .before .before .before .before .before .before .before .before .args) .instrs .now) (operandTable ((c .before .before .before .before .before .before .before .before .before .before .before .before .before .before .before .before .before .before .before .before .before .before .args) .operands .now) ((c .before .before .before .before .before .before .before .before .before .before .before .before .before .before .before .before .before .before .before .before .before .before .args) .numbers .now) ((c .before .before .before .before .before .before .before .before .before .before .before .before .before .before .before .before .before .before .before .before .before .before .args) .args .now)) ((c .before .before .before .before .before .before .before .before .before .before .before .before .before .before .before .before .before .before .before .before .before .before .args) .j) ((c .before .before .before .before .before .before .before .before .before .before .before .before .before .before .before .before .before .before .before .before .before .before .args) .k) ((c .before .before .before .before .before .before .before .before .before .before .before .before .before .before .before .before .before .before .before .before .before .before .pre) .5) ((c .before .before .before .before .before .before .before .before .entry3) .ensures .0) ((c .before .before .before .before .before .before .before .before .before .before .entry) .ensures .0) P (map letterOf (span ((c .before .before .before .before .before .before .before .before .before .before .before .before .before .before .before .before .before .before .before .before .before .before .args) .parts .now) ((c .before .before .before .before .before .before .before .before .before .before .before .before .before .before .before .before .before .before .before .before .before .before .args) .l) ((c .before .before .before .before .before .before .before .before .before .before .before .before .before .before .before .before .before .before .before .before .before .before .args) .q))) (held s (regsOf (typesIn ((c .before .before .before .before .before .before .before .before .before .before .before .before .before .before .before .before .before .before .before .before .before .before .args) .rows .now) ((c .before .before .before .before .before .before .before .before .before .before .before .before .before .before .before .before .before .before .before .before .before .before .args) .parts .now) ((c .before .before .before .before .before .before .before .before .before .before .before .before .before .before .before .before .before .before .before .before .before .before .args) .n)) ((c .before .before .before .before .before .before .before .before .before .before .before .before .before .before .before .before .before .before .before .before .before .before .args) .regs .now))) _ _ ((c .before .before .before .before .before .before .before .before .before .entry2) .ensures .0) ((c .before .before .before .before .before .before .before .if1) .taken) (λ o. (c .before .before .before .before .compute) .ensures o P s h)
+unfolding part
+returns c =
+    let t-compute : tie.After-compute = search in
+    let i1 : tie.Then1 = search in
+    let t-entry3 : tie.After-entry3 = search in
+    let s = start-of t-entry3 in
+    let a = s .args in
+    let l = a .image .now in
+    let t-entry = entry-of t-entry3 in
+    let t-entry2 = entry2-of t-entry3 in
+    λ P b h. told-aop (instrSection (a .p) l) (operandsIn (a .p) l (a .literals .now)) (a .x .at) (a .x .code) (s .pre .6) (t-entry3 .entry3 .ensures .0) (t-entry .entry .ensures .0) P (lettersIn (a .p) l (a .w)) (held b (regsOf (typesAt (a .p) l (a .c .rows)) (a .regs .now))) _ _ (t-entry2 .entry2 .ensures .0) (i1 .if1 .taken) (λ o. t-compute .compute .ensures o P b h)
 
 move-to-requires : tie.Need-move-to-requires
-move-to-requires c κs = ((c .before .before .before .before .before .before .before .before .before .before .before .before .before .before .before .before .before .before .pre) .0, (c .before .before .before .before .before .before .before .before .before .before .before .before .before .before .before .before .before .before .pre) .1, short-mov ((c .before .before .before .before .before .before .before .before .before .before .before .before .before .before .before .before .before .before .args) .instrs .now) (operandTable ((c .before .before .before .before .before .before .before .before .before .before .before .before .before .before .before .before .before .before .args) .operands .now) ((c .before .before .before .before .before .before .before .before .before .before .before .before .before .before .before .before .before .before .args) .numbers .now) ((c .before .before .before .before .before .before .before .before .before .before .before .before .before .before .before .before .before .before .args) .args .now)) ((c .before .before .before .before .before .before .before .before .before .before .before .before .before .before .before .before .before .before .args) .j) ((c .before .before .before .before .before .before .before .before .before .before .before .before .before .before .before .before .before .before .args) .k) ((c .before .before .before .before .before .before .before .before .before .before .before .before .before .before .before .before .before .before .pre) .2) ((c .before .before .before .before .before .before .before .before .before .before .before .before .before .before .before .before .before .before .pre) .5) ((c .before .before .before .before .entry3) .ensures .0) ((c .before .before .if2) .taken), omega (arith, (c .before .before .before .before .entry3) .ensures .1), (c .before .before .before .before .before .before .before .before .before .before .before .before .before .before .before .before .before .before .pre) .3, (c .before .before .before .before .before .before .before .before .before .before .before .before .before .before .before .before .before .before .pre) .4)
-
-same-length-3 : tie.Need-same-length-3
-same-length-3 c = search needs
-
-same-length-4 : tie.Need-same-length-4
-same-length-4 c = search needs
+unfolding part
+move-to-requires c κs =
+    let s : tie.Start = search in
+    let a = s .args in
+    let l = a .image .now in
+    let t-entry3 : tie.After-entry3 = search in
+    let i2 : tie.Then2 = search in
+    (s .pre .0, s .pre .1, s .pre .2, short-mov (instrSection (a .p) l) (operandsIn (a .p) l (a .literals .now)) (a .x .at) (a .x .code) (s .pre .3) (s .pre .6) (t-entry3 .entry3 .ensures .0) (i2 .if2 .taken), omega (arith, t-entry3 .entry3 .ensures .1), s .pre .4, s .pre .5)
 
 returns-2 : tie.Need-returns-2
-returns-2 c = λ P s h. ap (λ (x : Instr). toldOf (judge P (map letterOf (span ((c .before .before .before .before .before .before .before .before .before .before .before .before .before .before .before .before .before .before .before .before .before .before .before .args) .parts .now) ((c .before .before .before .before .before .before .before .before .before .before .before .before .before .before .before .before .before .before .before .before .before .before .before .args) .l) ((c .before .before .before .before .before .before .before .before .before .before .before .before .before .before .before .before .before .before .before .before .before .before .before .args) .q))) (held s (regsOf (typesIn ((c .before .before .before .before .before .before .before .before .before .before .before .before .before .before .before .before .before .before .before .before .before .before .before .args) .rows .now) ((c .before .before .before .before .before .before .before .before .before .before .before .before .before .before .before .before .before .before .before .before .before .before .before .args) .parts .now) ((c .before .before .before .before .before .before .before .before .before .before .before .before .before .before .before .before .before .before .before .before .before .before .before .args) .n)) ((c .before .before .before .before .before .before .before .before .before .before .before .before .before .before .before .before .before .before .before .before .before .before .before .args) .regs .now))) x)) (is-mov ((c .before .before .before .before .before .before .before .before .before .before .before .before .before .before .before .before .before .before .before .before .before .before .before .args) .instrs .now) (operandTable ((c .before .before .before .before .before .before .before .before .before .before .before .before .before .before .before .before .before .before .before .before .before .before .before .args) .operands .now) ((c .before .before .before .before .before .before .before .before .before .before .before .before .before .before .before .before .before .before .before .before .before .before .before .args) .numbers .now) ((c .before .before .before .before .before .before .before .before .before .before .before .before .before .before .before .before .before .before .before .before .before .before .before .args) .args .now)) ((c .before .before .before .before .before .before .before .before .before .before .before .before .before .before .before .before .before .before .before .before .before .before .before .args) .j) ((c .before .before .before .before .before .before .before .before .before .before .before .before .before .before .before .before .before .before .before .before .before .before .before .args) .k) ((c .before .before .before .before .before .before .before .before .before .before .before .before .before .before .before .before .before .before .before .before .before .before .before .pre) .5) ((c .before .before .before .before .before .before .before .before .before .entry3) .ensures .0) ((c .before .before .before .before .before .before .before .before .before .before .before .entry) .ensures .0) ((c .before .before .before .before .before .before .before .if2) .taken)) ∙ (c .before .before .before .before .move-to) .ensures P s h
-
-entry-requires-4 : tie.Need-entry-requires-4
-entry-requires-4 c κs = search needs
+unfolding part
+returns-2 c =
+    let t-move-to : tie.After-move-to = search in
+    let i2 : tie.Then2 = search in
+    let t-entry3 : tie.After-entry3 = search in
+    let s = start-of t-entry3 in
+    let a = s .args in
+    let l = a .image .now in
+    let t-entry = entry-of t-entry3 in
+    λ P b h. ap (λ (x : Instr). toldOf (judge P (lettersIn (a .p) l (a .w)) (held b (regsOf (typesAt (a .p) l (a .c .rows)) (a .regs .now))) x)) (is-mov (instrSection (a .p) l) (operandsIn (a .p) l (a .literals .now)) (a .x .at) (a .x .code) (s .pre .6) (t-entry3 .entry3 .ensures .0) (t-entry .entry .ensures .0) (i2 .if2 .taken)) ∙ t-move-to .move-to .ensures P b h
 
 make-tuple-requires : tie.Need-make-tuple-requires
+unfolding part
 make-tuple-requires c κs =
-    let t = short-malloc ((c .before .before .before .before .before .before .before .before .before .before .before .before .before .before .before .before .before .before .before .args) .instrs .now) (operandTable ((c .before .before .before .before .before .before .before .before .before .before .before .before .before .before .before .before .before .before .before .args) .operands .now) ((c .before .before .before .before .before .before .before .before .before .before .before .before .before .before .before .before .before .before .before .args) .numbers .now) ((c .before .before .before .before .before .before .before .before .before .before .before .before .before .before .before .before .before .before .before .args) .args .now)) ((c .before .before .before .before .before .before .before .before .before .before .before .before .before .before .before .before .before .before .before .args) .j) ((c .before .before .before .before .before .before .before .before .before .before .before .before .before .before .before .before .before .before .before .args) .k) ((c .before .before .before .before .before .before .before .before .before .before .before .before .before .before .before .before .before .before .before .pre) .2) ((c .before .before .before .before .before .before .before .before .before .before .before .before .before .before .before .before .before .before .before .pre) .5) ((c .before .before .before .before .before .entry3) .ensures .0) ((c .before .before .entry4) .ensures .0) ((c .before .before .before .before .before .before .before .before .before .before .before .before .before .before .before .before .before .before .before .pre) .7 (omega (arith, (c .before .before .before .before .before .before .before .before .before .before .before .before .before .before .before .before .before .before .before .pre) .6 (omega (arith, (c .before .before .before .before .if1) .left)), (c .before .before .before .if2) .left))) in
-    ((c .before .before .before .before .before .before .before .before .before .before .before .before .before .before .before .before .before .before .before .pre) .0, (c .before .before .before .before .before .before .before .before .before .before .before .before .before .before .before .before .before .before .before .pre) .1, t .0, omega (arith, (c .before .before .before .before .before .entry3) .ensures .1, (c .before .before .entry4) .ensures .1), t .1, (c .before .before .before .before .before .before .before .before .before .before .before .before .before .before .before .before .before .before .before .pre) .3, (c .before .before .before .before .before .before .before .before .before .before .before .before .before .before .before .before .before .before .before .pre) .4)
-
-same-length-5 : tie.Need-same-length-5
-same-length-5 c = search needs
-
-same-length-6 : tie.Need-same-length-6
-same-length-6 c = search needs
+    let s : tie.Start = search in
+    let a = s .args in
+    let l = a .image .now in
+    let t-entry3 : tie.After-entry3 = search in
+    let t-entry4 : tie.After-entry4 = search in
+    let i1 : tie.Else1 = search in
+    let i2 : tie.Else2 = search in
+    let t = short-malloc (instrSection (a .p) l) (operandsIn (a .p) l (a .literals .now)) (a .x .at) (a .x .code) (s .pre .3) (s .pre .6) (t-entry3 .entry3 .ensures .0) (t-entry4 .entry4 .ensures .0) (s .pre .8 (omega (arith, s .pre .7 (omega (arith, i1 .if1 .left)), i2 .if2 .left))) in
+    (s .pre .0, s .pre .1, s .pre .2, t .0, omega (arith, t-entry3 .entry3 .ensures .1, t-entry4 .entry4 .ensures .1), t .1, s .pre .4, s .pre .5)
 
 returns-3 : tie.Need-returns-3
-returns-3 c = λ P s h. ap (λ (x : Instr). toldOf (judge P (map letterOf (span ((c .before .before .before .before .before .before .before .before .before .before .before .before .before .before .before .before .before .before .before .before .before .before .before .before .args) .parts .now) ((c .before .before .before .before .before .before .before .before .before .before .before .before .before .before .before .before .before .before .before .before .before .before .before .before .args) .l) ((c .before .before .before .before .before .before .before .before .before .before .before .before .before .before .before .before .before .before .before .before .before .before .before .before .args) .q))) (held s (regsOf (typesIn ((c .before .before .before .before .before .before .before .before .before .before .before .before .before .before .before .before .before .before .before .before .before .before .before .before .args) .rows .now) ((c .before .before .before .before .before .before .before .before .before .before .before .before .before .before .before .before .before .before .before .before .before .before .before .before .args) .parts .now) ((c .before .before .before .before .before .before .before .before .before .before .before .before .before .before .before .before .before .before .before .before .before .before .before .before .args) .n)) ((c .before .before .before .before .before .before .before .before .before .before .before .before .before .before .before .before .before .before .before .before .before .before .before .before .args) .regs .now))) x)) (is-malloc ((c .before .before .before .before .before .before .before .before .before .before .before .before .before .before .before .before .before .before .before .before .before .before .before .before .args) .instrs .now) (operandTable ((c .before .before .before .before .before .before .before .before .before .before .before .before .before .before .before .before .before .before .before .before .before .before .before .before .args) .operands .now) ((c .before .before .before .before .before .before .before .before .before .before .before .before .before .before .before .before .before .before .before .before .before .before .before .before .args) .numbers .now) ((c .before .before .before .before .before .before .before .before .before .before .before .before .before .before .before .before .before .before .before .before .before .before .before .before .args) .args .now)) ((c .before .before .before .before .before .before .before .before .before .before .before .before .before .before .before .before .before .before .before .before .before .before .before .before .args) .j) ((c .before .before .before .before .before .before .before .before .before .before .before .before .before .before .before .before .before .before .before .before .before .before .before .before .args) .k) ((c .before .before .before .before .before .before .before .before .before .before .before .before .before .before .before .before .before .before .before .before .before .before .before .before .pre) .5) ((c .before .before .before .before .before .before .before .before .before .before .entry3) .ensures .0) ((c .before .before .before .before .before .before .before .before .before .before .before .before .entry) .ensures .0) ((c .before .before .before .before .before .before .before .before .before .before .before .entry2) .ensures .0) ((c .before .before .before .before .before .before .before .entry4) .ensures .0) ((c .before .before .before .before .before .before .before .before .before .before .before .before .before .before .before .before .before .before .before .before .before .before .before .before .pre) .7 (omega (arith, (c .before .before .before .before .before .before .before .before .before .before .before .before .before .before .before .before .before .before .before .before .before .before .before .before .pre) .6 (omega (arith, (c .before .before .before .before .before .before .before .before .before .if1) .left)), (c .before .before .before .before .before .before .before .before .if2) .left)))) ∙ (c .before .before .before .before .make-tuple) .ensures P s h
+unfolding part
+returns-3 c =
+    let t-make-tuple : tie.After-make-tuple = search in
+    let t-entry4 : tie.After-entry4 = search in
+    let t-entry3 = entry3-of t-entry4 in
+    let s = start-of t-entry3 in
+    let a = s .args in
+    let l = a .image .now in
+    let t-entry = entry-of t-entry3 in
+    let t-entry2 = entry2-of t-entry3 in
+    let i1 = else1-of t-entry4 in
+    let i2 = else2-of t-entry4 in
+    λ P b h. ap (λ (x : Instr). toldOf (judge P (lettersIn (a .p) l (a .w)) (held b (regsOf (typesAt (a .p) l (a .c .rows)) (a .regs .now))) x)) (is-malloc (instrSection (a .p) l) (operandsIn (a .p) l (a .literals .now)) (a .x .at) (a .x .code) (s .pre .6) (t-entry3 .entry3 .ensures .0) (t-entry .entry .ensures .0) (t-entry2 .entry2 .ensures .0) (t-entry4 .entry4 .ensures .0) (s .pre .8 (omega (arith, s .pre .7 (omega (arith, i1 .if1 .left)), i2 .if2 .left)))) ∙ t-make-tuple .make-tuple .ensures P b h
 
 pub value-form-spec : {M : Type 1} → statement M
 value-form-spec =
     tie.close
     (tie.spec
-    entry-requires
-    entry-requires-2
-    entry-requires-3
-    compute-requires
-    same-length
-    same-length-2
-    returns
-    move-to-requires
-    same-length-3
-    same-length-4
-    returns-2
-    entry-requires-4
-    make-tuple-requires
-    same-length-5
-    same-length-6
-    returns-3)
+    (λ c. search needs) (λ c. search) (λ c. search) (λ c. search needs) (λ c κs. search needs) (λ c κs. search needs)
+    (λ c κs. search needs) compute-requires (λ c. search) (λ c. search) returns move-to-requires (λ c. search) (λ c. search) returns-2
+    (λ c κs. search needs) make-tuple-requires (λ c. search) (λ c. search) returns-3)

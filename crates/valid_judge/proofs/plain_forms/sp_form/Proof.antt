@@ -1,92 +1,86 @@
 use native.Mathlib.Omega.{arith}
-use Prim.Native.Nat.{ℕ}
 use mathlib.Core.Path.{_≡_, ap, _∙_}
-use mathlib.Core.List.{map}
 use Rattle.syntax.specs.Syntax.{Instr}
-use Rattle.tables.specs.Tables.{span, letterOf}
 use Rattle.valid.specs.PassThree.{judge}
 use Rattle.valid_context.specs.Context.{contextOf}
 use Rattle.valid_context.specs.Told.{toldOf}
-use Rattle.valid_typing.specs.Typing.{typesIn}
 use Rattle.valid_judge.proofs.codes.Laws.{is-getsp, is-setsp, is-salloc, is-sfree}
+use Rattle.image.specs.Sections.{part, instrSection, sharedSection, slotSection}
+use Rattle.valid_typing.specs.Image.{typesAt, lettersIn}
 use borrow.Author.Needs.{needs}
 use Rattle.valid_judge.proofs.plain_forms.sp_form.Statement.{statement}
 use Rattle.valid_judge.proofs.plain_forms.sp_form.Tie as tie
-use Rattle.valid_judge.proofs.plain_forms.sp_form.Reads as reads
-use Rattle.valid_judge.proofs.plain_forms.sp_form.Lts as lts
-use Rattle.valid_judge.proofs.codes.entry.Reads as entry-reads
-use Rattle.valid_judge.proofs.stack.allocate.Reads as allocate-reads
-use Rattle.valid_judge.proofs.stack.free.Reads as free-reads
-use Rattle.valid_judge.proofs.stack.get_sp.Reads as get-sp-reads
-use Rattle.valid_judge.proofs.stack.set_sp.Reads as set-sp-reads
-
-entry-requires : tie.Need-entry-requires
-entry-requires c κs = search needs
-
-entry-requires-2 : tie.Need-entry-requires-2
-entry-requires-2 c κs = search needs
 
 get-sp-requires : tie.Need-get-sp-requires
-get-sp-requires c κs = ((c .before .before .before .before .before .before .before .before .before .before .before .before .pre) .0, (c .before .before .before .before .before .before .before .before .before .before .before .before .pre) .1, (c .before .before .before .before .before .before .before .before .before .before .before .before .pre) .2)
-
-same-length : tie.Need-same-length
-same-length c = search needs
-
-same-length-2 : tie.Need-same-length-2
-same-length-2 c = search needs
+get-sp-requires c κs =
+    let s : tie.Start = search in
+    (s .pre .0, s .pre .1, s .pre .2, s .pre .3)
 
 returns : tie.Need-returns
-returns c = (λ ω P e. ap (λ (x : Instr). toldOf (judge P (map letterOf (span ((c .before .before .before .before .before .before .before .before .before .before .before .before .before .before .before .args) .parts .now) ((c .before .before .before .before .before .before .before .before .before .before .before .before .before .before .before .args) .l) ((c .before .before .before .before .before .before .before .before .before .before .before .before .before .before .before .args) .q))) (contextOf (typesIn ((c .before .before .before .before .before .before .before .before .before .before .before .before .before .before .before .args) .rows .now) ((c .before .before .before .before .before .before .before .before .before .before .before .before .before .before .before .args) .parts .now) ((c .before .before .before .before .before .before .before .before .before .before .before .before .before .before .before .args) .n)) ((c .before .before .before .before .before .before .before .before .before .before .before .before .before .before .before .args) .regs .now) ((c .before .before .before .before .before .before .before .before .before .before .before .before .before .before .before .args) .sp .now) ((c .before .before .before .before .before .before .before .before .before .before .before .before .before .before .before .args) .depth)) x)) (is-getsp ((c .before .before .before .before .before .before .before .before .before .before .before .before .before .before .before .args) .instrs .now) ω ((c .before .before .before .before .before .before .before .before .before .before .before .before .before .before .before .args) .j) ((c .before .before .before .before .before .before .before .before .before .before .before .before .before .before .before .args) .k) ((c .before .before .before .before .before .before .before .before .before .before .before .before .before .before .before .pre) .5) ((c .before .before .before .before .before .before .before .entry) .ensures .0) ((c .before .before .before .before .before .before .entry2) .ensures .0) ((c .before .before .before .before .before .if1) .taken)) ∙ (c .before .before .get-sp) .ensures P e, (c .before .before .before .before .before .before .before .before .before .before .before .before .before .before .before .pre) .4)
+unfolding part
+returns c =
+    let s : tie.Start = search in
+    let a = s .args in
+    let l = a .image .now in
+    let t-entry : tie.After-entry = search in
+    let t-entry2 : tie.After-entry2 = search in
+    let i1 : tie.Then1 = search in
+    let t-get-sp : tie.After-get-sp = search in
+    (λ ω P e. ap (λ (x : Instr). toldOf (judge P (lettersIn (a .p) l (a .w)) (contextOf (typesAt (a .p) l (a .n)) (a .regs .now) (a .sp .now) (a .depth)) x)) (is-getsp (instrSection (a .p) l) ω (a .x .at) (a .x .code) (s .pre .6) (t-entry .entry .ensures .0) (t-entry2 .entry2 .ensures .0) (i1 .if1 .taken)) ∙ t-get-sp .get-sp .ensures P e, s .pre .5)
 
 set-sp-requires : tie.Need-set-sp-requires
-set-sp-requires c κs = (c .before .before .before .before .before .before .before .before .before .before .before .before .before .pre) .0
-
-same-length-3 : tie.Need-same-length-3
-same-length-3 c = search needs
-
-same-length-4 : tie.Need-same-length-4
-same-length-4 c = search needs
+unfolding part
+set-sp-requires c κs =
+    let s : tie.Start = search in
+    s .pre .1
 
 returns-2 : tie.Need-returns-2
-returns-2 c = (λ ω P e. ap (λ (x : Instr). toldOf (judge P (map letterOf (span ((c .before .before .before .before .before .before .before .before .before .before .before .before .before .before .args) .parts .now) ((c .before .before .before .before .before .before .before .before .before .before .before .before .before .before .args) .l) ((c .before .before .before .before .before .before .before .before .before .before .before .before .before .before .args) .q))) (contextOf (typesIn ((c .before .before .before .before .before .before .before .before .before .before .before .before .before .before .args) .rows .now) ((c .before .before .before .before .before .before .before .before .before .before .before .before .before .before .args) .parts .now) ((c .before .before .before .before .before .before .before .before .before .before .before .before .before .before .args) .n)) ((c .before .before .before .before .before .before .before .before .before .before .before .before .before .before .args) .regs .now) ((c .before .before .before .before .before .before .before .before .before .before .before .before .before .before .args) .sp .now) ((c .before .before .before .before .before .before .before .before .before .before .before .before .before .before .args) .depth)) x)) (is-setsp ((c .before .before .before .before .before .before .before .before .before .before .before .before .before .before .args) .instrs .now) ω ((c .before .before .before .before .before .before .before .before .before .before .before .before .before .before .args) .j) ((c .before .before .before .before .before .before .before .before .before .before .before .before .before .before .args) .k) ((c .before .before .before .before .before .before .before .before .before .before .before .before .before .before .pre) .5) ((c .before .before .before .before .before .before .entry) .ensures .0) ((c .before .before .before .if2) .taken)) ∙ (c .set-sp) .ensures .0 (map letterOf (span ((c .before .before .before .before .before .before .before .before .before .before .before .before .before .before .args) .parts .now) ((c .before .before .before .before .before .before .before .before .before .before .before .before .before .before .args) .l) ((c .before .before .before .before .before .before .before .before .before .before .before .before .before .before .args) .q))) P e, omega (arith, (c .set-sp) .ensures .1, (c .before .before .before .before .before .before .before .before .before .before .before .before .before .before .pre) .4))
+unfolding part
+returns-2 c =
+    let s : tie.Start = search in
+    let a = s .args in
+    let l = a .image .now in
+    let t-entry : tie.After-entry = search in
+    let i2 : tie.Then2 = search in
+    let t-set-sp : tie.After-set-sp = search in
+    (λ ω P e. ap (λ (x : Instr). toldOf (judge P (lettersIn (a .p) l (a .w)) (contextOf (typesAt (a .p) l (a .n)) (a .regs .now) (a .sp .now) (a .depth)) x)) (is-setsp (instrSection (a .p) l) ω (a .x .at) (a .x .code) (s .pre .6) (t-entry .entry .ensures .0) (i2 .if2 .taken)) ∙ t-set-sp .set-sp .ensures .0 (lettersIn (a .p) l (a .w)) P e, omega (arith, t-set-sp .set-sp .ensures .1, s .pre .5))
 
 allocate-requires : tie.Need-allocate-requires
-allocate-requires c κs = ((c .before .before .before .before .before .before .before .before .before .before .before .before .before .pre) .0 .few, (c .before .before .before .before .before .before .before .before .before .before .before .before .before .pre) .3, (c .before .before .before .before .before .before .before .before .before .before .before .before .before .pre) .4)
-
-same-length-5 : tie.Need-same-length-5
-same-length-5 c = search needs
+allocate-requires c κs =
+    let s : tie.Start = search in
+    (s .pre .1 .few, s .pre .4, s .pre .5)
 
 returns-3 : tie.Need-returns-3
-returns-3 c = (λ ω P e. ap (λ (x : Instr). toldOf (judge P (map letterOf (span ((c .before .before .before .before .before .before .before .before .before .before .before .before .before .before .before .before .args) .parts .now) ((c .before .before .before .before .before .before .before .before .before .before .before .before .before .before .before .before .args) .l) ((c .before .before .before .before .before .before .before .before .before .before .before .before .before .before .before .before .args) .q))) (contextOf (typesIn ((c .before .before .before .before .before .before .before .before .before .before .before .before .before .before .before .before .args) .rows .now) ((c .before .before .before .before .before .before .before .before .before .before .before .before .before .before .before .before .args) .parts .now) ((c .before .before .before .before .before .before .before .before .before .before .before .before .before .before .before .before .args) .n)) ((c .before .before .before .before .before .before .before .before .before .before .before .before .before .before .before .before .args) .regs .now) ((c .before .before .before .before .before .before .before .before .before .before .before .before .before .before .before .before .args) .sp .now) ((c .before .before .before .before .before .before .before .before .before .before .before .before .before .before .before .before .args) .depth)) x)) (is-salloc ((c .before .before .before .before .before .before .before .before .before .before .before .before .before .before .before .before .args) .instrs .now) ω ((c .before .before .before .before .before .before .before .before .before .before .before .before .before .before .before .before .args) .j) ((c .before .before .before .before .before .before .before .before .before .before .before .before .before .before .before .before .args) .k) ((c .before .before .before .before .before .before .before .before .before .before .before .before .before .before .before .before .pre) .5) ((c .before .before .before .before .before .before .before .before .entry) .ensures .0) ((c .before .before .before .before .if3) .taken)) ∙ (c .before .before .allocate) .ensures .0 ((c .before .before .before .before .before .before .before .before .before .before .before .before .before .before .before .before .args) .rows .now) ((c .before .before .before .before .before .before .before .before .before .before .before .before .before .before .before .before .args) .parts .now) ((c .before .before .before .before .before .before .before .before .before .before .before .before .before .before .before .before .args) .regs .now) (map letterOf (span ((c .before .before .before .before .before .before .before .before .before .before .before .before .before .before .before .before .args) .parts .now) ((c .before .before .before .before .before .before .before .before .before .before .before .before .before .before .before .before .args) .l) ((c .before .before .before .before .before .before .before .before .before .before .before .before .before .before .before .before .args) .q))) ((c .before .before .before .before .before .before .before .before .before .before .before .before .before .before .before .before .pre) .0) P e, (c .before .before .allocate) .ensures .1)
-
-free-requires : tie.Need-free-requires
-free-requires c κs = search needs
-
-same-length-6 : tie.Need-same-length-6
-same-length-6 c = search needs
+unfolding part
+returns-3 c =
+    let s : tie.Start = search in
+    let a = s .args in
+    let l = a .image .now in
+    let t-entry : tie.After-entry = search in
+    let i3 : tie.Then3 = search in
+    let t-allocate : tie.After-allocate = search in
+    (λ ω P e. ap (λ (x : Instr). toldOf (judge P (lettersIn (a .p) l (a .w)) (contextOf (typesAt (a .p) l (a .n)) (a .regs .now) (a .sp .now) (a .depth)) x)) (is-salloc (instrSection (a .p) l) ω (a .x .at) (a .x .code) (s .pre .6) (t-entry .entry .ensures .0) (i3 .if3 .taken)) ∙ t-allocate .allocate .ensures .0 (sharedSection (a .p) l) (slotSection (a .p) l) (a .regs .now) (lettersIn (a .p) l (a .w)) (s .pre .1) P e, t-allocate .allocate .ensures .1)
 
 returns-4 : tie.Need-returns-4
+unfolding part
 returns-4 c =
-    let q : (c .before .before .before .before .before .before .before .before .before .before .before .before .before .before .args) .k ≡ 16 = omega (arith, (c .before .before .before .before .before .before .before .before .before .before .before .before .before .before .pre) .6, (c .before .before .before .before .before .before .before .before .before .before .before .before .before .before .pre) .7, (c .before .before .before .before .if1) .left, (c .before .before .before .if2) .left, (c .before .before .if3) .left) in
-    (λ ω P e. ap (λ (x : Instr). toldOf (judge P (map letterOf (span ((c .before .before .before .before .before .before .before .before .before .before .before .before .before .before .args) .parts .now) ((c .before .before .before .before .before .before .before .before .before .before .before .before .before .before .args) .l) ((c .before .before .before .before .before .before .before .before .before .before .before .before .before .before .args) .q))) (contextOf (typesIn ((c .before .before .before .before .before .before .before .before .before .before .before .before .before .before .args) .rows .now) ((c .before .before .before .before .before .before .before .before .before .before .before .before .before .before .args) .parts .now) ((c .before .before .before .before .before .before .before .before .before .before .before .before .before .before .args) .n)) ((c .before .before .before .before .before .before .before .before .before .before .before .before .before .before .args) .regs .now) ((c .before .before .before .before .before .before .before .before .before .before .before .before .before .before .args) .sp .now) ((c .before .before .before .before .before .before .before .before .before .before .before .before .before .before .args) .depth)) x)) (is-sfree ((c .before .before .before .before .before .before .before .before .before .before .before .before .before .before .args) .instrs .now) ω ((c .before .before .before .before .before .before .before .before .before .before .before .before .before .before .args) .j) ((c .before .before .before .before .before .before .before .before .before .before .before .before .before .before .args) .k) ((c .before .before .before .before .before .before .before .before .before .before .before .before .before .before .pre) .5) ((c .before .before .before .before .before .before .entry) .ensures .0) q) ∙ (c .free) .ensures .0 (typesIn ((c .before .before .before .before .before .before .before .before .before .before .before .before .before .before .args) .rows .now) ((c .before .before .before .before .before .before .before .before .before .before .before .before .before .before .args) .parts .now) ((c .before .before .before .before .before .before .before .before .before .before .before .before .before .before .args) .n)) ((c .before .before .before .before .before .before .before .before .before .before .before .before .before .before .args) .regs .now) P (map letterOf (span ((c .before .before .before .before .before .before .before .before .before .before .before .before .before .before .args) .parts .now) ((c .before .before .before .before .before .before .before .before .before .before .before .before .before .before .args) .l) ((c .before .before .before .before .before .before .before .before .before .before .before .before .before .before .args) .q))), omega (arith, (c .free) .ensures .1, (c .before .before .before .before .before .before .before .before .before .before .before .before .before .before .pre) .4))
+    let s : tie.Start = search in
+    let a = s .args in
+    let l = a .image .now in
+    let i1 : tie.Else1 = search in
+    let i2 : tie.Else2 = search in
+    let i3 : tie.Else3 = search in
+    let t-entry : tie.After-entry = search in
+    let t-free : tie.After-free = search in
+    let q : a .x .code ≡ 16 = omega (arith, s .pre .7, s .pre .8, i1 .if1 .left, i2 .if2 .left, i3 .if3 .left) in
+    (λ ω P e. ap (λ (x : Instr). toldOf (judge P (lettersIn (a .p) l (a .w)) (contextOf (typesAt (a .p) l (a .n)) (a .regs .now) (a .sp .now) (a .depth)) x)) (is-sfree (instrSection (a .p) l) ω (a .x .at) (a .x .code) (s .pre .6) (t-entry .entry .ensures .0) q) ∙ t-free .free .ensures .0 (typesAt (a .p) l (a .n)) (a .regs .now) P (lettersIn (a .p) l (a .w)), omega (arith, t-free .free .ensures .1, s .pre .5))
 
 pub sp-form-spec : {M : Type 1} → statement M
 sp-form-spec =
     tie.close
     (tie.spec
-    entry-requires
-    entry-requires-2
-    get-sp-requires
-    same-length
-    same-length-2
-    returns
-    set-sp-requires
-    same-length-3
-    same-length-4
-    returns-2
-    allocate-requires
-    same-length-5
-    returns-3
-    free-requires
-    same-length-6
-    returns-4)
+    (λ c. search needs) (λ c. search needs) (λ c. search needs) (λ c. search needs) (λ c κs. search needs) (λ c κs. search needs)
+    get-sp-requires (λ c. search needs) (λ c. search needs) returns (λ c. search needs) (λ c. search needs) (λ c. search needs)
+    (λ c. search needs) (λ c. search needs) (λ c. search needs) (λ c. search needs) (λ c. search needs) set-sp-requires
+    (λ c. search needs) (λ c. search needs) returns-2 allocate-requires (λ c. search needs) returns-3 (λ c κs. search needs)
+    (λ c. search needs) returns-4)

@@ -1,59 +1,69 @@
 use native.Mathlib.Omega.{arith}
-use mathlib.Core.List.{map}
-use Rattle.tables.specs.Tables.{span, letterOf}
 use Rattle.valid_context.specs.Context.{spOf}
-use Rattle.valid_typing.specs.Typing.{typesIn}
 use Rattle.valid_judge.proofs.heap.Laws.{given-same}
 use Rattle.valid_judge.proofs.stack.Laws.{got-none, got}
+use Rattle.image.specs.Sections.{part, sharedSection, slotSection}
+use Rattle.valid_typing.specs.Image.{typesAt, lettersIn}
 use borrow.Author.Needs.{needs}
 use Rattle.valid_judge.proofs.stack.get_sp.Statement.{statement}
 use Rattle.valid_judge.proofs.stack.get_sp.Tie as tie
-use Rattle.valid_judge.proofs.stack.get_sp.Reads as reads
-use Rattle.valid_judge.proofs.stack.get_sp.Lts as lts
-use Rattle.valid_context.proofs.least.Reads as least-reads
-use Rattle.valid_judge.proofs.heap.set_register.Reads as set-register-reads
-use Rattle.valid_judge.proofs.stack.if_not.Reads as if-not-reads
-use Rattle.valid_judge.proofs.stack.points.Reads as points-reads
-use Rattle.valid_typing.proofs.formed_row.Reads as formed-row-reads
-use Rattle.valid_typing.proofs.given_row.Reads as given-row-reads
 
 given-row-requires : tie.Need-given-row-requires
-given-row-requires c κs = (c .before .before .before .before .before .before .pre) .0 .few
+given-row-requires c κs =
+    let s : tie.Start = search in
+    s .pre .1 .few
 
 points-requires : tie.Need-points-requires
-points-requires c κs = ((c .before .before .before .before .before .before .before .pre) .0, omega (arith, (c .before .before .before .before .before .before .before .pre) .0 .few, (c .given-row) .ensures .1))
-
-if-not-requires : tie.Need-if-not-requires
-if-not-requires c κs = search needs
+unfolding part
+points-requires c κs =
+    let s : tie.Start = search in
+    let t-given-row : tie.After-given-row = search in
+    (s .pre .1, omega (arith, s .pre .1 .few, t-given-row .given-row .ensures .1))
 
 formed-row-requires : tie.Need-formed-row-requires
-formed-row-requires c κs = ((c .before .before .before .before .before .before .before .before .before .pre) .0 .few, (c .before .before .before .before .before .before .before .before .before .pre) .1)
-
-least-requires : tie.Need-least-requires
-least-requires c κs = search needs
+formed-row-requires c κs =
+    let s : tie.Start = search in
+    (s .pre .0, s .pre .1 .few, s .pre .2)
 
 returns : tie.Need-returns
-returns c = λ P e. got-none P (map letterOf (span ((c .before .before .before .before .before .before .before .before .before .before .before .before .args) .parts .now) ((c .before .before .before .before .before .before .before .before .before .before .before .before .args) .l) ((c .before .before .before .before .before .before .before .before .before .before .before .before .args) .q))) (typesIn ((c .before .before .before .before .before .before .before .before .before .before .before .before .args) .rows .now) ((c .before .before .before .before .before .before .before .before .before .before .before .before .args) .parts .now) ((c .before .before .before .before .before .before .before .before .before .before .before .before .args) .n)) ((c .before .before .before .before .before .before .before .before .before .before .before .before .args) .regs .now) ((c .before .before .before .before .before .before .before .before .before .before .before .before .args) .sp .now) ((c .before .before .before .before .before .before .before .before .before .before .before .before .args) .depth) ((c .before .before .before .before .before .given-row) .result) ((c .before .before .before .before .before .before .before .before .before .before .before .before .args) .t) ((c .before .before .formed-row) .result) ((c .before .before .before .if-not) .result) ((c .before .least) .result) ((c .before .before .before .before .points) .result) ((c .before .before .formed-row) .ensures P e) ((c .before .before .before .before .points) .ensures) (given-same ((c .before .before .before .before .before .before .before .before .before .before .before .before .args) .rows .now) ((c .before .before .before .before .before .before .before .before .before .before .before .before .args) .parts .now) ((c .before .before .before .before .before .before .before .before .before .before .before .before .args) .n) P ((c .before .before .before .before .before .before .before .before .before .before .before .before .args) .t) ((c .before .before .before .before .before .given-row) .ensures .0) e ((c .before .before .before .before .before .before .before .before .before .before .before .before .pre) .0)) ((c .before .before .before .if-not) .ensures) ((c .before .least) .ensures) ((c .before .before .before .before .before .before .before .before .before .before .before .before .args) .d) _ ((c .if1) .taken)
+unfolding part
+returns c =
+    let s : tie.Start = search in
+    let a = s .args in
+    let l = a .image .now in
+    let t-given-row : tie.After-given-row = search in
+    let t-formed-row : tie.After-formed-row = search in
+    let t-if-not : tie.After-if-not = search in
+    let t-least : tie.After-least = search in
+    let t-points : tie.After-points = search in
+    let i1 : tie.Then1 = search in
+    λ P e. got-none P (lettersIn (a .p) l (a .w)) (typesAt (a .p) l (a .n)) (a .regs .now) (a .sp .now) (a .depth) (t-given-row .given-row .result) (a .t) (t-formed-row .formed-row .result) (t-if-not .if-not .result) (t-least .least .result) (t-points .points .result) (t-formed-row .formed-row .ensures P e) (t-points .points .ensures) (given-same (sharedSection (a .p) l) (slotSection (a .p) l) (a .n) P (a .t) (t-given-row .given-row .ensures .0) e (s .pre .1)) (t-if-not .if-not .ensures) (t-least .least .ensures) (a .d) _ (i1 .if1 .taken)
 
 set-register-requires : tie.Need-set-register-requires
-set-register-requires c κs = ((c .before .before .before .before .before .before .before .before .before .before .before .before .before .pre) .2, omega (arith, (c .before .before .before .before .before .before .before .before .before .before .before .before .before .pre) .0 .few, (c .before .before .before .before .before .before .given-row) .ensures .1))
-
-same-length : tie.Need-same-length
-same-length c = search needs
+set-register-requires c κs =
+    let s : tie.Start = search in
+    let t-given-row : tie.After-given-row = search in
+    (s .pre .3, omega (arith, s .pre .1 .few, t-given-row .given-row .ensures .1))
 
 returns-2 : tie.Need-returns-2
-returns-2 c = λ P e. got P (map letterOf (span ((c .before .before .before .before .before .before .before .before .before .before .before .before .before .before .before .before .args) .parts .now) ((c .before .before .before .before .before .before .before .before .before .before .before .before .before .before .before .before .args) .l) ((c .before .before .before .before .before .before .before .before .before .before .before .before .before .before .before .before .args) .q))) (typesIn ((c .before .before .before .before .before .before .before .before .before .before .before .before .before .before .before .before .args) .rows .now) ((c .before .before .before .before .before .before .before .before .before .before .before .before .before .before .before .before .args) .parts .now) ((c .before .before .before .before .before .before .before .before .before .before .before .before .before .before .before .before .args) .n)) ((c .before .before .before .before .before .before .before .before .before .before .before .before .before .before .before .before .args) .regs .now) ((c .before .before .before .before .before .before .before .before .before .before .before .before .before .before .before .before .args) .sp .now) ((c .before .before .before .before .before .before .before .before .before .before .before .before .before .before .before .before .args) .depth) ((c .before .before .before .before .before .before .before .before .before .given-row) .result) ((c .before .before .before .before .before .before .before .before .before .before .before .before .before .before .before .before .args) .t) ((c .before .before .before .before .before .before .formed-row) .result) ((c .before .before .before .before .before .before .before .if-not) .result) ((c .before .before .before .before .before .least) .result) ((c .before .before .before .before .before .before .before .before .points) .result) ((c .before .before .before .before .before .before .formed-row) .ensures P e) ((c .before .before .before .before .before .before .before .before .points) .ensures) (given-same ((c .before .before .before .before .before .before .before .before .before .before .before .before .before .before .before .before .args) .rows .now) ((c .before .before .before .before .before .before .before .before .before .before .before .before .before .before .before .before .args) .parts .now) ((c .before .before .before .before .before .before .before .before .before .before .before .before .before .before .before .before .args) .n) P ((c .before .before .before .before .before .before .before .before .before .before .before .before .before .before .before .before .args) .t) ((c .before .before .before .before .before .before .before .before .before .given-row) .ensures .0) e ((c .before .before .before .before .before .before .before .before .before .before .before .before .before .before .before .before .pre) .0)) ((c .before .before .before .before .before .before .before .if-not) .ensures) ((c .before .before .before .before .before .least) .ensures) ((c .before .before .before .before .before .before .before .before .before .before .before .before .before .before .before .before .args) .d) _ _ ((c .before .before .before .before .if1) .left) ((c .before .before .set-register) .ensures (typesIn ((c .before .before .before .before .before .before .before .before .before .before .before .before .before .before .before .before .args) .rows .now) ((c .before .before .before .before .before .before .before .before .before .before .before .before .before .before .before .before .args) .parts .now) ((c .before .before .before .before .before .before .before .before .before .before .before .before .before .before .before .before .args) .n)) P (map letterOf (span ((c .before .before .before .before .before .before .before .before .before .before .before .before .before .before .before .before .args) .parts .now) ((c .before .before .before .before .before .before .before .before .before .before .before .before .before .before .before .before .args) .l) ((c .before .before .before .before .before .before .before .before .before .before .before .before .before .before .before .before .args) .q))) (spOf (typesIn ((c .before .before .before .before .before .before .before .before .before .before .before .before .before .before .before .before .args) .rows .now) ((c .before .before .before .before .before .before .before .before .before .before .before .before .before .before .before .before .args) .parts .now) ((c .before .before .before .before .before .before .before .before .before .before .before .before .before .before .before .before .args) .n)) ((c .before .before .before .before .before .before .before .before .before .before .before .before .before .before .before .before .args) .sp .now) ((c .before .before .before .before .before .before .before .before .before .before .before .before .before .before .before .before .args) .depth)))
+unfolding part
+returns-2 c =
+    let s : tie.Start = search in
+    let a = s .args in
+    let l = a .image .now in
+    let t-given-row : tie.After-given-row = search in
+    let t-formed-row : tie.After-formed-row = search in
+    let t-if-not : tie.After-if-not = search in
+    let t-least : tie.After-least = search in
+    let t-points : tie.After-points = search in
+    let i1 : tie.Else1 = search in
+    let t-set-register : tie.After-set-register = search in
+    λ P e. got P (lettersIn (a .p) l (a .w)) (typesAt (a .p) l (a .n)) (a .regs .now) (a .sp .now) (a .depth) (t-given-row .given-row .result) (a .t) (t-formed-row .formed-row .result) (t-if-not .if-not .result) (t-least .least .result) (t-points .points .result) (t-formed-row .formed-row .ensures P e) (t-points .points .ensures) (given-same (sharedSection (a .p) l) (slotSection (a .p) l) (a .n) P (a .t) (t-given-row .given-row .ensures .0) e (s .pre .1)) (t-if-not .if-not .ensures) (t-least .least .ensures) (a .d) _ _ (i1 .if1 .left) (t-set-register .set-register .ensures (typesAt (a .p) l (a .n)) P (lettersIn (a .p) l (a .w)) (spOf (typesAt (a .p) l (a .n)) (a .sp .now) (a .depth)))
 
 pub get-sp-spec : {M : Type 1} → statement M
 get-sp-spec =
     tie.close
     (tie.spec
-    given-row-requires
-    points-requires
-    if-not-requires
-    formed-row-requires
-    least-requires
-    returns
-    set-register-requires
-    same-length
-    returns-2)
+    (λ c. search needs) (λ c. search needs) (λ c. search needs) (λ c. search needs) (λ c. search needs) (λ c. search needs)
+    (λ c. search needs) (λ c. search needs) given-row-requires points-requires (λ c κs. search needs) formed-row-requires
+    (λ c κs. search needs) returns set-register-requires (λ c. search needs) returns-2)

@@ -1,113 +1,154 @@
 use native.Mathlib.Omega.{arith}
-use mathlib.Core.Path.{_≡_, sym, ap, _∙_, refl}
-use mathlib.Core.List.{map}
+use mathlib.Core.Path.{ap, _∙_}
 use Rattle.syntax.specs.Syntax.{value}
 use Rattle.types.specs.Rows.{typeAt}
-use Rattle.tables.specs.Tables.{span, letterOf}
-use Rattle.types_rows.specs.Read.{tab, meanS}
-use Rattle.valid_context.specs.Context.{spOf, contextOf}
-use Rattle.valid_typing.specs.Typing.{typesIn}
+use Rattle.types_rows.specs.Read.{meanS}
 use Rattle.valid_typing.proofs.Stacks.{count-is}
 use Rattle.valid_judge.proofs.through.Laws.{store-none, stored, written, last-zero}
+use Rattle.image.specs.Sections.{part, sharedSection, slotSection}
+use Rattle.valid_typing.specs.Image.{rowTable, typesAt, lettersIn}
 use borrow.Author.Needs.{needs}
 use Rattle.valid_judge.proofs.through.store_through.Statement.{statement}
 use Rattle.valid_judge.proofs.through.store_through.Tie as tie
-use Rattle.valid_judge.proofs.through.store_through.Reads as reads
-use Rattle.valid_judge.proofs.through.store_through.Lts as lts
-use Rattle.valid_context.proofs.least.Reads as least-reads
-use Rattle.valid_context.proofs.set_item.Reads as set-item-reads
-use Rattle.valid_judge.proofs.heap.if_none.Reads as if-none-reads
-use Rattle.valid_judge.proofs.heap.link_at.Reads as link-at-reads
-use Rattle.valid_judge.proofs.heap.set_register.Reads as set-register-reads
-use Rattle.valid_judge.proofs.through.pass_through.Reads as pass-through-reads
-use Rattle.types_rows.proofs.item_count.Reads as item-count-reads
-use Rattle.valid_typing.proofs.formed_row.Reads as formed-row-reads
-use Rattle.valid_typing.proofs.given_row.Reads as given-row-reads
-use Rattle.valid_typing.proofs.pointer.Reads as pointer-reads
+
+abbrev pass-through-of : tie.After-least2 → tie.After-pass-through
+pass-through-of t = search
+
+abbrev formed-row-of : tie.After-least2 → tie.After-formed-row
+formed-row-of t = search
+
+abbrev if-none-of : tie.After-least2 → tie.After-if-none
+if-none-of t = search
+
+abbrev least-of : tie.After-least2 → tie.After-least
+least-of t = search
+
+abbrev start-of : tie.After-pass-through → tie.Start
+start-of t = search
+
+abbrev link-at-of : tie.After-pass-through → tie.After-link-at
+link-at-of t = search
+
+abbrev pointer-of : tie.After-pass-through → tie.After-pointer
+pointer-of t = search
 
 link-at-requires : tie.Need-link-at-requires
-link-at-requires c κs = (c .before .before .before .before .before .before .before .before .pre) .0 .few
+link-at-requires c κs =
+    let s : tie.Start = search in
+    s .pre .1 .few
 
 pointer-requires : tie.Need-pointer-requires
-pointer-requires c κs = (c .before .before .before .before .before .before .before .before .before .before .pre) .0
+unfolding part
+pointer-requires c κs =
+    let s : tie.Start = search in
+    s .pre .1
 
 pass-through-requires : tie.Need-pass-through-requires
+unfolding part
 pass-through-requires c κs =
-    let q = (c .before .before .before .before .before .before .before .before .before .before .before .before .before .pre) .2 ((c .before .before .pointer) .result .row) (omega (arith, (c .before .before .pointer) .ensures .1)) in
-    ((c .before .before .before .before .before .before .before .before .before .before .before .before .before .pre) .0, omega (arith, (c .before .before .pointer) .ensures .1), (c .before .before .before .before .link-at) .ensures .1, omega (arith, q .0, (c .before .before .before .before .before .before .before .before .before .before .before .before .before .pre) .5), q .1)
-
-if-none-requires : tie.Need-if-none-requires
-if-none-requires c κs = search needs
-
-least-requires : tie.Need-least-requires
-least-requires c κs = search needs
+    let s : tie.Start = search in
+    let t-pointer : tie.After-pointer = search in
+    let t-link-at : tie.After-link-at = search in
+    let q = s .pre .3 (t-pointer .pointer .result .row) (omega (arith, t-pointer .pointer .ensures .1)) in
+    (s .pre .1, omega (arith, t-pointer .pointer .ensures .1), t-link-at .link-at .ensures .1, omega (arith, q .0, s .pre .6), q .1)
 
 formed-row-requires : tie.Need-formed-row-requires
-formed-row-requires c κs = ((c .before .before .before .before .before .before .before .before .before .before .before .before .before .before .before .before .before .before .pre) .0 .few, (c .before .before .before .before .before .before .before .before .before .before .before .before .before .before .before .before .before .before .pre) .1)
-
-least-requires-2 : tie.Need-least-requires-2
-least-requires-2 c κs = search needs
-
-same-length : tie.Need-same-length
-same-length c = search needs
-
-same-length-2 : tie.Need-same-length-2
-same-length-2 c = search needs
-
-same-length-3 : tie.Need-same-length-3
-same-length-3 c = search needs
+formed-row-requires c κs =
+    let s : tie.Start = search in
+    (s .pre .0, s .pre .1 .few, s .pre .2)
 
 returns : tie.Need-returns
-returns c = λ P e. store-none P (map letterOf (span ((c .before .before .before .before .before .before .before .before .before .before .before .before .before .before .before .before .before .before .before .before .before .args) .parts .now) ((c .before .before .before .before .before .before .before .before .before .before .before .before .before .before .before .before .before .before .before .before .before .args) .l) ((c .before .before .before .before .before .before .before .before .before .before .before .before .before .before .before .before .before .before .before .before .before .args) .q))) (typesIn ((c .before .before .before .before .before .before .before .before .before .before .before .before .before .before .before .before .before .before .before .before .before .args) .rows .now) ((c .before .before .before .before .before .before .before .before .before .before .before .before .before .before .before .before .before .before .before .before .before .args) .parts .now) ((c .before .before .before .before .before .before .before .before .before .before .before .before .before .before .before .before .before .before .before .before .before .args) .n)) ((c .before .before .before .before .before .before .before .before .before .before .before .before .before .before .before .before .before .before .before .before .before .args) .regs .now) ((c .before .before .before .before .before .before .before .before .before .before .before .before .before .before .before .before .before .before .before .before .before .args) .sp .now) ((c .before .before .before .before .before .before .before .before .before .before .before .before .before .before .before .before .before .before .before .before .before .args) .depth) ((c .before .before .before .before .before .before .before .before .before .before .before .before .before .before .before .before .before .before .before .before .before .args) .d) ((c .before .before .before .before .before .before .before .before .before .before .before .before .before .before .before .before .before .before .before .before .before .args) .i) ((c .before .before .before .before .before .before .before .before .before .before .before .before .before .before .before .before .before .before .before .before .before .args) .s) ((c .before .before .before .before .before .before .before .before .before .before .before .before .before .before .before .before .before .before .before .before .before .args) .t) ((c .before .before .before .before .before .before .before .before .before .before .before .before .link-at) .result) ((c .before .before .formed-row) .result) ((c .before .before .before .before .if-none) .result) ((c .before .before .before .least) .result) ((c .before .before .before .before .before .before .before .pass-through) .result) ((c .before .least2) .result) _ _ ((c .before .before .formed-row) .ensures P e) ((c .before .before .before .before .before .before .before .before .before .before .before .before .link-at) .ensures .0 ((c .before .before .before .before .before .before .before .before .before .before .before .before .before .before .before .before .before .before .before .before .before .args) .rows .now) ((c .before .before .before .before .before .before .before .before .before .before .before .before .before .before .before .before .before .before .before .before .before .args) .parts .now) ((c .before .before .before .before .before .before .before .before .before .before .before .before .before .before .before .before .before .before .before .before .before .pre) .0)) ((c .before .before .before .before .before .before .before .pass-through) .ensures .0 P (map letterOf (span ((c .before .before .before .before .before .before .before .before .before .before .before .before .before .before .before .before .before .before .before .before .before .args) .parts .now) ((c .before .before .before .before .before .before .before .before .before .before .before .before .before .before .before .before .before .before .before .before .before .args) .l) ((c .before .before .before .before .before .before .before .before .before .before .before .before .before .before .before .before .before .before .before .before .before .args) .q))) ((c .before .before .before .before .before .before .before .before .before .before .before .before .before .before .before .before .before .before .before .before .before .args) .regs .now) ((c .before .before .before .before .before .before .before .before .before .before .before .before .before .before .before .before .before .before .before .before .before .args) .d) ((c .before .before .before .before .before .before .before .before .before .before .before .before .before .before .before .before .before .before .before .before .before .args) .s) e ((c .before .before .before .before .before .before .before .before .before .before .pointer) .ensures .0 P (map letterOf (span ((c .before .before .before .before .before .before .before .before .before .before .before .before .before .before .before .before .before .before .before .before .before .args) .parts .now) ((c .before .before .before .before .before .before .before .before .before .before .before .before .before .before .before .before .before .before .before .before .before .args) .l) ((c .before .before .before .before .before .before .before .before .before .before .before .before .before .before .before .before .before .before .before .before .before .args) .q)))) ((c .before .before .before .before .before .before .before .before .before .before .before .before .link-at) .ensures .0 ((c .before .before .before .before .before .before .before .before .before .before .before .before .before .before .before .before .before .before .before .before .before .args) .rows .now) ((c .before .before .before .before .before .before .before .before .before .before .before .before .before .before .before .before .before .before .before .before .before .args) .parts .now) ((c .before .before .before .before .before .before .before .before .before .before .before .before .before .before .before .before .before .before .before .before .before .pre) .0))) ((c .before .before .before .before .if-none) .ensures) ((c .before .before .before .least) .ensures) ((c .before .least2) .ensures) _ ((c .if1) .taken)
+unfolding part
+returns c =
+    let t-least2 : tie.After-least2 = search in
+    let t-pass-through = pass-through-of t-least2 in
+    let s = start-of t-pass-through in
+    let a = s .args in
+    let l = a .image .now in
+    let t-link-at = link-at-of t-pass-through in
+    let t-pointer = pointer-of t-pass-through in
+    let t-formed-row = formed-row-of t-least2 in
+    let t-if-none = if-none-of t-least2 in
+    let t-least = least-of t-least2 in
+    let i1 : tie.Then1 = search in
+    λ P e. store-none P (lettersIn (a .p) l (a .w)) (typesAt (a .p) l (a .n)) (a .regs .now) (a .sp .now) (a .depth) (a .x .pointer) (a .x .item) (a .x .source) (a .x .row) (t-link-at .link-at .result) (t-formed-row .formed-row .result) (t-if-none .if-none .result) (t-least .least .result) (t-pass-through .pass-through .result) (t-least2 .least2 .result) _ _ (t-formed-row .formed-row .ensures P e) (t-link-at .link-at .ensures .0 (sharedSection (a .p) l) (slotSection (a .p) l) (s .pre .1)) (t-pass-through .pass-through .ensures .0 P (lettersIn (a .p) l (a .w)) (a .regs .now) (a .x .pointer) (a .x .source) e (t-pointer .pointer .ensures .0 P (lettersIn (a .p) l (a .w))) (t-link-at .link-at .ensures .0 (sharedSection (a .p) l) (slotSection (a .p) l) (s .pre .1))) (t-if-none .if-none .ensures) (t-least .least .ensures) (t-least2 .least2 .ensures) _ (i1 .if1 .taken)
 
 item-count-requires : tie.Need-item-count-requires
-item-count-requires c κs = omega (arith, (c .before .before .before .before .before .before .before .before .before .before .before .before .before .before .before .before .before .before .before .before .before .before .pre) .0 .few, (c .before .before .before .before .before .before .before .before .before .before .before .pointer) .ensures .1)
+item-count-requires c κs =
+    let t-least2 : tie.After-least2 = search in
+    let t-pass-through = pass-through-of t-least2 in
+    let s = start-of t-pass-through in
+    let t-pointer = pointer-of t-pass-through in
+    omega (arith, s .pre .1 .few, t-pointer .pointer .ensures .1)
 
 sub-set-item : tie.Need-sub-set-item
-sub-set-item c = omega (arith, ((c .before .before .before .before .before .before .before .before .before .pass-through) .ensures .1 (last-zero ((c .before .before .before .before .formed-row) .result) ((c .before .before .before .before .before .before .if-none) .result) ((c .before .before .before .before .before .before .before .before .before .pass-through) .result) ((c .before .before .before .before .before .least) .result) ((c .before .before .before .least2) .result) ((c .before .before .before .before .before .least) .ensures) ((c .before .before .before .least2) .ensures) ((c .before .before .if1) .left))) .1 .known)
+sub-set-item c =
+    let t-least2 : tie.After-least2 = search in
+    let t-pass-through = pass-through-of t-least2 in
+    let t-formed-row = formed-row-of t-least2 in
+    let t-if-none = if-none-of t-least2 in
+    let t-least = least-of t-least2 in
+    let i1 : tie.Else1 = search in
+    omega (arith, (t-pass-through .pass-through .ensures .1 (last-zero (t-formed-row .formed-row .result) (t-if-none .if-none .result) (t-pass-through .pass-through .result) (t-least .least .result) (t-least2 .least2 .result) (t-least .least .ensures) (t-least2 .least2 .ensures) (i1 .if1 .left))) .1 .known)
 
 set-item-requires : tie.Need-set-item-requires
-set-item-requires c κs = (let k = (count-is ((c .before .before .before .before .before .before .before .before .before .before .before .before .before .before .before .before .before .before .before .before .before .before .before .args) .rows .now) ((c .before .before .before .before .before .before .before .before .before .before .before .before .before .before .before .before .before .before .before .before .before .before .before .args) .parts .now) ((c .before .before .before .before .before .before .before .before .before .before .before .before .before .before .before .before .before .before .before .before .before .before .before .args) .n) ((c .before .before .before .before .before .before .before .before .before .before .before .before .pointer) .result .row) ((c .before .before .before .before .before .before .before .before .before .before .before .before .before .before .before .before .before .before .before .before .before .before .before .pre) .0) (omega (arith, (c .before .before .before .before .before .before .before .before .before .before .before .before .pointer) .ensures .1))) in omega (arith, (c .item-count) .ensures .0, (c .before .before .before .before .before .before .before .before .before .before .before .before .before .before .before .before .before .before .before .before .before .before .before .pre) .4, ((c .before .before .before .before .before .before .before .before .before .pass-through) .ensures .1 (last-zero ((c .before .before .before .before .formed-row) .result) ((c .before .before .before .before .before .before .if-none) .result) ((c .before .before .before .before .before .before .before .before .before .pass-through) .result) ((c .before .before .before .before .before .least) .result) ((c .before .before .before .least2) .result) ((c .before .before .before .before .before .least) .ensures) ((c .before .before .before .least2) .ensures) ((c .before .before .if1) .left))) .0 .fits), omega (arith, (c .before .before .before .before .before .before .before .before .before .before .before .before .before .before .before .before .before .before .before .before .before .before .before .pre) .0 .few, (c .before .before .before .before .before .before .before .before .before .before .before .before .before .before .link-at) .ensures .1))
+unfolding part
+set-item-requires c κs =
+    let t-least2 : tie.After-least2 = search in
+    let t-pass-through = pass-through-of t-least2 in
+    let s = start-of t-pass-through in
+    let a = s .args in
+    let l = a .image .now in
+    let t-link-at = link-at-of t-pass-through in
+    let t-pointer = pointer-of t-pass-through in
+    let t-formed-row = formed-row-of t-least2 in
+    let t-if-none = if-none-of t-least2 in
+    let t-least = least-of t-least2 in
+    let t-item-count : tie.After-item-count = search in
+    let i1 : tie.Else1 = search in
+    (let k = (count-is (sharedSection (a .p) l) (slotSection (a .p) l) (a .n) (t-pointer .pointer .result .row) (s .pre .1) (omega (arith, t-pointer .pointer .ensures .1))) in omega (arith, t-item-count .item-count .ensures .0, s .pre .5, (t-pass-through .pass-through .ensures .1 (last-zero (t-formed-row .formed-row .result) (t-if-none .if-none .result) (t-pass-through .pass-through .result) (t-least .least .result) (t-least2 .least2 .result) (t-least .least .ensures) (t-least2 .least2 .ensures) (i1 .if1 .left))) .0 .fits), omega (arith, s .pre .1 .few, t-link-at .link-at .ensures .1))
 
 given-row-requires : tie.Need-given-row-requires
-given-row-requires c κs = (c .before .before .before .before .before .before .before .before .before .before .before .before .before .before .before .before .before .before .before .before .before .before .before .before .before .before .before .pre) .0 .few
+given-row-requires c κs =
+    let t-least2 : tie.After-least2 = search in
+    let t-pass-through = pass-through-of t-least2 in
+    let s = start-of t-pass-through in
+    s .pre .1 .few
 
 set-register-requires : tie.Need-set-register-requires
-set-register-requires c κs = ((c .before .before .before .before .before .before .before .before .before .before .before .before .before .before .before .before .before .before .before .before .before .before .before .before .before .before .before .before .pre) .3, omega (arith, (c .before .before .before .before .before .before .before .before .before .before .before .before .before .before .before .before .before .before .before .before .before .before .before .before .before .before .before .before .pre) .0 .few, (c .given-row) .ensures .1))
-
-same-length-4 : tie.Need-same-length-4
-same-length-4 c = search needs
-
-same-length-5 : tie.Need-same-length-5
-same-length-5 c = search needs
-
-same-length-6 : tie.Need-same-length-6
-same-length-6 c = search needs
+set-register-requires c κs =
+    let t-least2 : tie.After-least2 = search in
+    let t-pass-through = pass-through-of t-least2 in
+    let s = start-of t-pass-through in
+    let t-given-row : tie.After-given-row = search in
+    (s .pre .4, omega (arith, s .pre .1 .few, t-given-row .given-row .ensures .1))
 
 returns-2 : tie.Need-returns-2
-returns-2 c = λ P e. stored P (map letterOf (span ((c .before .before .before .before .before .before .before .before .before .before .before .before .before .before .before .before .before .before .before .before .before .before .before .before .before .before .before .before .before .before .before .args) .parts .now) ((c .before .before .before .before .before .before .before .before .before .before .before .before .before .before .before .before .before .before .before .before .before .before .before .before .before .before .before .before .before .before .before .args) .l) ((c .before .before .before .before .before .before .before .before .before .before .before .before .before .before .before .before .before .before .before .before .before .before .before .before .before .before .before .before .before .before .before .args) .q))) (typesIn ((c .before .before .before .before .before .before .before .before .before .before .before .before .before .before .before .before .before .before .before .before .before .before .before .before .before .before .before .before .before .before .before .args) .rows .now) ((c .before .before .before .before .before .before .before .before .before .before .before .before .before .before .before .before .before .before .before .before .before .before .before .before .before .before .before .before .before .before .before .args) .parts .now) ((c .before .before .before .before .before .before .before .before .before .before .before .before .before .before .before .before .before .before .before .before .before .before .before .before .before .before .before .before .before .before .before .args) .n)) ((c .before .before .before .before .before .before .before .before .before .before .before .before .before .before .before .before .before .before .before .before .before .before .before .before .before .before .before .before .before .before .before .args) .regs .now) ((c .before .before .before .before .before .before .before .before .before .before .before .before .before .before .before .before .before .before .before .before .before .before .before .before .before .before .before .before .before .before .before .args) .sp .now) ((c .before .before .before .before .before .before .before .before .before .before .before .before .before .before .before .before .before .before .before .before .before .before .before .before .before .before .before .before .before .before .before .args) .depth) ((c .before .before .before .before .before .before .before .before .before .before .before .before .before .before .before .before .before .before .before .before .before .before .before .before .before .before .before .before .before .before .before .args) .d) ((c .before .before .before .before .before .before .before .before .before .before .before .before .before .before .before .before .before .before .before .before .before .before .before .before .before .before .before .before .before .before .before .args) .i) ((c .before .before .before .before .before .before .before .before .before .before .before .before .before .before .before .before .before .before .before .before .before .before .before .before .before .before .before .before .before .before .before .args) .s) ((c .before .before .before .before .before .before .before .before .before .before .before .before .before .before .before .before .before .before .before .before .before .before .before .before .before .before .before .before .before .before .before .args) .t) ((c .before .before .before .before .before .before .before .before .before .before .before .before .before .before .before .before .before .before .before .before .before .before .link-at) .result) ((c .before .before .before .before .before .before .before .before .before .before .before .before .formed-row) .result) ((c .before .before .before .before .before .before .before .before .before .before .before .before .before .before .if-none) .result) ((c .before .before .before .before .before .before .before .before .before .before .before .before .before .least) .result) ((c .before .before .before .before .before .before .before .before .before .before .before .before .before .before .before .before .before .pass-through) .result) ((c .before .before .before .before .before .before .before .before .before .before .before .least2) .result) _ _ ((c .before .before .before .before .before .before .before .before .before .before .before .before .formed-row) .ensures P e) ((c .before .before .before .before .before .before .before .before .before .before .before .before .before .before .before .before .before .before .before .before .before .before .link-at) .ensures .0 ((c .before .before .before .before .before .before .before .before .before .before .before .before .before .before .before .before .before .before .before .before .before .before .before .before .before .before .before .before .before .before .before .args) .rows .now) ((c .before .before .before .before .before .before .before .before .before .before .before .before .before .before .before .before .before .before .before .before .before .before .before .before .before .before .before .before .before .before .before .args) .parts .now) ((c .before .before .before .before .before .before .before .before .before .before .before .before .before .before .before .before .before .before .before .before .before .before .before .before .before .before .before .before .before .before .before .pre) .0)) ((c .before .before .before .before .before .before .before .before .before .before .before .before .before .before .before .before .before .pass-through) .ensures .0 P (map letterOf (span ((c .before .before .before .before .before .before .before .before .before .before .before .before .before .before .before .before .before .before .before .before .before .before .before .before .before .before .before .before .before .before .before .args) .parts .now) ((c .before .before .before .before .before .before .before .before .before .before .before .before .before .before .before .before .before .before .before .before .before .before .before .before .before .before .before .before .before .before .before .args) .l) ((c .before .before .before .before .before .before .before .before .before .before .before .before .before .before .before .before .before .before .before .before .before .before .before .before .before .before .before .before .before .before .before .args) .q))) ((c .before .before .before .before .before .before .before .before .before .before .before .before .before .before .before .before .before .before .before .before .before .before .before .before .before .before .before .before .before .before .before .args) .regs .now) ((c .before .before .before .before .before .before .before .before .before .before .before .before .before .before .before .before .before .before .before .before .before .before .before .before .before .before .before .before .before .before .before .args) .d) ((c .before .before .before .before .before .before .before .before .before .before .before .before .before .before .before .before .before .before .before .before .before .before .before .before .before .before .before .before .before .before .before .args) .s) e ((c .before .before .before .before .before .before .before .before .before .before .before .before .before .before .before .before .before .before .before .before .pointer) .ensures .0 P (map letterOf (span ((c .before .before .before .before .before .before .before .before .before .before .before .before .before .before .before .before .before .before .before .before .before .before .before .before .before .before .before .before .before .before .before .args) .parts .now) ((c .before .before .before .before .before .before .before .before .before .before .before .before .before .before .before .before .before .before .before .before .before .before .before .before .before .before .before .before .before .before .before .args) .l) ((c .before .before .before .before .before .before .before .before .before .before .before .before .before .before .before .before .before .before .before .before .before .before .before .before .before .before .before .before .before .before .before .args) .q)))) ((c .before .before .before .before .before .before .before .before .before .before .before .before .before .before .before .before .before .before .before .before .before .before .link-at) .ensures .0 ((c .before .before .before .before .before .before .before .before .before .before .before .before .before .before .before .before .before .before .before .before .before .before .before .before .before .before .before .before .before .before .before .args) .rows .now) ((c .before .before .before .before .before .before .before .before .before .before .before .before .before .before .before .before .before .before .before .before .before .before .before .before .before .before .before .before .before .before .before .args) .parts .now) ((c .before .before .before .before .before .before .before .before .before .before .before .before .before .before .before .before .before .before .before .before .before .before .before .before .before .before .before .before .before .before .before .pre) .0))) ((c .before .before .before .before .before .before .before .before .before .before .before .before .before .before .if-none) .ensures) ((c .before .before .before .before .before .before .before .before .before .before .before .before .before .least) .ensures) ((c .before .before .before .before .before .before .before .before .before .before .before .least2) .ensures) _ ((c .before .before .before .given-row) .result) _ _ ((c .before .before .before .before .before .before .before .before .before .before .if1) .left) (written (typesIn ((c .before .before .before .before .before .before .before .before .before .before .before .before .before .before .before .before .before .before .before .before .before .before .before .before .before .before .before .before .before .before .before .args) .rows .now) ((c .before .before .before .before .before .before .before .before .before .before .before .before .before .before .before .before .before .before .before .before .before .before .before .before .before .before .before .before .before .before .before .args) .parts .now) ((c .before .before .before .before .before .before .before .before .before .before .before .before .before .before .before .before .before .before .before .before .before .before .before .before .before .before .before .before .before .before .before .args) .n)) ((c .before .before .before .before .before .before .before .before .before .before .before .before .before .before .before .before .before .before .before .before .before .before .before .before .before .before .before .before .before .before .before .args) .sp .now) _ ((c .before .before .before .before .before .before .before .before .before .before .before .before .before .before .before .before .before .before .before .before .before .before .before .before .before .before .before .before .before .before .before .args) .depth) ((c .before .before .before .before .before .before .before .before .before .before .before .before .before .before .before .before .before .before .before .before .before .before .before .before .before .before .before .before .before .before .before .args) .i) ((c .before .before .before .before .before .before .before .before .before .before .before .before .before .before .before .before .before .before .before .before .before .before .link-at) .result) _ ((c .before .before .before .before .before .before .before .before .item-count) .result) (meanS (tab ((c .before .before .before .before .before .before .before .before .before .before .before .before .before .before .before .before .before .before .before .before .before .before .before .before .before .before .before .before .before .before .before .args) .rows .now) ((c .before .before .before .before .before .before .before .before .before .before .before .before .before .before .before .before .before .before .before .before .before .before .before .before .before .before .before .before .before .before .before .args) .parts .now)) ((c .before .before .before .before .before .before .before .before .before .before .before .before .before .before .before .before .before .before .before .before .pointer) .result .row)) _ ((c .before .before .before .before .before .before .before .set-item) .result) (((c .before .before .before .before .before .before .before .before .before .before .before .before .before .before .before .before .before .pass-through) .ensures .1 (last-zero ((c .before .before .before .before .before .before .before .before .before .before .before .before .formed-row) .result) ((c .before .before .before .before .before .before .before .before .before .before .before .before .before .before .if-none) .result) ((c .before .before .before .before .before .before .before .before .before .before .before .before .before .before .before .before .before .pass-through) .result) ((c .before .before .before .before .before .before .before .before .before .before .before .before .before .least) .result) ((c .before .before .before .before .before .before .before .before .before .before .before .least2) .result) ((c .before .before .before .before .before .before .before .before .before .before .before .before .before .least) .ensures) ((c .before .before .before .before .before .before .before .before .before .before .before .least2) .ensures) ((c .before .before .before .before .before .before .before .before .before .before .if1) .left))) .0) (((c .before .before .before .before .before .before .before .before .before .before .before .before .before .before .before .before .before .pass-through) .ensures .1 (last-zero ((c .before .before .before .before .before .before .before .before .before .before .before .before .formed-row) .result) ((c .before .before .before .before .before .before .before .before .before .before .before .before .before .before .if-none) .result) ((c .before .before .before .before .before .before .before .before .before .before .before .before .before .before .before .before .before .pass-through) .result) ((c .before .before .before .before .before .before .before .before .before .before .before .before .before .least) .result) ((c .before .before .before .before .before .before .before .before .before .before .before .least2) .result) ((c .before .before .before .before .before .before .before .before .before .before .before .before .before .least) .ensures) ((c .before .before .before .before .before .before .before .before .before .before .before .least2) .ensures) ((c .before .before .before .before .before .before .before .before .before .before .if1) .left))) .1) ((c .before .before .before .before .before .before .before .before .item-count) .ensures .0 ∙ (count-is ((c .before .before .before .before .before .before .before .before .before .before .before .before .before .before .before .before .before .before .before .before .before .before .before .before .before .before .before .before .before .before .before .args) .rows .now) ((c .before .before .before .before .before .before .before .before .before .before .before .before .before .before .before .before .before .before .before .before .before .before .before .before .before .before .before .before .before .before .before .args) .parts .now) ((c .before .before .before .before .before .before .before .before .before .before .before .before .before .before .before .before .before .before .before .before .before .before .before .before .before .before .before .before .before .before .before .args) .n) ((c .before .before .before .before .before .before .before .before .before .before .before .before .before .before .before .before .before .before .before .before .pointer) .result .row) ((c .before .before .before .before .before .before .before .before .before .before .before .before .before .before .before .before .before .before .before .before .before .before .before .before .before .before .before .before .before .before .before .pre) .0) (omega (arith, (c .before .before .before .before .before .before .before .before .before .before .before .before .before .before .before .before .before .before .before .before .pointer) .ensures .1)))) ((c .before .before .before .before .before .before .before .set-item) .ensures .0 (typesIn ((c .before .before .before .before .before .before .before .before .before .before .before .before .before .before .before .before .before .before .before .before .before .before .before .before .before .before .before .before .before .before .before .args) .rows .now) ((c .before .before .before .before .before .before .before .before .before .before .before .before .before .before .before .before .before .before .before .before .before .before .before .before .before .before .before .before .before .before .before .args) .parts .now) ((c .before .before .before .before .before .before .before .before .before .before .before .before .before .before .before .before .before .before .before .before .before .before .before .before .before .before .before .before .before .before .before .args) .n))) ((c .before .before .before .before .before .before .before .set-item) .ensures .1 (typesIn ((c .before .before .before .before .before .before .before .before .before .before .before .before .before .before .before .before .before .before .before .before .before .before .before .before .before .before .before .before .before .before .before .args) .rows .now) ((c .before .before .before .before .before .before .before .before .before .before .before .before .before .before .before .before .before .before .before .before .before .before .before .before .before .before .before .before .before .before .before .args) .parts .now) ((c .before .before .before .before .before .before .before .before .before .before .before .before .before .before .before .before .before .before .before .before .before .before .before .before .before .before .before .before .before .before .before .args) .n)))) (ap (typeAt value (typesIn ((c .before .before .before .before .before .before .before .before .before .before .before .before .before .before .before .before .before .before .before .before .before .before .before .before .before .before .before .before .before .before .before .args) .rows .now) ((c .before .before .before .before .before .before .before .before .before .before .before .before .before .before .before .before .before .before .before .before .before .before .before .before .before .before .before .before .before .before .before .args) .parts .now) ((c .before .before .before .before .before .before .before .before .before .before .before .before .before .before .before .before .before .before .before .before .before .before .before .before .before .before .before .before .before .before .before .args) .n))) ((c .before .before .before .given-row) .ensures .0) ∙ ((c .before .before .before .before .before .before .before .before .before .before .before .before .before .before .before .before .before .pass-through) .ensures .1 (last-zero ((c .before .before .before .before .before .before .before .before .before .before .before .before .formed-row) .result) ((c .before .before .before .before .before .before .before .before .before .before .before .before .before .before .if-none) .result) ((c .before .before .before .before .before .before .before .before .before .before .before .before .before .before .before .before .before .pass-through) .result) ((c .before .before .before .before .before .before .before .before .before .before .before .before .before .least) .result) ((c .before .before .before .before .before .before .before .before .before .before .before .least2) .result) ((c .before .before .before .before .before .before .before .before .before .before .before .before .before .least) .ensures) ((c .before .before .before .before .before .before .before .before .before .before .before .least2) .ensures) ((c .before .before .before .before .before .before .before .before .before .before .if1) .left))) .1 .points) ((c .before .before .set-register) .ensures (typesIn ((c .before .before .before .before .before .before .before .before .before .before .before .before .before .before .before .before .before .before .before .before .before .before .before .before .before .before .before .before .before .before .before .args) .rows .now) ((c .before .before .before .before .before .before .before .before .before .before .before .before .before .before .before .before .before .before .before .before .before .before .before .before .before .before .before .before .before .before .before .args) .parts .now) ((c .before .before .before .before .before .before .before .before .before .before .before .before .before .before .before .before .before .before .before .before .before .before .before .before .before .before .before .before .before .before .before .args) .n)) P (map letterOf (span ((c .before .before .before .before .before .before .before .before .before .before .before .before .before .before .before .before .before .before .before .before .before .before .before .before .before .before .before .before .before .before .before .args) .parts .now) ((c .before .before .before .before .before .before .before .before .before .before .before .before .before .before .before .before .before .before .before .before .before .before .before .before .before .before .before .before .before .before .before .args) .l) ((c .before .before .before .before .before .before .before .before .before .before .before .before .before .before .before .before .before .before .before .before .before .before .before .before .before .before .before .before .before .before .before .args) .q))) _)
+unfolding part
+returns-2 c =
+    let t-set-register : tie.After-set-register = search in
+    let t-given-row : tie.After-given-row = search in
+    let t-set-item : tie.After-set-item = search in
+    let t-item-count : tie.After-item-count = search in
+    let i1 : tie.Else1 = search in
+    let t-least2 : tie.After-least2 = search in
+    let t-pass-through = pass-through-of t-least2 in
+    let s = start-of t-pass-through in
+    let a = s .args in
+    let l = a .image .now in
+    let t-link-at = link-at-of t-pass-through in
+    let t-pointer = pointer-of t-pass-through in
+    let t-formed-row = formed-row-of t-least2 in
+    let t-if-none = if-none-of t-least2 in
+    let t-least = least-of t-least2 in
+    λ P e. stored P (lettersIn (a .p) l (a .w)) (typesAt (a .p) l (a .n)) (a .regs .now) (a .sp .now) (a .depth) (a .x .pointer) (a .x .item) (a .x .source) (a .x .row) (t-link-at .link-at .result) (t-formed-row .formed-row .result) (t-if-none .if-none .result) (t-least .least .result) (t-pass-through .pass-through .result) (t-least2 .least2 .result) _ _ (t-formed-row .formed-row .ensures P e) (t-link-at .link-at .ensures .0 (sharedSection (a .p) l) (slotSection (a .p) l) (s .pre .1)) (t-pass-through .pass-through .ensures .0 P (lettersIn (a .p) l (a .w)) (a .regs .now) (a .x .pointer) (a .x .source) e (t-pointer .pointer .ensures .0 P (lettersIn (a .p) l (a .w))) (t-link-at .link-at .ensures .0 (sharedSection (a .p) l) (slotSection (a .p) l) (s .pre .1))) (t-if-none .if-none .ensures) (t-least .least .ensures) (t-least2 .least2 .ensures) _ (t-given-row .given-row .result) _ _ (i1 .if1 .left) (written (typesAt (a .p) l (a .n)) (a .sp .now) _ (a .depth) (a .x .item) (t-link-at .link-at .result) _ (t-item-count .item-count .result) (meanS (rowTable (a .p) l) (t-pointer .pointer .result .row)) _ (t-set-item .set-item .result) ((t-pass-through .pass-through .ensures .1 (last-zero (t-formed-row .formed-row .result) (t-if-none .if-none .result) (t-pass-through .pass-through .result) (t-least .least .result) (t-least2 .least2 .result) (t-least .least .ensures) (t-least2 .least2 .ensures) (i1 .if1 .left))) .0) ((t-pass-through .pass-through .ensures .1 (last-zero (t-formed-row .formed-row .result) (t-if-none .if-none .result) (t-pass-through .pass-through .result) (t-least .least .result) (t-least2 .least2 .result) (t-least .least .ensures) (t-least2 .least2 .ensures) (i1 .if1 .left))) .1) (t-item-count .item-count .ensures .0 ∙ (count-is (sharedSection (a .p) l) (slotSection (a .p) l) (a .n) (t-pointer .pointer .result .row) (s .pre .1) (omega (arith, t-pointer .pointer .ensures .1)))) (t-set-item .set-item .ensures .0 (typesAt (a .p) l (a .n))) (t-set-item .set-item .ensures .1 (typesAt (a .p) l (a .n)))) (ap (typeAt value (typesAt (a .p) l (a .n))) (t-given-row .given-row .ensures .0) ∙ (t-pass-through .pass-through .ensures .1 (last-zero (t-formed-row .formed-row .result) (t-if-none .if-none .result) (t-pass-through .pass-through .result) (t-least .least .result) (t-least2 .least2 .result) (t-least .least .ensures) (t-least2 .least2 .ensures) (i1 .if1 .left))) .1 .points) (t-set-register .set-register .ensures (typesAt (a .p) l (a .n)) P (lettersIn (a .p) l (a .w)) _)
 
 pub store-through-spec : {M : Type 1} → statement M
 store-through-spec =
     tie.close
     (tie.spec
-    link-at-requires
-    pointer-requires
-    pass-through-requires
-    if-none-requires
-    least-requires
-    formed-row-requires
-    least-requires-2
-    same-length
-    same-length-2
-    same-length-3
-    returns
-    item-count-requires
-    sub-set-item
-    set-item-requires
-    given-row-requires
-    set-register-requires
-    same-length-4
-    same-length-5
-    same-length-6
-    returns-2)
+    (λ c. search needs) (λ c. search needs) (λ c. search needs) (λ c. search needs) (λ c. search needs) (λ c. search needs)
+    (λ c. search needs) (λ c. search needs) link-at-requires pointer-requires pass-through-requires (λ c κs. search needs)
+    (λ c κs. search needs) formed-row-requires (λ c κs. search needs) (λ c. search needs) (λ c. search needs) (λ c. search needs)
+    returns item-count-requires sub-set-item set-item-requires given-row-requires set-register-requires (λ c. search needs)
+    (λ c. search needs) (λ c. search needs) returns-2)

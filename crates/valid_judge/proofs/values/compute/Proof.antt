@@ -1,72 +1,73 @@
 use native.Mathlib.Omega.{arith}
-use mathlib.Core.List.{map}
 use Rattle.syntax.specs.Syntax.{value}
 use Rattle.syntax.specs.Fault.{fault}
 use Rattle.types.specs.Rows.{typeAt}
-use Rattle.tables.specs.Tables.{span, letterOf, operandAt}
+use Rattle.tables.specs.Tables.{operandAt}
 use Rattle.valid.specs.PassThree.{operand}
 use Rattle.valid_context.specs.Context.{regsOf}
-use Rattle.valid_typing.specs.Typing.{typesIn}
-use Rattle.valid_typing.specs.operands.Operands.{operandTable}
 use Rattle.valid_typing.proofs.operands.Filling.{ten}
 use Rattle.valid_judge.specs.heap.Forms.{held}
 use Rattle.valid_judge.proofs.values.Laws.{computes-none, computes, int-type}
+use Rattle.image.specs.Sections.{part, sharedSection, slotSection}
+use Rattle.valid_typing.specs.Image.{typesAt, operandsIn, lettersIn}
 use borrow.Author.Needs.{needs}
 use Rattle.valid_judge.proofs.values.compute.Statement.{statement}
 use Rattle.valid_judge.proofs.values.compute.Tie as tie
-use Rattle.valid_judge.proofs.values.compute.Reads as reads
-use Rattle.valid_judge.proofs.values.compute.Lts as lts
-use Rattle.valid_context.proofs.least.Reads as least-reads
-use Rattle.valid_judge.proofs.heap.set_register.Reads as set-register-reads
-use Rattle.valid_judge.proofs.values.int_fault.Reads as int-fault-reads
-use Rattle.valid_typing.proofs.operands.operand.Reads as operand-reads
-use Rattle.valid_typing.proofs.integer.Reads as integer-reads
 
 operand-requires : tie.Need-operand-requires
-operand-requires c κs = ((c .before .before .before .before .before .before .before .before .before .before .before .before .pre) .0, (c .before .before .before .before .before .before .before .before .before .before .before .before .pre) .1, (c .before .before .before .before .before .before .before .before .before .before .before .before .pre) .2, (c .before .before .before .before .before .before .before .before .before .before .before .before .pre) .3, (c .before .before .before .before .before .before .before .before .before .before .before .before .pre) .5)
+operand-requires c κs =
+    let s : tie.Start = search in
+    (s .pre .0, s .pre .1, s .pre .2, s .pre .3, s .pre .4, s .pre .6)
 
 int-fault-requires : tie.Need-int-fault-requires
-int-fault-requires c κs = ((c .before .before .before .before .before .before .before .before .before .before .before .before .before .before .before .pre) .0, omega (arith, (c .before .before .operand) .ensures .1, (c .before .before .before .before .before .before .before .before .before .before .before .before .before .before .before .pre) .0 .few))
+unfolding part
+int-fault-requires c κs =
+    let s : tie.Start = search in
+    let t-operand : tie.After-operand = search in
+    (s .pre .1, omega (arith, t-operand .operand .ensures .1, s .pre .1 .few))
 
 integer-requires : tie.Need-integer-requires
-integer-requires c κs = (c .before .before .before .before .before .before .before .before .before .before .before .before .before .before .before .before .before .pre) .0
-
-least-requires : tie.Need-least-requires
-least-requires c κs = search needs
-
-same-length : tie.Need-same-length
-same-length c = search needs
-
-same-length-2 : tie.Need-same-length-2
-same-length-2 c = search needs
+unfolding part
+integer-requires c κs =
+    let s : tie.Start = search in
+    s .pre .1
 
 returns : tie.Need-returns
-returns c = λ o P s h. computes-none P (map letterOf (span ((c .before .before .before .before .before .before .before .before .before .before .before .before .before .before .before .before .before .before .before .before .args) .parts .now) ((c .before .before .before .before .before .before .before .before .before .before .before .before .before .before .before .before .before .before .before .before .args) .l) ((c .before .before .before .before .before .before .before .before .before .before .before .before .before .before .before .before .before .before .before .before .args) .q))) (held s (regsOf (typesIn ((c .before .before .before .before .before .before .before .before .before .before .before .before .before .before .before .before .before .before .before .before .args) .rows .now) ((c .before .before .before .before .before .before .before .before .before .before .before .before .before .before .before .before .before .before .before .before .args) .parts .now) ((c .before .before .before .before .before .before .before .before .before .before .before .before .before .before .before .before .before .before .before .before .args) .n)) ((c .before .before .before .before .before .before .before .before .before .before .before .before .before .before .before .before .before .before .before .before .args) .regs .now))) o ((c .before .before .before .before .before .before .before .before .before .before .before .before .before .before .before .before .before .before .before .before .args) .d) ((c .before .before .before .before .before .before .before .before .before .before .before .before .before .before .before .before .before .before .before .before .args) .s) (operandAt (operandTable ((c .before .before .before .before .before .before .before .before .before .before .before .before .before .before .before .before .before .before .before .before .args) .operands .now) ((c .before .before .before .before .before .before .before .before .before .before .before .before .before .before .before .before .before .before .before .before .args) .numbers .now) ((c .before .before .before .before .before .before .before .before .before .before .before .before .before .before .before .before .before .before .before .before .args) .args .now)) ((c .before .before .before .before .before .before .before .before .before .before .before .before .before .before .before .before .before .before .before .before .args) .v)) ((c .before .before .integer) .result) ((c .before .before .before .before .int-fault) .result) ((c .before .least) .result) ((c .before .before .integer) .ensures P (map letterOf (span ((c .before .before .before .before .before .before .before .before .before .before .before .before .before .before .before .before .before .before .before .before .args) .parts .now) ((c .before .before .before .before .before .before .before .before .before .before .before .before .before .before .before .before .before .before .before .before .args) .l) ((c .before .before .before .before .before .before .before .before .before .before .before .before .before .before .before .before .before .before .before .before .args) .q)))) ((c .before .before .before .before .int-fault) .ensures (operand P (map letterOf (span ((c .before .before .before .before .before .before .before .before .before .before .before .before .before .before .before .before .before .before .before .before .args) .parts .now) ((c .before .before .before .before .before .before .before .before .before .before .before .before .before .before .before .before .before .before .before .before .args) .l) ((c .before .before .before .before .before .before .before .before .before .before .before .before .before .before .before .before .before .before .before .before .args) .q))) (fault 10) (regsOf (typesIn ((c .before .before .before .before .before .before .before .before .before .before .before .before .before .before .before .before .before .before .before .before .args) .rows .now) ((c .before .before .before .before .before .before .before .before .before .before .before .before .before .before .before .before .before .before .before .before .args) .parts .now) ((c .before .before .before .before .before .before .before .before .before .before .before .before .before .before .before .before .before .before .before .before .args) .n)) ((c .before .before .before .before .before .before .before .before .before .before .before .before .before .before .before .before .before .before .before .before .args) .regs .now)) (operandAt (operandTable ((c .before .before .before .before .before .before .before .before .before .before .before .before .before .before .before .before .before .before .before .before .args) .operands .now) ((c .before .before .before .before .before .before .before .before .before .before .before .before .before .before .before .before .before .before .before .before .args) .numbers .now) ((c .before .before .before .before .before .before .before .before .before .before .before .before .before .before .before .before .before .before .before .before .args) .args .now)) ((c .before .before .before .before .before .before .before .before .before .before .before .before .before .before .before .before .before .before .before .before .args) .v))) ((c .before .before .before .before .before .before .before .operand) .ensures .0 P (fault 10) h ten)) ((c .before .least) .ensures) _ ((c .if1) .taken)
+unfolding part
+returns c =
+    let s : tie.Start = search in
+    let a = s .args in
+    let l = a .image .now in
+    let t-integer : tie.After-integer = search in
+    let t-int-fault : tie.After-int-fault = search in
+    let t-least : tie.After-least = search in
+    let t-operand : tie.After-operand = search in
+    let i1 : tie.Then1 = search in
+    λ o P z h. computes-none P (lettersIn (a .p) l (a .w)) (held z (regsOf (typesAt (a .p) l (a .c .rows)) (a .regs .now))) o (a .d) (a .s) (operandAt (operandsIn (a .p) l (a .literals .now)) (a .v)) (t-integer .integer .result) (t-int-fault .int-fault .result) (t-least .least .result) (t-integer .integer .ensures P (lettersIn (a .p) l (a .w))) (t-int-fault .int-fault .ensures (operand P (lettersIn (a .p) l (a .w)) (fault 10) (regsOf (typesAt (a .p) l (a .c .rows)) (a .regs .now)) (operandAt (operandsIn (a .p) l (a .literals .now)) (a .v))) (t-operand .operand .ensures .0 P (fault 10) h ten)) (t-least .least .ensures) _ (i1 .if1 .taken)
 
 set-register-requires : tie.Need-set-register-requires
-set-register-requires c κs = ((c .before .before .before .before .before .before .before .before .before .before .before .before .before .before .before .before .before .before .before .before .before .pre) .4, omega (arith, (c .before .before .before .before .before .before .before .before .before .before .before .before .before .before .before .before .before .before .before .before .before .pre) .0 .few))
-
-same-length-3 : tie.Need-same-length-3
-same-length-3 c = search needs
-
-same-length-4 : tie.Need-same-length-4
-same-length-4 c = search needs
+set-register-requires c κs =
+    let s : tie.Start = search in
+    (s .pre .5, omega (arith, s .pre .1 .few))
 
 returns-2 : tie.Need-returns-2
-returns-2 c = λ o P s h. computes P (map letterOf (span ((c .before .before .before .before .before .before .before .before .before .before .before .before .before .before .before .before .before .before .before .before .before .before .before .before .args) .parts .now) ((c .before .before .before .before .before .before .before .before .before .before .before .before .before .before .before .before .before .before .before .before .before .before .before .before .args) .l) ((c .before .before .before .before .before .before .before .before .before .before .before .before .before .before .before .before .before .before .before .before .before .before .before .before .args) .q))) (held s (regsOf (typesIn ((c .before .before .before .before .before .before .before .before .before .before .before .before .before .before .before .before .before .before .before .before .before .before .before .before .args) .rows .now) ((c .before .before .before .before .before .before .before .before .before .before .before .before .before .before .before .before .before .before .before .before .before .before .before .before .args) .parts .now) ((c .before .before .before .before .before .before .before .before .before .before .before .before .before .before .before .before .before .before .before .before .before .before .before .before .args) .n)) ((c .before .before .before .before .before .before .before .before .before .before .before .before .before .before .before .before .before .before .before .before .before .before .before .before .args) .regs .now))) o ((c .before .before .before .before .before .before .before .before .before .before .before .before .before .before .before .before .before .before .before .before .before .before .before .before .args) .d) ((c .before .before .before .before .before .before .before .before .before .before .before .before .before .before .before .before .before .before .before .before .before .before .before .before .args) .s) (operandAt (operandTable ((c .before .before .before .before .before .before .before .before .before .before .before .before .before .before .before .before .before .before .before .before .before .before .before .before .args) .operands .now) ((c .before .before .before .before .before .before .before .before .before .before .before .before .before .before .before .before .before .before .before .before .before .before .before .before .args) .numbers .now) ((c .before .before .before .before .before .before .before .before .before .before .before .before .before .before .before .before .before .before .before .before .before .before .before .before .args) .args .now)) ((c .before .before .before .before .before .before .before .before .before .before .before .before .before .before .before .before .before .before .before .before .before .before .before .before .args) .v)) ((c .before .before .before .before .before .before .integer) .result) ((c .before .before .before .before .before .before .before .before .int-fault) .result) ((c .before .before .before .before .before .least) .result) ((c .before .before .before .before .before .before .integer) .ensures P (map letterOf (span ((c .before .before .before .before .before .before .before .before .before .before .before .before .before .before .before .before .before .before .before .before .before .before .before .before .args) .parts .now) ((c .before .before .before .before .before .before .before .before .before .before .before .before .before .before .before .before .before .before .before .before .before .before .before .before .args) .l) ((c .before .before .before .before .before .before .before .before .before .before .before .before .before .before .before .before .before .before .before .before .before .before .before .before .args) .q)))) ((c .before .before .before .before .before .before .before .before .int-fault) .ensures (operand P (map letterOf (span ((c .before .before .before .before .before .before .before .before .before .before .before .before .before .before .before .before .before .before .before .before .before .before .before .before .args) .parts .now) ((c .before .before .before .before .before .before .before .before .before .before .before .before .before .before .before .before .before .before .before .before .before .before .before .before .args) .l) ((c .before .before .before .before .before .before .before .before .before .before .before .before .before .before .before .before .before .before .before .before .before .before .before .before .args) .q))) (fault 10) (regsOf (typesIn ((c .before .before .before .before .before .before .before .before .before .before .before .before .before .before .before .before .before .before .before .before .before .before .before .before .args) .rows .now) ((c .before .before .before .before .before .before .before .before .before .before .before .before .before .before .before .before .before .before .before .before .before .before .before .before .args) .parts .now) ((c .before .before .before .before .before .before .before .before .before .before .before .before .before .before .before .before .before .before .before .before .before .before .before .before .args) .n)) ((c .before .before .before .before .before .before .before .before .before .before .before .before .before .before .before .before .before .before .before .before .before .before .before .before .args) .regs .now)) (operandAt (operandTable ((c .before .before .before .before .before .before .before .before .before .before .before .before .before .before .before .before .before .before .before .before .before .before .before .before .args) .operands .now) ((c .before .before .before .before .before .before .before .before .before .before .before .before .before .before .before .before .before .before .before .before .before .before .before .before .args) .numbers .now) ((c .before .before .before .before .before .before .before .before .before .before .before .before .before .before .before .before .before .before .before .before .before .before .before .before .args) .args .now)) ((c .before .before .before .before .before .before .before .before .before .before .before .before .before .before .before .before .before .before .before .before .before .before .before .before .args) .v))) ((c .before .before .before .before .before .before .before .before .before .before .before .operand) .ensures .0 P (fault 10) h ten)) ((c .before .before .before .before .before .least) .ensures) _ (typeAt value (typesIn ((c .before .before .before .before .before .before .before .before .before .before .before .before .before .before .before .before .before .before .before .before .before .before .before .before .args) .rows .now) ((c .before .before .before .before .before .before .before .before .before .before .before .before .before .before .before .before .before .before .before .before .before .before .before .before .args) .parts .now) ((c .before .before .before .before .before .before .before .before .before .before .before .before .before .before .before .before .before .before .before .before .before .before .before .before .args) .n)) ((c .before .before .before .before .before .before .before .before .before .before .before .before .before .before .before .before .before .before .before .before .before .before .before .before .args) .n)) _ ((c .before .before .before .before .if1) .left) (int-type ((c .before .before .before .before .before .before .before .before .before .before .before .before .before .before .before .before .before .before .before .before .before .before .before .before .args) .rows .now) ((c .before .before .before .before .before .before .before .before .before .before .before .before .before .before .before .before .before .before .before .before .before .before .before .before .args) .parts .now) ((c .before .before .before .before .before .before .before .before .before .before .before .before .before .before .before .before .before .before .before .before .before .before .before .before .args) .n) ((c .before .before .before .before .before .before .before .before .before .before .before .before .before .before .before .before .before .before .before .before .before .before .before .before .pre) .0)) ((c .before .before .set-register) .ensures (typesIn ((c .before .before .before .before .before .before .before .before .before .before .before .before .before .before .before .before .before .before .before .before .before .before .before .before .args) .rows .now) ((c .before .before .before .before .before .before .before .before .before .before .before .before .before .before .before .before .before .before .before .before .before .before .before .before .args) .parts .now) ((c .before .before .before .before .before .before .before .before .before .before .before .before .before .before .before .before .before .before .before .before .before .before .before .before .args) .n)) P (map letterOf (span ((c .before .before .before .before .before .before .before .before .before .before .before .before .before .before .before .before .before .before .before .before .before .before .before .before .args) .parts .now) ((c .before .before .before .before .before .before .before .before .before .before .before .before .before .before .before .before .before .before .before .before .before .before .before .before .args) .l) ((c .before .before .before .before .before .before .before .before .before .before .before .before .before .before .before .before .before .before .before .before .before .before .before .before .args) .q))) s)
+unfolding part
+returns-2 c =
+    let s : tie.Start = search in
+    let a = s .args in
+    let l = a .image .now in
+    let t-integer : tie.After-integer = search in
+    let t-int-fault : tie.After-int-fault = search in
+    let t-least : tie.After-least = search in
+    let t-operand : tie.After-operand = search in
+    let i1 : tie.Else1 = search in
+    let t-set-register : tie.After-set-register = search in
+    λ o P z h. computes P (lettersIn (a .p) l (a .w)) (held z (regsOf (typesAt (a .p) l (a .c .rows)) (a .regs .now))) o (a .d) (a .s) (operandAt (operandsIn (a .p) l (a .literals .now)) (a .v)) (t-integer .integer .result) (t-int-fault .int-fault .result) (t-least .least .result) (t-integer .integer .ensures P (lettersIn (a .p) l (a .w))) (t-int-fault .int-fault .ensures (operand P (lettersIn (a .p) l (a .w)) (fault 10) (regsOf (typesAt (a .p) l (a .c .rows)) (a .regs .now)) (operandAt (operandsIn (a .p) l (a .literals .now)) (a .v))) (t-operand .operand .ensures .0 P (fault 10) h ten)) (t-least .least .ensures) _ (typeAt value (typesAt (a .p) l (a .c .rows)) (a .c .rows)) _ (i1 .if1 .left) (int-type (sharedSection (a .p) l) (slotSection (a .p) l) (a .c .rows) (s .pre .1)) (t-set-register .set-register .ensures (typesAt (a .p) l (a .c .rows)) P (lettersIn (a .p) l (a .w)) z)
 
 pub compute-spec : {M : Type 1} → statement M
 compute-spec =
     tie.close
     (tie.spec
-    operand-requires
-    int-fault-requires
-    integer-requires
-    least-requires
-    same-length
-    same-length-2
-    returns
-    set-register-requires
-    same-length-3
-    same-length-4
-    returns-2)
+    (λ c. search needs) (λ c. search) (λ c. search) (λ c. search needs) (λ c. search needs) (λ c. search) (λ c. search) (λ c. search)
+    operand-requires int-fault-requires integer-requires (λ c κs. search) (λ c. search) (λ c. search) returns set-register-requires
+    (λ c. search) (λ c. search) returns-2)

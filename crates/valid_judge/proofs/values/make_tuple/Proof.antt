@@ -1,74 +1,50 @@
-use mathlib.Core.List.{map}
 use Rattle.syntax.specs.Syntax.{value}
 use Rattle.types.specs.Rows.{typeAt}
-use Rattle.tables.specs.Tables.{span, letterOf, operandsAt}
+use Rattle.tables.specs.Tables.{operandsAt}
 use Rattle.valid_context.specs.Context.{regsOf}
-use Rattle.valid_typing.specs.Typing.{typesIn}
-use Rattle.valid_typing.specs.operands.Operands.{operandTable}
 use Rattle.valid_typing.proofs.operands.Filling.{not-no}
 use Rattle.valid_judge.specs.heap.Forms.{held}
 use Rattle.valid_judge.proofs.heap.Laws.{given-same}
 use Rattle.valid_judge.proofs.values.Laws.{sees-none, sees}
+use Rattle.image.specs.Sections.{argSection, sharedSection, slotSection}
+use Rattle.valid_typing.specs.Image.{typesAt, operandsIn, lettersIn}
 use borrow.Author.Needs.{needs}
 use Rattle.valid_judge.proofs.values.make_tuple.Statement.{statement}
 use Rattle.valid_judge.proofs.values.make_tuple.Tie as tie
-use Rattle.valid_judge.proofs.values.make_tuple.Reads as reads
-use Rattle.valid_judge.proofs.values.make_tuple.Lts as lts
-use Rattle.valid_judge.proofs.heap.set_register.Reads as set-register-reads
-use Rattle.valid_judge.proofs.values.make_listed.Reads as make-listed-reads
-use Rattle.valid_typing.proofs.plain_components.plain_tuple.Reads as plain-tuple-reads
-use Rattle.valid_typing.proofs.formed_row.Reads as formed-row-reads
-use Rattle.valid_typing.proofs.given_row.Reads as given-row-reads
-
-given-row-requires : tie.Need-given-row-requires
-given-row-requires c κs = search needs
-
-plain-tuple-requires : tie.Need-plain-tuple-requires
-plain-tuple-requires c κs = search needs
-
-make-listed-requires : tie.Need-make-listed-requires
-make-listed-requires c κs = search needs
-
-same-length : tie.Need-same-length
-same-length c = search needs
-
-same-length-2 : tie.Need-same-length-2
-same-length-2 c = search needs
-
-returns : tie.Need-returns
-returns c = search needs
 
 formed-row-requires : tie.Need-formed-row-requires
-formed-row-requires c κs = search needs
-
-same-length-3 : tie.Need-same-length-3
-same-length-3 c = search needs
+formed-row-requires c κs =
+    let s : tie.Start = search in
+    (s .pre .0, s .pre .1 .few, s .pre .2)
 
 returns-2 : tie.Need-returns-2
-returns-2 c = λ P s h. sees-none P (map letterOf (span ((c .before .before .before .before .before .before .before .before .before .before .before .before .before .before .before .before .args) .parts .now) ((c .before .before .before .before .before .before .before .before .before .before .before .before .before .before .before .before .args) .l) ((c .before .before .before .before .before .before .before .before .before .before .before .before .before .before .before .before .args) .q))) (held s (regsOf (typesIn ((c .before .before .before .before .before .before .before .before .before .before .before .before .before .before .before .before .args) .rows .now) ((c .before .before .before .before .before .before .before .before .before .before .before .before .before .before .before .before .args) .parts .now) ((c .before .before .before .before .before .before .before .before .before .before .before .before .before .before .before .before .args) .n)) (((c .before .before .before .before .before .before .before .before .before .before .before .before .before .before .before .before .args) .regs) .now))) ((c .before .before .before .before .before .before .before .before .before .before .before .before .before .before .before .before .args) .d) ((c .before .before .before .before .before .before .before .before .before .before .before .before .before .before .before .before .args) .t) (operandsAt (operandTable (((c .before .before .before .before .before .before .before .before .before .before .before .before .before .before .before .before .args) .operands) .now) (((c .before .before .before .before .before .before .before .before .before .before .before .before .before .before .before .before .args) .numbers) .now) (((c .before .before .before .before .before .before .before .before .before .before .before .before .before .before .before .before .args) .args) .now)) ((c .before .before .before .before .before .before .before .before .before .before .before .before .before .before .before .before .args) .v) ((c .before .before .before .before .before .before .before .before .before .before .before .before .before .before .before .before .args) .c)) ((c .before .formed-row) .result) (typeAt value (typesIn ((c .before .before .before .before .before .before .before .before .before .before .before .before .before .before .before .before .args) .rows .now) ((c .before .before .before .before .before .before .before .before .before .before .before .before .before .before .before .before .args) .parts .now) ((c .before .before .before .before .before .before .before .before .before .before .before .before .before .before .before .before .args) .n)) ((c .before .before .before .before .before .given-row) .result)) ((c .before .formed-row) .ensures P (h .types)) ((c .before .before .before .plain-tuple) .ensures (not-no ((c .before .before .if1) .left)) P (map letterOf (span ((c .before .before .before .before .before .before .before .before .before .before .before .before .before .before .before .before .args) .parts .now) ((c .before .before .before .before .before .before .before .before .before .before .before .before .before .before .before .before .args) .l) ((c .before .before .before .before .before .before .before .before .before .before .before .before .before .before .before .before .args) .q))) (((c .before .before .before .before .before .before .before .before .before .before .before .before .before .before .before .before .args) .args) .now) h) _ ((c .if2) .taken)
-
-set-register-requires : tie.Need-set-register-requires
-set-register-requires c κs = search needs
-
-same-length-4 : tie.Need-same-length-4
-same-length-4 c = search needs
+returns-2 c =
+    let s : tie.Start = search in
+    let a = s .args in
+    let l = a .image .now in
+    let t-formed-row : tie.After-formed-row = search in
+    let t-given-row : tie.After-given-row = search in
+    let t-plain-tuple : tie.After-plain-tuple = search in
+    let i1 : tie.Else1 = search in
+    let i2 : tie.Then2 = search in
+    λ P b h. sees-none P (lettersIn (a .p) l (a .w)) (held b (regsOf (typesAt (a .p) l (a .c .rows)) (a .regs .now))) (a .d) (a .t) (operandsAt (operandsIn (a .p) l (a .literals .now)) (a .o .first) (a .o .count)) (t-formed-row .formed-row .result) (typeAt value (typesAt (a .p) l (a .c .rows)) (t-given-row .given-row .result)) (t-formed-row .formed-row .ensures P (h .types)) (t-plain-tuple .plain-tuple .ensures (not-no (i1 .if1 .left)) P (lettersIn (a .p) l (a .w)) (argSection (a .p) l) h) _ (i2 .if2 .taken)
 
 returns-3 : tie.Need-returns-3
-returns-3 c = λ P s h. sees P (map letterOf (span ((c .before .before .before .before .before .before .before .before .before .before .before .before .before .before .before .before .before .before .before .before .args) .parts .now) ((c .before .before .before .before .before .before .before .before .before .before .before .before .before .before .before .before .before .before .before .before .args) .l) ((c .before .before .before .before .before .before .before .before .before .before .before .before .before .before .before .before .before .before .before .before .args) .q))) (held s (regsOf (typesIn ((c .before .before .before .before .before .before .before .before .before .before .before .before .before .before .before .before .before .before .before .before .args) .rows .now) ((c .before .before .before .before .before .before .before .before .before .before .before .before .before .before .before .before .before .before .before .before .args) .parts .now) ((c .before .before .before .before .before .before .before .before .before .before .before .before .before .before .before .before .before .before .before .before .args) .n)) (((c .before .before .before .before .before .before .before .before .before .before .before .before .before .before .before .before .before .before .before .before .args) .regs) .now))) ((c .before .before .before .before .before .before .before .before .before .before .before .before .before .before .before .before .before .before .before .before .args) .d) ((c .before .before .before .before .before .before .before .before .before .before .before .before .before .before .before .before .before .before .before .before .args) .t) (operandsAt (operandTable (((c .before .before .before .before .before .before .before .before .before .before .before .before .before .before .before .before .before .before .before .before .args) .operands) .now) (((c .before .before .before .before .before .before .before .before .before .before .before .before .before .before .before .before .before .before .before .before .args) .numbers) .now) (((c .before .before .before .before .before .before .before .before .before .before .before .before .before .before .before .before .before .before .before .before .args) .args) .now)) ((c .before .before .before .before .before .before .before .before .before .before .before .before .before .before .before .before .before .before .before .before .args) .v) ((c .before .before .before .before .before .before .before .before .before .before .before .before .before .before .before .before .before .before .before .before .args) .c)) ((c .before .before .before .before .before .formed-row) .result) (typeAt value (typesIn ((c .before .before .before .before .before .before .before .before .before .before .before .before .before .before .before .before .before .before .before .before .args) .rows .now) ((c .before .before .before .before .before .before .before .before .before .before .before .before .before .before .before .before .before .before .before .before .args) .parts .now) ((c .before .before .before .before .before .before .before .before .before .before .before .before .before .before .before .before .before .before .before .before .args) .n)) ((c .before .before .before .before .before .before .before .before .before .given-row) .result)) ((c .before .before .before .before .before .formed-row) .ensures P (h .types)) ((c .before .before .before .before .before .before .before .plain-tuple) .ensures (not-no ((c .before .before .before .before .before .before .if1) .left)) P (map letterOf (span ((c .before .before .before .before .before .before .before .before .before .before .before .before .before .before .before .before .before .before .before .before .args) .parts .now) ((c .before .before .before .before .before .before .before .before .before .before .before .before .before .before .before .before .before .before .before .before .args) .l) ((c .before .before .before .before .before .before .before .before .before .before .before .before .before .before .before .before .before .before .before .before .args) .q))) (((c .before .before .before .before .before .before .before .before .before .before .before .before .before .before .before .before .before .before .before .before .args) .args) .now) h) _ _ ((c .before .before .before .before .if2) .left) (given-same ((c .before .before .before .before .before .before .before .before .before .before .before .before .before .before .before .before .before .before .before .before .args) .rows .now) ((c .before .before .before .before .before .before .before .before .before .before .before .before .before .before .before .before .before .before .before .before .args) .parts .now) ((c .before .before .before .before .before .before .before .before .before .before .before .before .before .before .before .before .before .before .before .before .args) .n) P ((c .before .before .before .before .before .before .before .before .before .before .before .before .before .before .before .before .before .before .before .before .args) .t) ((c .before .before .before .before .before .before .before .before .before .given-row) .ensures .0) (h .types) ((c .before .before .before .before .before .before .before .before .before .before .before .before .before .before .before .before .before .before .before .before .pre) .0)) ((c .before .before .set-register) .ensures (typesIn ((c .before .before .before .before .before .before .before .before .before .before .before .before .before .before .before .before .before .before .before .before .args) .rows .now) ((c .before .before .before .before .before .before .before .before .before .before .before .before .before .before .before .before .before .before .before .before .args) .parts .now) ((c .before .before .before .before .before .before .before .before .before .before .before .before .before .before .before .before .before .before .before .before .args) .n)) P (map letterOf (span ((c .before .before .before .before .before .before .before .before .before .before .before .before .before .before .before .before .before .before .before .before .args) .parts .now) ((c .before .before .before .before .before .before .before .before .before .before .before .before .before .before .before .before .before .before .before .before .args) .l) ((c .before .before .before .before .before .before .before .before .before .before .before .before .before .before .before .before .before .before .before .before .args) .q))) s)
+returns-3 c =
+    let s : tie.Start = search in
+    let a = s .args in
+    let l = a .image .now in
+    let t-formed-row : tie.After-formed-row = search in
+    let t-given-row : tie.After-given-row = search in
+    let t-plain-tuple : tie.After-plain-tuple = search in
+    let i1 : tie.Else1 = search in
+    let i2 : tie.Else2 = search in
+    let t-set-register : tie.After-set-register = search in
+    λ P b h. sees P (lettersIn (a .p) l (a .w)) (held b (regsOf (typesAt (a .p) l (a .c .rows)) (a .regs .now))) (a .d) (a .t) (operandsAt (operandsIn (a .p) l (a .literals .now)) (a .o .first) (a .o .count)) (t-formed-row .formed-row .result) (typeAt value (typesAt (a .p) l (a .c .rows)) (t-given-row .given-row .result)) (t-formed-row .formed-row .ensures P (h .types)) (t-plain-tuple .plain-tuple .ensures (not-no (i1 .if1 .left)) P (lettersIn (a .p) l (a .w)) (argSection (a .p) l) h) _ _ (i2 .if2 .left) (given-same (sharedSection (a .p) l) (slotSection (a .p) l) (a .c .rows) P (a .t) (t-given-row .given-row .ensures .0) (h .types) (s .pre .1)) (t-set-register .set-register .ensures (typesAt (a .p) l (a .c .rows)) P (lettersIn (a .p) l (a .w)) b)
 
 pub make-tuple-spec : {M : Type 1} → statement M
 make-tuple-spec =
     tie.close
     (tie.spec
-    given-row-requires
-    plain-tuple-requires
-    make-listed-requires
-    same-length
-    same-length-2
-    returns
-    formed-row-requires
-    same-length-3
-    returns-2
-    set-register-requires
-    same-length-4
-    returns-3)
+    (λ c κs. search needs) (λ c κs. search needs) (λ c κs. search needs) (λ c. search needs) (λ c. search needs) (λ c. search needs)
+    formed-row-requires (λ c. search needs) returns-2 (λ c κs. search needs) (λ c. search needs) returns-3)

@@ -1,56 +1,49 @@
 use native.Mathlib.Omega.{arith}
-use mathlib.Core.List.{map}
 use Rattle.syntax.specs.Syntax.{value}
 use Rattle.syntax.specs.Fault.{fault}
 use Rattle.types.specs.Rows.{typeAt}
-use Rattle.tables.specs.Tables.{span, letterOf, operandAt}
+use Rattle.tables.specs.Tables.{operandAt}
 use Rattle.valid_context.specs.Context.{regsOf}
-use Rattle.valid_typing.specs.Typing.{typesIn}
 use Rattle.valid_typing.proofs.Judging.{mov-stops, mov-goes}
-use Rattle.valid_typing.specs.operands.Operands.{operandTable}
 use Rattle.valid_typing.proofs.operands.Filling.{ten}
 use Rattle.valid_judge.specs.heap.Forms.{held}
+use Rattle.valid_typing.specs.Image.{typesAt, operandsIn, lettersIn}
 use borrow.Author.Needs.{needs}
 use Rattle.valid_judge.proofs.values.move_to.Statement.{statement}
 use Rattle.valid_judge.proofs.values.move_to.Tie as tie
-use Rattle.valid_judge.proofs.values.move_to.Reads as reads
-use Rattle.valid_judge.proofs.values.move_to.Lts as lts
-use Rattle.valid_judge.proofs.heap.set_register.Reads as set-register-reads
-use Rattle.valid_typing.proofs.operands.operand.Reads as operand-reads
 
 operand-requires : tie.Need-operand-requires
-operand-requires c κs = ((c .before .before .before .before .before .before .before .before .before .before .before .before .pre) .0, (c .before .before .before .before .before .before .before .before .before .before .before .before .pre) .1, (c .before .before .before .before .before .before .before .before .before .before .before .before .pre) .2, (c .before .before .before .before .before .before .before .before .before .before .before .before .pre) .3, (c .before .before .before .before .before .before .before .before .before .before .before .before .pre) .5)
-
-same-length : tie.Need-same-length
-same-length c = search needs
-
-same-length-2 : tie.Need-same-length-2
-same-length-2 c = search needs
+operand-requires c κs =
+    let s : tie.Start = search in
+    (s .pre .0, s .pre .1, s .pre .2, s .pre .3, s .pre .4, s .pre .6)
 
 returns : tie.Need-returns
-returns c = λ P s h. mov-stops P (map letterOf (span ((c .before .before .before .before .before .before .before .before .before .before .before .before .before .before .before .before .before .args) .parts .now) ((c .before .before .before .before .before .before .before .before .before .before .before .before .before .before .before .before .before .args) .l) ((c .before .before .before .before .before .before .before .before .before .before .before .before .before .before .before .before .before .args) .q))) (held s (regsOf (typesIn ((c .before .before .before .before .before .before .before .before .before .before .before .before .before .before .before .before .before .args) .rows .now) ((c .before .before .before .before .before .before .before .before .before .before .before .before .before .before .before .before .before .args) .parts .now) ((c .before .before .before .before .before .before .before .before .before .before .before .before .before .before .before .before .before .args) .n)) ((c .before .before .before .before .before .before .before .before .before .before .before .before .before .before .before .before .before .args) .regs .now))) ((c .before .before .before .before .before .before .before .before .before .before .before .before .before .before .before .before .before .args) .d) (operandAt (operandTable ((c .before .before .before .before .before .before .before .before .before .before .before .before .before .before .before .before .before .args) .operands .now) ((c .before .before .before .before .before .before .before .before .before .before .before .before .before .before .before .before .before .args) .numbers .now) ((c .before .before .before .before .before .before .before .before .before .before .before .before .before .before .before .before .before .args) .args .now)) ((c .before .before .before .before .before .before .before .before .before .before .before .before .before .before .before .before .before .args) .v)) ((c .before .before .before .before .operand) .result .fault) (typeAt value (typesIn ((c .before .before .before .before .before .before .before .before .before .before .before .before .before .before .before .before .before .args) .rows .now) ((c .before .before .before .before .before .before .before .before .before .before .before .before .before .before .before .before .before .args) .parts .now) ((c .before .before .before .before .before .before .before .before .before .before .before .before .before .before .before .before .before .args) .n)) ((c .before .before .before .before .operand) .result .row)) _ ((c .before .before .before .before .operand) .ensures .0 P (fault 10) h ten) ((c .if1) .taken)
+returns c =
+    let s : tie.Start = search in
+    let a = s .args in
+    let l = a .image .now in
+    let t-operand : tie.After-operand = search in
+    let i1 : tie.Then1 = search in
+    λ P b h. mov-stops P (lettersIn (a .p) l (a .w)) (held b (regsOf (typesAt (a .p) l (a .c .rows)) (a .regs .now))) (a .d) (operandAt (operandsIn (a .p) l (a .literals .now)) (a .v)) (t-operand .operand .result .fault) (typeAt value (typesAt (a .p) l (a .c .rows)) (t-operand .operand .result .row)) _ (t-operand .operand .ensures .0 P (fault 10) h ten) (i1 .if1 .taken)
 
 set-register-requires : tie.Need-set-register-requires
-set-register-requires c κs = ((c .before .before .before .before .before .before .before .before .before .before .before .before .before .before .before .before .before .before .pre) .4, omega (arith, (c .before .before .before .before .before .operand) .ensures .1, (c .before .before .before .before .before .before .before .before .before .before .before .before .before .before .before .before .before .before .pre) .0 .few))
-
-same-length-3 : tie.Need-same-length-3
-same-length-3 c = search needs
-
-same-length-4 : tie.Need-same-length-4
-same-length-4 c = search needs
+set-register-requires c κs =
+    let s : tie.Start = search in
+    let t-operand : tie.After-operand = search in
+    (s .pre .5, omega (arith, t-operand .operand .ensures .1, s .pre .1 .few))
 
 returns-2 : tie.Need-returns-2
-returns-2 c = λ P s h. mov-goes P (map letterOf (span ((c .before .before .before .before .before .before .before .before .before .before .before .before .before .before .before .before .before .before .before .before .before .args) .parts .now) ((c .before .before .before .before .before .before .before .before .before .before .before .before .before .before .before .before .before .before .before .before .before .args) .l) ((c .before .before .before .before .before .before .before .before .before .before .before .before .before .before .before .before .before .before .before .before .before .args) .q))) (held s (regsOf (typesIn ((c .before .before .before .before .before .before .before .before .before .before .before .before .before .before .before .before .before .before .before .before .before .args) .rows .now) ((c .before .before .before .before .before .before .before .before .before .before .before .before .before .before .before .before .before .before .before .before .before .args) .parts .now) ((c .before .before .before .before .before .before .before .before .before .before .before .before .before .before .before .before .before .before .before .before .before .args) .n)) ((c .before .before .before .before .before .before .before .before .before .before .before .before .before .before .before .before .before .before .before .before .before .args) .regs .now))) ((c .before .before .before .before .before .before .before .before .before .before .before .before .before .before .before .before .before .before .before .before .before .args) .d) (operandAt (operandTable ((c .before .before .before .before .before .before .before .before .before .before .before .before .before .before .before .before .before .before .before .before .before .args) .operands .now) ((c .before .before .before .before .before .before .before .before .before .before .before .before .before .before .before .before .before .before .before .before .before .args) .numbers .now) ((c .before .before .before .before .before .before .before .before .before .before .before .before .before .before .before .before .before .before .before .before .before .args) .args .now)) ((c .before .before .before .before .before .before .before .before .before .before .before .before .before .before .before .before .before .before .before .before .before .args) .v)) ((c .before .before .before .before .before .before .before .before .operand) .result .fault) _ (typeAt value (typesIn ((c .before .before .before .before .before .before .before .before .before .before .before .before .before .before .before .before .before .before .before .before .before .args) .rows .now) ((c .before .before .before .before .before .before .before .before .before .before .before .before .before .before .before .before .before .before .before .before .before .args) .parts .now) ((c .before .before .before .before .before .before .before .before .before .before .before .before .before .before .before .before .before .before .before .before .before .args) .n)) ((c .before .before .before .before .before .before .before .before .operand) .result .row)) _ ((c .before .before .before .before .before .before .before .before .operand) .ensures .0 P (fault 10) h ten) ((c .before .before .before .before .if1) .left) ((c .before .before .set-register) .ensures (typesIn ((c .before .before .before .before .before .before .before .before .before .before .before .before .before .before .before .before .before .before .before .before .before .args) .rows .now) ((c .before .before .before .before .before .before .before .before .before .before .before .before .before .before .before .before .before .before .before .before .before .args) .parts .now) ((c .before .before .before .before .before .before .before .before .before .before .before .before .before .before .before .before .before .before .before .before .before .args) .n)) P (map letterOf (span ((c .before .before .before .before .before .before .before .before .before .before .before .before .before .before .before .before .before .before .before .before .before .args) .parts .now) ((c .before .before .before .before .before .before .before .before .before .before .before .before .before .before .before .before .before .before .before .before .before .args) .l) ((c .before .before .before .before .before .before .before .before .before .before .before .before .before .before .before .before .before .before .before .before .before .args) .q))) s)
+returns-2 c =
+    let s : tie.Start = search in
+    let a = s .args in
+    let l = a .image .now in
+    let t-operand : tie.After-operand = search in
+    let i1 : tie.Else1 = search in
+    let t-set-register : tie.After-set-register = search in
+    λ P b h. mov-goes P (lettersIn (a .p) l (a .w)) (held b (regsOf (typesAt (a .p) l (a .c .rows)) (a .regs .now))) (a .d) (operandAt (operandsIn (a .p) l (a .literals .now)) (a .v)) (t-operand .operand .result .fault) _ (typeAt value (typesAt (a .p) l (a .c .rows)) (t-operand .operand .result .row)) _ (t-operand .operand .ensures .0 P (fault 10) h ten) (i1 .if1 .left) (t-set-register .set-register .ensures (typesAt (a .p) l (a .c .rows)) P (lettersIn (a .p) l (a .w)) b)
 
 pub move-to-spec : {M : Type 1} → statement M
 move-to-spec =
     tie.close
     (tie.spec
-    operand-requires
-    same-length
-    same-length-2
-    returns
-    set-register-requires
-    same-length-3
-    same-length-4
-    returns-2)
+    operand-requires (λ c. search) (λ c. search) returns set-register-requires (λ c. search) (λ c. search) returns-2)

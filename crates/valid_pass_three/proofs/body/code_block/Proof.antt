@@ -1,76 +1,93 @@
 use native.Mathlib.Omega.{arith}
-use mathlib.Core.Path.{sym, _∙_}
+use mathlib.Core.Path.{_≡_, _∙_}
 use Prim.Native.Nat.{_+_}
-use Rattle.types_rows.specs.Read.{tab}
+use Rattle.types.specs.Types.{items}
+use Rattle.image.specs.Sections.{part, sharedSection, slotSection}
+use Rattle.types_rows.specs.Read.{meanS}
 use Rattle.types_rows.proofs.Bridge.{counted-to}
-use Rattle.tables.specs.Tables.{instrsFrom}
-use Rattle.valid_typing.specs.operands.Operands.{operandTable}
+use Rattle.valid_typing.specs.Image.{rowTable}
 use Rattle.valid_pass_three.proofs.body.Flat.{small-vars}
 use Rattle.valid_pass_three.proofs.body.Registers.{entered}
 use borrow.Author.Needs.{needs}
 use Rattle.valid_pass_three.proofs.body.code_block.Statement.{statement}
 use Rattle.valid_pass_three.proofs.body.code_block.Tie as tie
-use Rattle.valid_pass_three.proofs.body.code_block.Reads as reads
-use Rattle.valid_pass_three.proofs.body.code_block.Lts as lts
-use Rattle.valid_pass_three.proofs.body.body.Reads as body-reads
-use Rattle.valid_pass_three.proofs.body.enter.Reads as enter-reads
-use Rattle.types_rows.proofs.item_count.Reads as item-count-reads
-use Rattle.types_rows.proofs.letter_count.Reads as letter-count-reads
-use Rattle.valid_typing.proofs.flatten.Reads as flatten-reads
+
+abbrev start-of : tie.After-item-count → tie.Start
+start-of t = search
+
+abbrev enter-of : tie.After-item-count → tie.After-enter
+enter-of t = search
+
+abbrev flat-of : tie.After-item-count → tie.After-flatten
+flat-of t = search
+
+-- how many items the stack has
+count-is : (t : tie.After-item-count) → t .item-count .result ≡ items (meanS (rowTable (start-of t .args .p) (start-of t .args .image .now)) (start-of t .args .x .stack))
+unfolding part
+count-is t =
+    let s = start-of t in
+    let q = s .pre in
+    t .item-count .ensures .0 ∙ counted-to (rowTable (s .args .p) (s .args .image .now)) (s .args .c .rows + 2) (q .0 .1 .ready .counted) (s .args .x .stack) (omega (arith, q .1 .1, q .1 .2))
 
 enter-requires : tie.Need-enter-requires
+unfolding part
 enter-requires c κs =
-    let p = (c .before .before .before .before .before .before .before .before .before .before .before .before .before .pre) in
-    (p .0 .0 .ready, p .1 .0, omega (arith, p .1 .1), p .1 .3, p .0 .4)
+    let s : tie.Start = search in
+    let q = s .pre in
+    (q .0 .1 .ready, q .1 .0, omega (arith, q .1 .1), q .1 .3, q .0 .5)
 
 flatten-requires : tie.Need-flatten-requires
+unfolding part
 flatten-requires c κs =
-    let p = (c .before .before .before .before .before .before .before .before .before .before .before .before .before .before .before .before .before .pre) in
-    (p .0 .0 .ready, omega (arith, p .1 .1, p .1 .2), omega (arith, p .1 .4, p .0 .5), small-vars ((c .before .before .before .before .before .before .before .before .before .before .before .before .before .before .before .before .before .args) .rows .now) ((c .before .before .before .before .before .before .before .before .before .before .before .before .before .before .before .before .before .args) .parts .now) ((c .before .before .before .before .before .before .before .before .before .before .before .before .before .before .before .before .before .args) .n) (p .0 .0 .ready .int-row) (p .0 .0 .ready .junk-row) (p .0 .0 .small) ((c .before .before .before .before .before .before .before .before .before .before .before .before .before .before .before .before .before .args) .x) (omega (arith, p .1 .1, p .1 .2)))
-
-letter-count-requires : tie.Need-letter-count-requires
-letter-count-requires c κs = search needs
+    let s : tie.Start = search in
+    let q = s .pre in
+    let t = q .0 .1 in
+    (t .ready, omega (arith, q .1 .1, q .1 .2), omega (arith, q .1 .4, q .0 .6), small-vars (sharedSection (s .args .p) (s .args .image .now)) (slotSection (s .args .p) (s .args .image .now)) (s .args .c .rows) (t .ready .int-row) (t .ready .junk-row) (t .small) (s .args .x .stack) (omega (arith, q .1 .1, q .1 .2)))
 
 item-count-requires : tie.Need-item-count-requires
 item-count-requires c κs =
-    let p = (c .before .before .before .before .before .before .before .before .before .before .before .before .before .before .before .before .before .before .before .before .before .pre) in
-    let l = p .0 .0 .ready .few in
-    omega (arith, p .1 .1, p .1 .2)
-
-add-body : tie.Need-add-body
-add-body c = search needs
+    let s : tie.Start = search in
+    let q = s .pre in
+    let l = q .0 .1 .ready .few in
+    omega (arith, q .1 .1, q .1 .2)
 
 body-requires : tie.Need-body-requires
 body-requires c κs =
-    let p = (c .before .before .before .before .before .before .before .before .before .before .before .before .before .before .before .before .before .before .before .before .before .before .before .before .before .pre) in
-    let k = (c .before .before .before .before .before .before .before .before .before .before .before .enter) .kept .1 .1 .1 .1 .1 .0 in
-    let m = (c .before .before .before .before .before .before .before .flatten) .kept .1 .1 .1 .0 in
-    let d = counted-to (tab ((c .before .before .before .before .before .before .before .before .before .before .before .before .before .before .before .before .before .before .before .before .before .before .before .before .before .args) .rows .now) ((c .before .before .before .before .before .before .before .before .before .before .before .before .before .before .before .before .before .before .before .before .before .before .before .before .before .args) .parts .now)) (((c .before .before .before .before .before .before .before .before .before .before .before .before .before .before .before .before .before .before .before .before .before .before .before .before .before .args) .n) + 2) (p .0 .0 .ready .counted) ((c .before .before .before .before .before .before .before .before .before .before .before .before .before .before .before .before .before .before .before .before .before .before .before .before .before .args) .x) (omega (arith, p .1 .1, p .1 .2)) in
-    (p .0 .0, p .0 .1, p .0 .2, p .0 .3, omega (arith, k, p .0 .4), omega (arith, m, p .0 .5), p .0 .6, omega (arith, d, (c .before .before .before .item-count) .ensures .0, p .1 .4))
+    let t : tie.After-item-count = search in
+    let f = flat-of t in
+    let e = enter-of t in
+    let q = start-of t .pre in
+    let k = e .enter .kept .1 .1 .1 .1 .1 .0 in
+    let m = f .flatten .kept .1 .1 .1 .0 in
+    (q .0 .0, q .0 .1, q .0 .2, q .0 .3, q .0 .4, omega (arith, k, q .0 .5), omega (arith, m, q .0 .6), q .0 .7, omega (arith, count-is t, q .1 .4))
 
 same-length : tie.Need-same-length
-same-length c = search needs
+same-length c =
+    let b : tie.After-body = search in
+    let t : tie.After-item-count = search in
+    b .body .kept .1 .1 .1 .1 .1 .1 .0 ∙ enter-of t .enter .kept .1 .1 .1 .1 .1 .0
 
 same-length-2 : tie.Need-same-length-2
-same-length-2 c = search needs
-
-same-length-3 : tie.Need-same-length-3
-same-length-3 c = search needs
+same-length-2 c =
+    let b : tie.After-body = search in
+    let t : tie.After-item-count = search in
+    b .body .kept .1 .1 .1 .1 .1 .1 .1 .0 ∙ flat-of t .flatten .kept .1 .1 .1 .0
 
 returns : tie.Need-returns
-returns c = λ P g. entered P ((c .before .before .before .before .before .before .before .before .before .before .before .before .before .before .before .before .before .before .before .before .before .before .before .before .before .before .before .before .before .before .before .before .args) .rows .now) ((c .before .before .before .before .before .before .before .before .before .before .before .before .before .before .before .before .before .before .before .before .before .before .before .before .before .before .before .before .before .before .before .before .args) .parts .now) ((c .before .before .before .before .before .before .before .before .before .before .before .before .before .before .before .before .before .before .enter) .last .1 .1 .1 .1 .1 .0) ((c .before .before .before .before .before .before .before .before .before .before .before .before .before .before .flatten) .last .1 .1 .1 .0) ((c .before .before .before .before .before .before .before .before .before .before .before .before .before .before .before .before .before .before .before .before .before .before .before .before .before .before .before .before .before .before .before .before .args) .n) ((c .before .before .before .before .before .before .before .before .before .before .before .before .before .before .before .before .before .before .before .before .before .before .before .before .before .before .before .before .before .before .before .before .args) .h) ((c .before .before .before .before .before .before .before .before .before .before .before .before .before .before .before .before .before .before .before .before .before .before .before .before .before .before .before .before .before .before .before .before .args) .x) ((c .before .before .before .before .before .before .before .before .before .before .before .before .before .before .before .before .before .before .before .before .before .before .before .before .before .before .before .before .before .before .before .before .args) .p) ((c .before .before .before .before .before .before .before .before .before .before .item-count) .result) ((c .before .before .before .before .before .before .before .before .before .before .before .letter-count) .result) _ _ ((c .before .before .before .before .before .before .body) .result) ((c .before .before .before .before .before .before .body) .ensures P g) ((c .before .before .before .before .before .before .before .before .before .before .before .letter-count) .ensures .0) ((c .before .before .before .before .before .before .before .before .before .before .before .before .before .before .before .before .before .before .enter) .ensures) ((c .before .before .before .before .before .before .before .before .before .before .before .before .before .before .flatten) .ensures) ((c .before .before .before .before .before .before .before .before .before .before .item-count) .ensures .0 ∙ counted-to (tab ((c .before .before .before .before .before .before .before .before .before .before .before .before .before .before .before .before .before .before .before .before .before .before .before .before .before .before .before .before .before .before .before .before .args) .rows .now) ((c .before .before .before .before .before .before .before .before .before .before .before .before .before .before .before .before .before .before .before .before .before .before .before .before .before .before .before .before .before .before .before .before .args) .parts .now)) (((c .before .before .before .before .before .before .before .before .before .before .before .before .before .before .before .before .before .before .before .before .before .before .before .before .before .before .before .before .before .before .before .before .args) .n) + 2) ((c .before .before .before .before .before .before .before .before .before .before .before .before .before .before .before .before .before .before .before .before .before .before .before .before .before .before .before .before .before .before .before .before .pre) .0 .0 .ready .counted) ((c .before .before .before .before .before .before .before .before .before .before .before .before .before .before .before .before .before .before .before .before .before .before .before .before .before .before .before .before .before .before .before .before .args) .x) (omega (arith, (c .before .before .before .before .before .before .before .before .before .before .before .before .before .before .before .before .before .before .before .before .before .before .before .before .before .before .before .before .before .before .before .before .pre) .1 .1, (c .before .before .before .before .before .before .before .before .before .before .before .before .before .before .before .before .before .before .before .before .before .before .before .before .before .before .before .before .before .before .before .before .pre) .1 .2)))
+unfolding part
+returns c =
+    let b : tie.After-body = search in
+    let t : tie.After-item-count = search in
+    let n : tie.After-letter-count = search in
+    let f = flat-of t in
+    let e = enter-of t in
+    let a = start-of t .args in
+    λ P g. entered P (sharedSection (a .p) (a .image .now)) (slotSection (a .p) (a .image .now)) (e .enter .last .1 .1 .1 .1 .1 .0) (f .flatten .last .1 .1 .1 .0) (a .c .rows) (a .x .link) (a .x .stack) (a .x .start) (t .item-count .result) (n .letter-count .result) _ _ (b .body .result) (b .body .ensures P g) (n .letter-count .ensures .0) (e .enter .ensures) (f .flatten .ensures) (count-is t)
 
 pub code-block-spec : {M : Type 1} → statement M
 code-block-spec =
     tie.close
     (tie.spec
-    enter-requires
-    flatten-requires
-    letter-count-requires
-    item-count-requires
-    add-body
-    body-requires
-    same-length
-    same-length-2
-    same-length-3
-    returns)
+    (λ c. search needs) (λ c. search needs) (λ c. search needs) (λ c. search needs) (λ c. search needs) (λ c. search needs)
+    (λ c. search needs) (λ c. search needs) enter-requires flatten-requires (λ c κs. search needs) item-count-requires
+    (λ c. search needs) body-requires same-length same-length-2 (λ c. search needs) returns)

@@ -14,6 +14,9 @@ mul-i c = search needs
 add-i : tie.Need-add-i
 add-i c = search needs
 
+mul-result : tie.Need-mul-result
+mul-result c = search needs
+
 shared-slice-read-result : tie.Need-shared-slice-read-result
 shared-slice-read-result c = search needs
 
@@ -24,4 +27,4 @@ returns-3 : tie.Need-returns-3
 returns-3 c = use-out (c .before .before .args .uses .now) (c .before .before .args .k) (c .before .before .args .t) (omega arith) (omega arith)
 
 pub use-at-spec : {M : Type 1} → statement M
-use-at-spec = tie.close (tie.spec returns mul-i add-i shared-slice-read-result returns-2 returns-3)
+use-at-spec = tie.close (tie.spec returns mul-i add-i mul-result shared-slice-read-result returns-2 returns-3)

@@ -1,34 +1,34 @@
-use mathlib.Core.Path.{_≡_, sym}
-use Rattle.valid_share.specs.rename.Renamed.{partAt}
-use Rattle.valid_share.proofs.rename.Laws.{no-parts, some-parts}
 use borrow.Author.Needs.{needs}
+use Rattle.image.specs.Sections.{part}
+use Rattle.image.proofs.Laws.{nothing}
+use Rattle.valid_share.proofs.rename.Laws.{no-parts, some-parts}
 use Rattle.valid_share.proofs.rename.fill_if.Statement.{statement}
 use Rattle.valid_share.proofs.rename.fill_if.Tie as tie
-use Rattle.valid_share.proofs.rename.fill_if.Reads as reads
-use Rattle.valid_share.proofs.rename.fill_if.Lts as lts
-use Rattle.types_rows.proofs.entry.Reads as entry-reads
-use Rattle.valid_share.proofs.rename.fill_row.Reads as fill-row-reads
-use Rattle.valid_share.proofs.rename.has_parts.Reads as has-parts-reads
-
-entry-requires : tie.Need-entry-requires
-entry-requires c κs = search needs
-
-has-parts-requires : tie.Need-has-parts-requires
-has-parts-requires c κs = search needs
 
 returns : tie.Need-returns
-returns c = no-parts ((c .before .before .entry) .result) _ _ 17 (partAt (((c .before .before .before .before .before .before .before .args) .first) .now) ((c .before .before .before .before .before .before .before .args) .rows .now) ((c .before .before .before .before .before .before .before .args) .parts .now) ((c .before .before .before .before .before .before .before .args) .r)) (((c .before .before .before .before .before .before .before .args) .parts2) .now) ((c .before .before .entry) .ensures .0) ((c .before .has-parts) .ensures) ((c .if1) .taken)
-
-fill-row-requires : tie.Need-fill-row-requires
-fill-row-requires c κs = search needs
-
-same-length : tie.Need-same-length
-same-length c = search needs
+unfolding part
+returns c =
+    let s : tie.Start = search in
+    let k : tie.After-entry = search in
+    let h : tie.After-has-parts = search in
+    (no-parts (k .entry .result) _ _ _ _ (s .args .image .now) (k .entry .ensures .0) (h .has-parts .ensures) (c .if1 .taken), nothing _ _ _)
 
 returns-2 : tie.Need-returns-2
-returns-2 c = some-parts _ _ 17 (partAt (((c .before .before .before .before .before .before .before .before .before .before .before .args) .first) .now) ((c .before .before .before .before .before .before .before .before .before .before .before .args) .rows .now) ((c .before .before .before .before .before .before .before .before .before .before .before .args) .parts .now) ((c .before .before .before .before .before .before .before .before .before .before .before .args) .r)) (((c .before .before .before .before .before .before .before .before .before .before .before .args) .parts2) .now) ((c .before .before .fill-row) .last .1 .1 .1 .1 .0) ((c .before .before .fill-row) .ensures)
+unfolding part
+returns-2 c =
+    let s : tie.Start = search in
+    let k : tie.After-entry = search in
+    let x : tie.After-entry2 = search in
+    let y : tie.After-entry3 = search in
+    let f : tie.After-fill-row = search in
+    let a = s .args in
+    (some-parts (a .first .now) (part (a .rows) (a .blocks) (a .image .now)) (part (a .parts) (a .operands) (a .image .now)) (a .r) _ _ _ (k .entry .ensures .0) (x .entry2 .ensures .0) (y .entry3 .ensures .0) _ _ (a .image .now) (f .fill-row .last .0) (f .fill-row .ensures .0), f .fill-row .ensures .1)
 
 pub fill-if-spec : {M : Type 1} → statement M
 fill-if-spec =
     tie.close
-    (tie.spec entry-requires has-parts-requires returns fill-row-requires same-length returns-2)
+    (tie.spec (λ c. search needs) (λ c. search) (λ c. search) (λ c. search needs) (λ c κs. search needs) (λ c κs. search)
+    (λ c. search) returns
+    (λ c. search needs) (λ c. search) (λ c. search) (λ c. search needs) (λ c κs. search needs)
+    (λ c. search needs) (λ c. search) (λ c. search) (λ c. search needs) (λ c κs. search needs)
+    (λ c κs. search) (λ c. search) returns-2)

@@ -1,72 +1,44 @@
-use borrow.Author.Needs.{needs}
+use Prim.Native.Nat.{_-_, _≤_}
 use native.Mathlib.Omega.{arith}
 use native.Mathlib.Nat.{not-suc-le-zero}
-use mathlib.Core.Path.{_≡_, refl, _∙_}
-use Prim.Native.Nat.{ℕ, _+_, _-_, _*_, _≤_, _<_}
-use lib.ListN.{length, getD}
-use Rattle.tables.specs.Tables.{cell}
-use Rattle.valid_share.specs.rename.Renamed.{HasParts, partAt}
-use Rattle.valid_share.proofs.rename.Laws.{parts-next}
+use borrow.Author.Needs.{needs}
+use Rattle.image.proofs.Laws.{nothing}
+use Rattle.valid_share.proofs.rename.Laws.{Turned, parts-turn, turned}
 use Rattle.valid_share.proofs.rename.fill_parts.Statement.{statement}
 use Rattle.valid_share.proofs.rename.fill_parts.Tie as tie
-use Rattle.valid_share.proofs.rename.fill_parts.Reads as reads
-use Rattle.valid_share.proofs.rename.fill_parts.Lts as lts
-use Rattle.valid_share.proofs.rename.fill_if.Reads as fill-if-reads
 
 abbrev Inv-loop : tie.InvT-loop
-Inv-loop rows parts first n parts2₀ r₀ parts2 r = (r ≤ n) × (length parts2 ≡ length parts2₀) × ((s j : ℕ) → s < r → HasParts (cell 4 rows s 0) → j < 17 → getD parts2 (17 * s + j) 0 ≡ partAt first rows parts s j)
+Inv-loop image₀ first n rows blocks parts operands slots r₀ image r = (r ≤ n) × Turned first image₀ rows blocks parts operands slots n image r
 
 abbrev μ-loop : tie.MeasureT-loop
-μ-loop rows parts first n parts2₀ r₀ parts2 r = n - r
+μ-loop image₀ first n rows blocks parts operands slots r₀ image r = n - r
+
+abbrev Start : Type 0
+Start = tie.Start Inv-loop μ-loop
+
+abbrev At-loop : Type 0
+At-loop = tie.At-loop Inv-loop μ-loop
 
 loop-holds : tie.Need-loop-holds Inv-loop μ-loop
-loop-holds c = (omega arith, refl, λ s j h p k. absurd (not-suc-le-zero h))
-
-fill-if-requires : tie.Need-fill-if-requires Inv-loop μ-loop
-fill-if-requires c κs =
-    let i = (c .before .before .loop) .inv .0 in
-    let e = (c .before .before .loop) .inv .1 in
-    let p = (c .before .before .before .before .before .before .before .pre) .0 in
-    let q = (c .before .before .before .before .before .before .before .pre) .1 in
-    let t = (c .before .loop-test) .taken in
-    (omega arith, omega arith)
-
-add-r : tie.Need-add-r Inv-loop μ-loop
-add-r c =
-    let p = (c .before .before .before .before .before .before .before .before .before .before .pre) .0 in
-    let t = (c .before .before .before .before .loop-test) .taken in
-    omega arith
-
-loop-less : tie.Need-loop-less Inv-loop μ-loop
-loop-less c =
-    let t = (c .before .before .before .before .loop-test) .taken in
-    omega arith
+loop-holds c = (omega arith, record { filled = λ q j h p k. absurd (not-suc-le-zero h); outside = nothing _ _ _ })
 
 loop-again : tie.Need-loop-again Inv-loop μ-loop
 loop-again c =
-    let l = (c .before .before .before .before .before .loop) in
-    let t = (c .before .before .before .before .loop-test) .taken in
-    (omega arith, (c .before .before .fill-if) .kept .1 .1 .1 .1 .0 ∙ l .inv .1, parts-next (λ (s : ℕ). cell 4 ((c .before .before .before .before .before .before .before .before .before .before .args) .rows .now) s 0) (partAt (((c .before .before .before .before .before .before .before .before .before .before .args) .first) .now) ((c .before .before .before .before .before .before .before .before .before .before .args) .rows .now) ((c .before .before .before .before .before .before .before .before .before .before .args) .parts .now)) (l .parts2) ((c .before .before .fill-if) .last .1 .1 .1 .1 .0) (l .r) (l .inv .2) ((c .before .before .fill-if) .ensures))
-
-same-length : tie.Need-same-length Inv-loop μ-loop
-same-length c = (c .before .loop) .inv .1
+    let s : Start = search in
+    let l : At-loop = search in
+    let f : tie.After-fill-if Inv-loop μ-loop = search in
+    let o = s .pre .0 in
+    (omega arith, parts-turn (l .loop .inv .1) (o .rows) (omega arith) (o .parts) (omega arith) (omega arith) _ (omega arith) (f .fill-if .ensures .0) (f .fill-if .ensures .1))
 
 returns : tie.Need-returns Inv-loop μ-loop
 returns c =
-    let l = (c .before .loop) in
-    let t = (c .loop-test) .left in
-    λ s j h p k. l .inv .2 s j (omega arith) p k
+    let s : Start = search in
+    let l : At-loop = search in
+    let o = s .pre .0 in
+    turned (l .loop .inv .1) (o .rows) (omega arith) (o .parts) (omega arith) (omega arith) (s .args .p .end) (o .slots) (s .pre .2) (omega arith)
 
 pub fill-parts-spec : {M : Type 1} → statement M
 fill-parts-spec =
     tie.close
-    (tie.spec
-    Inv-loop
-    μ-loop
-    loop-holds
-    fill-if-requires
-    add-r
-    loop-less
-    loop-again
-    same-length
-    returns)
+    (tie.spec Inv-loop μ-loop loop-holds (λ c. search needs) (λ c. search needs) (λ c κs. search needs) (λ c. search needs)
+    (λ c. search needs) loop-again (λ c. search) returns)

@@ -1,98 +1,51 @@
-use borrow.Author.Needs.{needs}
+use Prim.Native.Nat.{_+_, _-_, _≤_}
+use mathlib.Core.Path.{_≡_}
 use native.Mathlib.Omega.{arith}
-use mathlib.Core.Path.{_≡_, refl}
-use Prim.Native.Nat.{_+_, _-_, _*_, _≤_, _<_}
-use lib.ListN.{length, length-set}
-use Rattle.valid_share.specs.rename.Renamed.{partAt, FilledRow}
-use Rattle.valid_share.proofs.rename.Laws.{part-is, row-first, row-next}
+use borrow.Author.Needs.{needs}
+use Rattle.image.specs.Sections.{part, Outside}
+use Rattle.image.proofs.Laws.{nothing}
+use Rattle.valid_share.specs.rename.Renamed.{newPart, FilledRow}
+use Rattle.valid_share.proofs.rename.Laws.{row-first, row-turn}
 use Rattle.valid_share.proofs.rename.fill_row.Statement.{statement}
 use Rattle.valid_share.proofs.rename.fill_row.Tie as tie
-use Rattle.valid_share.proofs.rename.fill_row.Reads as reads
-use Rattle.valid_share.proofs.rename.fill_row.Lts as lts
-use Rattle.types_rows.proofs.entry.Reads as entry-reads
-use Rattle.valid_share.proofs.rename.narrow.Reads as narrow-reads
-use Rattle.valid_share.proofs.rename.new_part.Reads as new-part-reads
 
 abbrev Inv-loop : tie.InvT-loop
-Inv-loop rows parts first r parts2₀ k a b base j₀ parts2 j = (j ≤ 17) × (length parts2 ≡ length parts2₀) × FilledRow (17 * r) j (partAt first rows parts r) parts2₀ parts2
+Inv-loop image₀ first parts operands base k a b j₀ image j = (j ≤ 17) × FilledRow base j (newPart first (part parts operands image₀) k a b) image₀ image × Outside base (base + 17) image₀ image
 
 abbrev μ-loop : tie.MeasureT-loop
-μ-loop rows parts first r parts2₀ k a b base j₀ parts2 j = 17 - j
+μ-loop image₀ first parts operands base k a b j₀ image j = 17 - j
 
-entry-requires : tie.Need-entry-requires Inv-loop μ-loop
-entry-requires c κs = search needs
+abbrev Start : Type 0
+Start = tie.Start Inv-loop μ-loop
 
-entry-requires-2 : tie.Need-entry-requires-2 Inv-loop μ-loop
-entry-requires-2 c κs = search needs
-
-entry-requires-3 : tie.Need-entry-requires-3 Inv-loop μ-loop
-entry-requires-3 c κs = search needs
-
-mul-base : tie.Need-mul-base Inv-loop μ-loop
-mul-base c = search needs
+abbrev At-loop : Type 0
+At-loop = tie.At-loop Inv-loop μ-loop
 
 loop-holds : tie.Need-loop-holds Inv-loop μ-loop
-loop-holds c = (omega arith, refl, row-first (17 * ((c .before .before .before .before .before .before .before .args) .r)) (partAt ((c .before .before .before .before .before .before .before .args) .first .now) ((c .before .before .before .before .before .before .before .args) .rows .now) ((c .before .before .before .before .before .before .before .args) .parts .now) ((c .before .before .before .before .before .before .before .args) .r)) ((c .before .before .before .before .before .before .before .args) .parts2 .now))
-
-new-part-requires : tie.Need-new-part-requires Inv-loop μ-loop
-new-part-requires c κs =
-    let i = (c .before .loop) .inv .0 in
-    ((c .before .before .before .entry2) .ensures .1, (c .before .before .entry3) .ensures .1, omega arith)
-
-narrow-requires : tie.Need-narrow-requires Inv-loop μ-loop
-narrow-requires c κs = (c .new-part) .ensures .1
-
-add-parts2 : tie.Need-add-parts2 Inv-loop μ-loop
-add-parts2 c = search needs
-
-mul-parts2 : tie.Need-mul-parts2 Inv-loop μ-loop
-mul-parts2 c = search needs
-
-slice-write-parts2 : tie.Need-slice-write-parts2 Inv-loop μ-loop
-slice-write-parts2 c = search needs
-
-add-j : tie.Need-add-j Inv-loop μ-loop
-add-j c = search needs
-
-loop-less : tie.Need-loop-less Inv-loop μ-loop
-loop-less c = search needs
+loop-holds c =
+    let s : Start = search in
+    (omega arith, row-first _ _ (s .args .image .now), nothing _ _ _)
 
 loop-again : tie.Need-loop-again Inv-loop μ-loop
+unfolding part
 loop-again c =
-    let a = (c .before .before .before .before .before .before .before .before .before .before .before .args) in
-    let l = (c .before .before .before .loop) in
-    let p = (c .before .before .before .before .before .before .before .before .before .before .before .pre) .1 in
-    let t = (c .before .before .loop-test) .taken in
-    let o = part-is (a .first .now) (a .rows .now) (a .parts .now) (a .r) (l .j) ((c .before .before .before .before .before .before .entry) .result) ((c .before .before .before .before .before .entry2) .result) ((c .before .before .before .before .entry3) .result) ((c .before .new-part) .result) ((c .before .before .before .before .before .before .entry) .ensures .0) ((c .before .before .before .before .before .entry2) .ensures .0) ((c .before .before .before .before .entry3) .ensures .0) ((c .before .new-part) .ensures .0) in
-    (omega arith, simp length-set (l .inv .1), row-next (17 * a .r) (partAt (a .first .now) (a .rows .now) (a .parts .now) (a .r)) (a .parts2 .now) (l .parts2) (l .j) ((c .before .new-part) .result) ((c .narrow) .result) (omega (arith, l .inv .1)) o ((c .narrow) .ensures) (l .inv .2))
-
-same-length : tie.Need-same-length Inv-loop μ-loop
-same-length c = (c .before .loop) .inv .1
+    let s : Start = search in
+    let l : At-loop = search in
+    let n : tie.After-new-part Inv-loop μ-loop = search in
+    let w : tie.After-narrow Inv-loop μ-loop = search in
+    let a = s .args in
+    let t = row-turn (a .first .now) (a .image .now) (a .parts) (a .operands) (a .base) (a .k) (a .a) (a .b) (s .pre .0) (s .pre .1) (s .pre .2) (l .loop .image) (l .loop .j) _ _ (omega arith) (l .loop .inv .1) (l .loop .inv .2) (n .new-part .ensures .0) (w .narrow .ensures) in
+    (omega arith, t .0, t .1)
 
 returns : tie.Need-returns Inv-loop μ-loop
 returns c =
-    let l = (c .before .loop) in
-    let e : l .j ≡ 17 = omega (arith, l .inv .0) in
-    rw e at (l .inv .2)
+    let l : At-loop = search in
+    let e : l .loop .j ≡ 17 = omega arith in
+    (rw e at (l .loop .inv .1), l .loop .inv .2)
 
 pub fill-row-spec : {M : Type 1} → statement M
 fill-row-spec =
     tie.close
-    (tie.spec
-    Inv-loop
-    μ-loop
-    entry-requires
-    entry-requires-2
-    entry-requires-3
-    mul-base
-    loop-holds
-    new-part-requires
-    narrow-requires
-    add-parts2
-    mul-parts2
-    slice-write-parts2
-    add-j
-    loop-less
-    loop-again
-    same-length
-    returns)
+    (tie.spec Inv-loop μ-loop loop-holds (λ c. search needs) (λ c. search) (λ c. search) (λ c. search needs)
+    (λ c κs. search needs) (λ c κs. search) (λ c. search needs) (λ c. search needs) (λ c. search needs)
+    (λ c. search needs) (λ c. search needs) loop-again (λ c. search) returns)

@@ -1,87 +1,85 @@
 use native.Mathlib.Omega.{arith}
 use Prim.Native.Nat.{ℕ}
 use mathlib.Core.Path.{sym}
-use mathlib.Core.List.{List, map}
+use mathlib.Core.List.{List}
 use lib.ListN.{take}
 use lib.Seq.{length-take-le}
 use Rattle.syntax.specs.Syntax.{Kind}
-use Rattle.tables.specs.Tables.{baseOf, span, letterOf}
+use Rattle.tables.specs.Tables.{baseOf, span}
 use Rattle.valid_context.specs.Context.{regsOf}
-use Rattle.valid_typing.specs.Typing.{typesIn}
 use Rattle.valid_typing.proofs.Args.{back-below}
 use Rattle.valid_typing.proofs.operands.Filling.{inst-formed, inst-unformed}
+use Rattle.image.specs.Sections.{part, argSection, sharedSection, slotSection}
+use Rattle.valid_typing.specs.Image.{typesAt, lettersIn}
 use borrow.Author.Needs.{needs}
 use Rattle.valid_typing.proofs.operands.instance.Statement.{statement}
 use Rattle.valid_typing.proofs.operands.instance.Tie as tie
-use Rattle.valid_typing.proofs.operands.instance.Reads as reads
-use Rattle.valid_typing.proofs.operands.instance.Lts as lts
-use Rattle.valid_context.proofs.least.Reads as least-reads
-use Rattle.valid_typing.proofs.operands.fill_fault.Reads as fill-fault-reads
-use Rattle.valid_typing.proofs.formed_args.Reads as formed-args-reads
-use Rattle.valid_typing.proofs.formed_row.Reads as formed-row-reads
-use Rattle.valid_typing.proofs.reversed.Reads as reversed-reads
 
 reversed-requires : tie.Need-reversed-requires
-reversed-requires c κs = ((c .before .before .before .before .before .before .before .before .before .pre) .0 .few, omega (arith, (c .before .before .before .before .before .before .before .before .before .pre) .3, (c .before .before .before .before .before .before .before .before .before .pre) .4), omega (arith, (c .before .before .before .before .before .before .before .before .before .pre) .3, (c .before .before .before .before .before .before .before .before .before .pre) .5))
-
-slice-reshare-prefix-fill-fault : tie.Need-slice-reshare-prefix-fill-fault
-slice-reshare-prefix-fill-fault c = search needs
+reversed-requires c κs =
+    let s : tie.Start = search in
+    (s .pre .1 .few, omega (arith, s .pre .4, s .pre .5), omega (arith, s .pre .4, s .pre .6))
 
 slice-aggregate-fill-fault : tie.Need-slice-aggregate-fill-fault
 slice-aggregate-fill-fault c =
-    let b : List ℕ = (c .before .before .before .reversed) .last .1 .1 .1 .1 .0 in
-    sym (length-take-le ((c .before .before .before .before .before .before .before .before .before .before .before .before .before .args) .c) b (omega (arith, (c .before .before .before .reversed) .kept .1 .1 .1 .1 .0, (c .before .before .before .before .before .before .before .before .before .before .before .before .before .pre) .3, (c .before .before .before .before .before .before .before .before .before .before .before .before .before .pre) .4)))
+    let t-reversed : tie.After-reversed = search in
+    let s : tie.Start = search in
+    let b : List ℕ = t-reversed .reversed .last .1 .1 .1 .1 .0 in
+    sym (length-take-le (s .args .o .count) b (omega (arith, t-reversed .reversed .kept .1 .1 .1 .1 .0, s .pre .4, s .pre .5)))
 
 fill-fault-requires : tie.Need-fill-fault-requires
-fill-fault-requires c κs = ((c .before .before .before .before .before .before .before .before .before .before .before .before .before .pre) .0, (c .before .before .before .before .before .before .before .before .before .before .before .before .before .pre) .2, back-below ((c .before .before .before .before .before .before .before .before .before .before .before .before .before .args) .n) (span ((c .before .before .before .before .before .before .before .before .before .before .before .before .before .args) .args .now) ((c .before .before .before .before .before .before .before .before .before .before .before .before .before .args) .a) ((c .before .before .before .before .before .before .before .before .before .before .before .before .before .args) .c)) ((c .before .before .before .reversed) .ensures), (c .before .before .before .before .before .before .before .before .before .before .before .before .before .pre) .1)
+unfolding part
+fill-fault-requires c κs =
+    let s : tie.Start = search in
+    let a = s .args in
+    let t-reversed : tie.After-reversed = search in
+    (s .pre .0, s .pre .1, s .pre .3, back-below (a .c .rows) (span (argSection (a .p) (a .image .now)) (a .o .first) (a .o .count)) (t-reversed .reversed .ensures), s .pre .2)
 
 formed-row-requires : tie.Need-formed-row-requires
-formed-row-requires c κs = ((c .before .before .before .before .before .before .before .before .before .before .before .before .before .before .pre) .0 .few, (c .before .before .before .before .before .before .before .before .before .before .before .before .before .before .pre) .1)
+formed-row-requires c κs =
+    let s : tie.Start = search in
+    (s .pre .0, s .pre .1 .few, s .pre .2)
 
 formed-args-requires : tie.Need-formed-args-requires
-formed-args-requires c κs = ((c .before .before .before .before .before .before .before .before .before .before .before .before .before .before .before .pre) .1, omega (arith, (c .before .before .before .before .before .before .before .before .before .before .before .before .before .before .before .pre) .3, (c .before .before .before .before .before .before .before .before .before .before .before .before .before .before .before .pre) .5))
-
-least-requires : tie.Need-least-requires
-least-requires c κs = search needs
-
-same-length : tie.Need-same-length
-same-length c = search needs
+formed-args-requires c κs =
+    let s : tie.Start = search in
+    (s .pre .0, s .pre .2, omega (arith, s .pre .4, s .pre .6))
 
 returns : tie.Need-returns
+unfolding part
 returns c =
-    let a = (c .before .before .before .before .before .before .before .before .before .before .before .before .before .before .before .before .before .before .args) in
-    let Δ : List Kind = map letterOf (span (a .parts .now) (a .l) (a .q)) in
-    λ P f h e. inst-formed P Δ (a .rows .now) (a .parts .now) (a .n) ((c .before .before .before .before .before .before .before .before .before .before .before .before .before .before .before .before .before .before .pre) .0) (h .types) (regsOf (typesIn (a .rows .now) (a .parts .now) (a .n)) (a .regs .now)) f (baseOf (a .kind) (a .number)) (span (a .args .now) (a .a) (a .c)) (take (a .c) ((c .before .before .before .before .before .before .before .before .reversed) .last .1 .1 .1 .1 .0)) (a .t) ((c .before .before .before .formed-row) .result) ((c .before .before .before .before .fill-fault) .result) ((c .before .before .before .before .before .before .before .before .reversed) .ensures) ((c .before .before .before .formed-row) .ensures P (h .types)) ((c .before .before .before .before .fill-fault) .ensures P Δ f h e) ((c .least) .result) ((c .before .before .formed-args) .ensures) ((c .before .if1) .taken) ((c .least) .ensures)
-
-least-requires-2 : tie.Need-least-requires-2
-least-requires-2 c κs = search needs
-
-least-requires-3 : tie.Need-least-requires-3
-least-requires-3 c κs = search needs
-
-same-length-2 : tie.Need-same-length-2
-same-length-2 c = search needs
+    let s : tie.Start = search in
+    let t-reversed : tie.After-reversed = search in
+    let t-formed-row : tie.After-formed-row = search in
+    let t-fill-fault : tie.After-fill-fault = search in
+    let t-least : tie.After-least = search in
+    let t-formed-args : tie.After-formed-args = search in
+    let i1 : tie.Then1 = search in
+    let a = s .args in
+    let l = a .image .now in
+    let Δ : List Kind = lettersIn (a .p) l (a .w) in
+    λ P f h e. inst-formed P Δ (sharedSection (a .p) l) (slotSection (a .p) l) (a .c .rows) (s .pre .1) (h .types) (regsOf (typesAt (a .p) l (a .c .rows)) (a .regs .now)) f (baseOf (a .o .kind) (a .o .number)) (span (argSection (a .p) l) (a .o .first) (a .o .count)) (take (a .o .count) (t-reversed .reversed .last .1 .1 .1 .1 .0)) (a .o .row) (t-formed-row .formed-row .result) (t-fill-fault .fill-fault .result) (t-reversed .reversed .ensures) (t-formed-row .formed-row .ensures P (h .types)) (t-fill-fault .fill-fault .ensures P Δ f h e) (t-least .least .result) (t-formed-args .formed-args .ensures) (i1 .if1 .taken) (t-least .least .ensures)
 
 returns-2 : tie.Need-returns-2
+unfolding part
 returns-2 c =
-    let a = (c .before .before .before .before .before .before .before .before .before .before .before .before .before .before .before .before .before .before .before .args) in
-    let Δ : List Kind = map letterOf (span (a .parts .now) (a .l) (a .q)) in
-    λ P f h e. inst-unformed P Δ (a .rows .now) (a .parts .now) (a .n) ((c .before .before .before .before .before .before .before .before .before .before .before .before .before .before .before .before .before .before .before .pre) .0) (h .types) (regsOf (typesIn (a .rows .now) (a .parts .now) (a .n)) (a .regs .now)) f (baseOf (a .kind) (a .number)) (span (a .args .now) (a .a) (a .c)) (take (a .c) ((c .before .before .before .before .before .before .before .before .before .reversed) .last .1 .1 .1 .1 .0)) (a .t) ((c .before .before .before .before .formed-row) .result) ((c .before .before .before .before .before .fill-fault) .result) ((c .before .before .before .before .before .before .before .before .before .reversed) .ensures) ((c .before .before .before .before .formed-row) .ensures P (h .types)) ((c .before .before .before .before .before .fill-fault) .ensures P Δ f h e) ((c .least3) .result) ((c .before .least2) .result) ((c .before .before .before .formed-args) .ensures) ((c .before .before .if1) .left) ((c .before .least2) .ensures) ((c .least3) .ensures)
+    let s : tie.Start = search in
+    let t-reversed : tie.After-reversed = search in
+    let t-formed-row : tie.After-formed-row = search in
+    let t-fill-fault : tie.After-fill-fault = search in
+    let t-least3 : tie.After-least3 = search in
+    let t-least2 : tie.After-least2 = search in
+    let t-formed-args : tie.After-formed-args = search in
+    let i1 : tie.Else1 = search in
+    let a = s .args in
+    let l = a .image .now in
+    let Δ : List Kind = lettersIn (a .p) l (a .w) in
+    λ P f h e. inst-unformed P Δ (sharedSection (a .p) l) (slotSection (a .p) l) (a .c .rows) (s .pre .1) (h .types) (regsOf (typesAt (a .p) l (a .c .rows)) (a .regs .now)) f (baseOf (a .o .kind) (a .o .number)) (span (argSection (a .p) l) (a .o .first) (a .o .count)) (take (a .o .count) (t-reversed .reversed .last .1 .1 .1 .1 .0)) (a .o .row) (t-formed-row .formed-row .result) (t-fill-fault .fill-fault .result) (t-reversed .reversed .ensures) (t-formed-row .formed-row .ensures P (h .types)) (t-fill-fault .fill-fault .ensures P Δ f h e) (t-least3 .least3 .result) (t-least2 .least2 .result) (t-formed-args .formed-args .ensures) (i1 .if1 .left) (t-least2 .least2 .ensures) (t-least3 .least3 .ensures)
 
 pub instance-spec : {M : Type 1} → statement M
 instance-spec =
     tie.close
     (tie.spec
-    reversed-requires
-    slice-reshare-prefix-fill-fault
-    slice-aggregate-fill-fault
-    fill-fault-requires
-    formed-row-requires
-    formed-args-requires
-    least-requires
-    same-length
-    returns
-    least-requires-2
-    least-requires-3
-    same-length-2
-    returns-2)
+    (λ c. search needs) (λ c. search needs) (λ c. search needs) (λ c. search needs) reversed-requires (λ c. search needs)
+    slice-aggregate-fill-fault fill-fault-requires formed-row-requires formed-args-requires (λ c κs. search needs) (λ c. search needs)
+    returns (λ c κs. search needs) (λ c κs. search needs) (λ c. search needs) returns-2)

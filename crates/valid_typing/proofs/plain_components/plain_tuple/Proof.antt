@@ -6,34 +6,23 @@ use mathlib.Core.Option.{some}
 use Rattle.syntax.specs.Syntax.{value}
 use Rattle.types.specs.Rows.{typeAt}
 use Rattle.types.proofs.Equal.{none-true}
-use Rattle.types_rows.specs.Read.{tab, meanV, partsOf}
+use Rattle.types_rows.specs.Read.{meanV, partsOf}
 use Rattle.valid_context.specs.Context.{regsOf}
-use Rattle.valid_typing.specs.Typing.{typesIn}
 use Rattle.valid_typing.proofs.Forms.{link-fits, is-tuple, tuple-low}
 use Rattle.valid_typing.specs.operands.Operands.{operandTable}
 use Rattle.valid_typing.proofs.plain_components.Plain.{plain-makes}
+use Rattle.image.specs.Sections.{part, operandSection, sharedSection, slotSection}
+use Rattle.valid_typing.specs.Image.{rowTable, typesAt}
 use borrow.Author.Needs.{needs}
 use Rattle.valid_typing.proofs.plain_components.plain_tuple.Statement.{statement}
 use Rattle.valid_typing.proofs.plain_components.plain_tuple.Tie as tie
-use Rattle.valid_typing.proofs.plain_components.plain_tuple.Reads as reads
-use Rattle.valid_typing.proofs.plain_components.plain_tuple.Lts as lts
-use Rattle.valid_typing.proofs.plain_components.plain_parts.Reads as plain-parts-reads
-use Rattle.types_rows.proofs.link.Reads as link-reads
-use Rattle.types_rows.proofs.read_value.Reads as read-value-reads
-
-add-link : tie.Need-add-link
-add-link c = search needs
-
-link-requires : tie.Need-link-requires
-link-requires c κs = search needs
 
 read-value-requires : tie.Need-read-value-requires
 read-value-requires c κs =
-    let h = link-fits ((c .before .before .before .before .before .before .before .args) .n) ((c .before .before .before .before .before .before .before .args) .t) ((c .link) .result) ((c .link) .ensures) in
-    (omega (arith, (c .before .before .before .before .before .before .before .pre) .0 .few), omega arith)
-
-enum-known-u : tie.Need-enum-known-u
-enum-known-u c = search needs
+    let s : tie.Start = search in
+    let t-link : tie.After-link = search in
+    let h = link-fits (s .args .c .rows) (s .args .t) (t-link .link .result) (t-link .link .ensures) in
+    (omega (arith, s .pre .1 .few), omega arith)
 
 returns : tie.Need-returns
 returns c = λ z. none-true z
@@ -43,22 +32,31 @@ returns-2 c = λ z. none-true z
 
 plain-parts-requires : tie.Need-plain-parts-requires
 plain-parts-requires c κs =
-    let h = link-fits ((c .before .before .before .before .before .before .before .before .before .before .before .before .args) .n) ((c .before .before .before .before .before .before .before .before .before .before .before .before .args) .t) ((c .before .before .before .before .before .link) .result) ((c .before .before .before .before .before .link) .ensures) in
-    let l = tuple-low ((c .before .before .before .before .before .link) .result) ((c .before .before .u) .given .1) ((c .before .before .before .before .read-value) .ensures .1) in
-    ((c .before .before .before .before .before .before .before .before .before .before .before .before .pre) .0, (c .before .before .before .before .before .before .before .before .before .before .before .before .pre) .1, l .2, h, l .0, omega (arith, l .1, (c .if1) .left))
+    let s : tie.Start = search in
+    let t-link : tie.After-link = search in
+    let t-u : tie.After-u = search in
+    let t-read-value : tie.After-read-value = search in
+    let i1 : tie.Else1 = search in
+    let h = link-fits (s .args .c .rows) (s .args .t) (t-link .link .result) (t-link .link .ensures) in
+    let l = tuple-low (t-link .link .result) (t-u .u .given .1) (t-read-value .read-value .ensures .1) in
+    (s .pre .0, s .pre .1, s .pre .2, l .2, h, l .0, omega (arith, l .1, i1 .if1 .left))
 
 returns-3 : tie.Need-returns-3
-returns-3 c = λ z P Δ args k. plain-makes P Δ (regsOf (typesIn ((c .before .before .before .before .before .before .before .before .before .before .before .before .before .args) .rows .now) ((c .before .before .before .before .before .before .before .before .before .before .before .before .before .args) .parts .now) ((c .before .before .before .before .before .before .before .before .before .before .before .before .before .args) .n)) (((c .before .before .before .before .before .before .before .before .before .before .before .before .before .args) .regs) .now)) (operandTable (((c .before .before .before .before .before .before .before .before .before .before .before .before .before .args) .operands) .now) (((c .before .before .before .before .before .before .before .before .before .before .before .before .before .args) .numbers) .now) args) (meanV (tab ((c .before .before .before .before .before .before .before .before .before .before .before .before .before .args) .rows .now) ((c .before .before .before .before .before .before .before .before .before .before .before .before .before .args) .parts .now))) ((c .before .before .before .before .before .before .before .before .before .before .before .before .before .args) .parts .now) ((c .before .before .before .before .before .before .link) .result) ((c .before .before .before .before .before .before .before .before .before .before .before .before .before .args) .v) ((c .before .before .before .before .before .before .before .before .before .before .before .before .before .args) .c) ((c .before .before .before .u) .given .0 .0) (typeAt value (typesIn ((c .before .before .before .before .before .before .before .before .before .before .before .before .before .args) .rows .now) ((c .before .before .before .before .before .before .before .before .before .before .before .before .before .args) .parts .now) ((c .before .before .before .before .before .before .before .before .before .before .before .before .before .args) .n)) ((c .before .before .before .before .before .before .before .before .before .before .before .before .before .args) .t)) (is-tuple ((c .before .before .before .before .before .before .before .before .before .before .before .before .before .args) .rows .now) ((c .before .before .before .before .before .before .before .before .before .before .before .before .before .args) .parts .now) ((c .before .before .before .before .before .before .before .before .before .before .before .before .before .args) .n) ((c .before .before .before .before .before .before .before .before .before .before .before .before .before .args) .t) ((c .before .before .before .before .before .before .link) .result) ((c .before .before .before .before .before .before .link) .ensures) ((c .before .before .before .before .before .read-value) .ensures .0) ((c .before .before .before .u) .given .1) ∙ ap (λ (j : ℕ). some (partsOf (meanV (tab ((c .before .before .before .before .before .before .before .before .before .before .before .before .before .args) .rows .now) ((c .before .before .before .before .before .before .before .before .before .before .before .before .before .args) .parts .now))) ((c .before .before .before .before .before .before .before .before .before .before .before .before .before .args) .parts .now) false ((c .before .before .before .before .before .before .link) .result) ((c .before .before .before .u) .given .0 .0) j)) ((c .before .if1) .left)) ((c .plain-parts) .ensures z P Δ args k)
+unfolding part
+returns-3 c =
+    let s : tie.Start = search in
+    let a = s .args in
+    let l = a .image .now in
+    let t-link : tie.After-link = search in
+    let t-u : tie.After-u = search in
+    let t-read-value : tie.After-read-value = search in
+    let i1 : tie.Else1 = search in
+    let t-plain-parts : tie.After-plain-parts = search in
+    λ z P Δ args k. plain-makes P Δ (regsOf (typesAt (a .p) l (a .c .rows)) (a .regs .now)) (operandTable (operandSection (a .p) l) (a .literals .now) args) (meanV (rowTable (a .p) l)) (slotSection (a .p) l) (t-link .link .result) (a .o .first) (a .o .count) (t-u .u .given .0 .0) (typeAt value (typesAt (a .p) l (a .c .rows)) (a .t)) (is-tuple (sharedSection (a .p) l) (slotSection (a .p) l) (a .c .rows) (a .t) (t-link .link .result) (t-link .link .ensures) (t-read-value .read-value .ensures .0) (t-u .u .given .1) ∙ ap (λ (j : ℕ). some (partsOf (meanV (rowTable (a .p) l)) (slotSection (a .p) l) false (t-link .link .result) (t-u .u .given .0 .0) j)) (i1 .if1 .left)) (t-plain-parts .plain-parts .ensures z P Δ args k)
 
 pub plain-tuple-spec : {M : Type 1} → statement M
 plain-tuple-spec =
     tie.close
     (tie.spec
-    add-link
-    link-requires
-    read-value-requires
-    enum-known-u
-    returns
-    returns-2
-    plain-parts-requires
-    returns-3)
+    (λ c. search needs) (λ c κs. search needs) (λ c. search needs) (λ c. search needs) (λ c. search needs) (λ c. search needs)
+    read-value-requires (λ c. search needs) returns returns-2 plain-parts-requires returns-3)

@@ -1,64 +1,68 @@
-use native.Mathlib.Omega.{arith}
-use Prim.Native.Nat.{ℕ}
-use mathlib.Core.List.{List, map}
+use mathlib.Core.List.{List}
 use Rattle.syntax.specs.Syntax.{Kind, value}
 use Rattle.syntax.specs.Fault.{unfit}
 use Rattle.types.specs.Rows.{typeAt}
-use Rattle.tables.specs.Tables.{span, letterOf, operandAt}
+use Rattle.tables.specs.Tables.{operandAt}
 use Rattle.valid_context.specs.Context.{contextOf}
-use Rattle.valid_typing.specs.Typing.{typesIn}
-use Rattle.valid_typing.specs.operands.Operands.{operandTable}
 use Rattle.valid_typing.proofs.target.Items.{ninety-nine, has-unequal, has-fault}
+use Rattle.image.specs.Sections.{part}
+use Rattle.valid_typing.specs.Image.{typesAt, operandsIn, lettersIn}
 use borrow.Author.Needs.{needs}
 use Rattle.valid_typing.proofs.target.target.Statement.{statement}
 use Rattle.valid_typing.proofs.target.target.Tie as tie
-use Rattle.valid_typing.proofs.target.target.Reads as reads
-use Rattle.valid_typing.proofs.target.target.Lts as lts
-use Rattle.valid_typing.proofs.operands.operand.Reads as operand-reads
-use Rattle.valid_typing.proofs.target.aimed.Reads as aimed-reads
+
+abbrev start-of : tie.After-operand → tie.Start
+start-of t = search
 
 operand-requires : tie.Need-operand-requires
-operand-requires c κs = ((c .before .before .before .before .before .before .before .before .before .before .before .before .pre) .0, (c .before .before .before .before .before .before .before .before .before .before .before .before .pre) .1, (c .before .before .before .before .before .before .before .before .before .before .before .before .pre) .2, (c .before .before .before .before .before .before .before .before .before .before .before .before .pre) .3, (c .before .before .before .before .before .before .before .before .before .before .before .before .pre) .4)
-
-same-length : tie.Need-same-length
-same-length c = search needs
+operand-requires c κs =
+    let s : tie.Start = search in
+    (s .pre .0, s .pre .1, s .pre .2, s .pre .3, s .pre .4, s .pre .5)
 
 returns : tie.Need-returns
 returns c =
-    let a = (c .before .before .before .before .before .before .before .before .before .before .before .before .before .before .before .before .before .args) in
-    let Δ : List Kind = map letterOf (span (a .parts .now) (a .l) (a .q)) in
-    λ P h. has-unequal P Δ (contextOf (typesIn (a .rows .now) (a .parts .now) (a .n)) (a .regs .now) (a .sp .now) (a .d)) (operandAt (operandTable (a .operands .now) (a .numbers .now) (a .args .now)) (a .v)) ((c .before .before .before .before .operand) .result .fault) (typeAt value (typesIn (a .rows .now) (a .parts .now) (a .n)) ((c .before .before .before .before .operand) .result .row)) ((c .before .before .before .before .operand) .ensures .0 P (unfit 99) h ninety-nine) ((c .if1) .taken)
-
-same-length-2 : tie.Need-same-length-2
-same-length-2 c = search needs
+    let s : tie.Start = search in
+    let t-operand : tie.After-operand = search in
+    let i1 : tie.Then1 = search in
+    let a = s .args in
+    let l = a .image .now in
+    let Δ : List Kind = lettersIn (a .p) l (a .w) in
+    λ P h. has-unequal P Δ (contextOf (typesAt (a .p) l (a .c .rows)) (a .regs .now) (a .sp .now) (a .d)) (operandAt (operandsIn (a .p) l (a .literals .now)) (a .v)) (t-operand .operand .result .fault) (typeAt value (typesAt (a .p) l (a .c .rows)) (t-operand .operand .result .row)) (t-operand .operand .ensures .0 P (unfit 99) h ninety-nine) (i1 .if1 .taken)
 
 returns-2 : tie.Need-returns-2
 returns-2 c =
-    let a = (c .before .before .before .before .before .before .before .before .before .before .before .before .before .before .before .before .before .before .before .args) in
-    let Δ : List Kind = map letterOf (span (a .parts .now) (a .l) (a .q)) in
-    λ P h. has-fault P Δ (contextOf (typesIn (a .rows .now) (a .parts .now) (a .n)) (a .regs .now) (a .sp .now) (a .d)) (operandAt (operandTable (a .operands .now) (a .numbers .now) (a .args .now)) (a .v)) ((c .before .before .before .before .before .before .operand) .result .fault) (typeAt value (typesIn (a .rows .now) (a .parts .now) (a .n)) ((c .before .before .before .before .before .before .operand) .result .row)) ((c .before .before .before .before .before .before .operand) .ensures .0 P (unfit 99) h ninety-nine) ((c .if2) .taken) ((c .before .before .if1) .left)
+    let s : tie.Start = search in
+    let t-operand : tie.After-operand = search in
+    let i2 : tie.Then2 = search in
+    let i1 : tie.Else1 = search in
+    let a = s .args in
+    let l = a .image .now in
+    let Δ : List Kind = lettersIn (a .p) l (a .w) in
+    λ P h. has-fault P Δ (contextOf (typesAt (a .p) l (a .c .rows)) (a .regs .now) (a .sp .now) (a .d)) (operandAt (operandsIn (a .p) l (a .literals .now)) (a .v)) (t-operand .operand .result .fault) (typeAt value (typesAt (a .p) l (a .c .rows)) (t-operand .operand .result .row)) (t-operand .operand .ensures .0 P (unfit 99) h ninety-nine) (i2 .if2 .taken) (i1 .if1 .left)
 
 aimed-requires : tie.Need-aimed-requires
-aimed-requires c κs = ((c .before .before .before .before .before .before .before .before .before .before .before .before .before .before .before .before .before .before .before .pre) .0, (c .before .before .before .before .before .before .operand) .ensures .1)
-
-same-length-3 : tie.Need-same-length-3
-same-length-3 c = search needs
+unfolding part
+aimed-requires c κs =
+    let s : tie.Start = search in
+    let t-operand : tie.After-operand = search in
+    (s .pre .1, t-operand .operand .ensures .1)
 
 returns-3 : tie.Need-returns-3
+unfolding part
 returns-3 c =
-    let a = (c .before .before .before .before .before .before .before .before .before .before .before .before .before .before .before .before .before .before .before .before .args) in
-    let Δ : List Kind = map letterOf (span (a .parts .now) (a .l) (a .q)) in
-    λ P h. (c .aimed) .ensures P Δ (operandAt (operandTable (a .operands .now) (a .numbers .now) (a .args .now)) (a .v)) ((c .before .before .before .before .before .before .before .operand) .result .fault) ((c .before .if2) .left) ((c .before .before .before .before .before .before .before .operand) .ensures .0 P (unfit 99) h ninety-nine)
+    let t-operand : tie.After-operand = search in
+    let s = start-of t-operand in
+    let t-aimed : tie.After-aimed = search in
+    let i2 : tie.Else2 = search in
+    let a = s .args in
+    let l = a .image .now in
+    let Δ : List Kind = lettersIn (a .p) l (a .w) in
+    λ P h. t-aimed .aimed .ensures P Δ (operandAt (operandsIn (a .p) l (a .literals .now)) (a .v)) (t-operand .operand .result .fault) (i2 .if2 .left) (t-operand .operand .ensures .0 P (unfit 99) h ninety-nine)
 
 pub target-spec : {M : Type 1} → statement M
 target-spec =
     tie.close
     (tie.spec
-    operand-requires
-    same-length
-    returns
-    same-length-2
-    returns-2
-    aimed-requires
-    same-length-3
-    returns-3)
+    operand-requires (λ c. search needs) returns (λ c. search needs) returns-2 (λ c. search needs) (λ c. search needs)
+    (λ c. search needs) (λ c. search needs) (λ c. search needs) (λ c. search needs) (λ c. search needs) (λ c. search needs)
+    aimed-requires (λ c. search needs) returns-3)

@@ -1,0 +1,24 @@
+use mathlib.Core.Path.{refl, sym}
+use native.Mathlib.Omega.{arith}
+use borrow.Author.Needs.{needs}
+use Rattle.exec_call.proofs.Laws.{short-image, short-numbers, by-plan}
+use Rattle.exec_call.proofs.lent.is_enough.Statement.{statement}
+use Rattle.exec_call.proofs.lent.is_enough.Tie as tie
+
+returns : tie.Need-returns
+returns c =
+    let s : tie.Start = search in
+    short-image (s .args .image) (s .args .numbers) (s .args .plan) (search)
+
+returns-2 : tie.Need-returns-2
+returns-2 c =
+    let s : tie.Start = search in
+    short-numbers (s .args .image) (s .args .numbers) (s .args .plan) (search) (search)
+
+returns-3 : tie.Need-returns-3
+returns-3 c =
+    let s : tie.Start = search in
+    by-plan (s .args .image) (s .args .numbers) (s .args .plan) (search) (search)
+
+pub is-enough-spec : {M : Type 1} → statement M
+is-enough-spec = tie.close (tie.spec returns returns-2 returns-3)

@@ -1,0 +1,138 @@
+// Check, start and continue under C names, with working memory from the caller, whatever it holds: image, numbers and plan, of a check work
+// too. Promised, on every input: the numbers and the whole lent state of crate stal's other three, if the working memory is long enough; else
+// 16, line 0, before anything else is looked at, and the state as it was. What it holds afterwards is free. Nothing is asked.
+use exec_machine::Place;
+ghost use mathlib.Core.Path.{_≡_};
+ghost use lib.ListN.{length};
+ghost use Rattle.valid_check.specs.Lent.{enough as enoughForCheck};
+ghost use Rattle.exec_call.specs.Tries.{enough, startingIn, continuingIn};
+ghost use Rattle.stal_numbers.specs.Numbers.{verdict, TellsIn, reply, call, callOf, stateIn};
+
+// Check with working memory lent: 16, line 0, where it is too short.
+#[no_mangle]
+pub extern "C" fn stal_check_in(
+    text: &[u8],
+    image: &mut [u16],
+    numbers: &mut [u32],
+    plan: &mut [u32],
+    work: &mut [u16],
+    first: &mut usize,
+    second: &mut usize,
+) -> usize
+    ensures { λ r. ⌜ TellsIn (enoughForCheck (length (now (image .entry))) (length (now (numbers .entry))) (length (now (plan .entry))) (length (now (work .entry)))) (now (text .entry)) (verdict r (now (first .exit)) (now (second .exit))) ⌝ }
+{
+    let said = stal_numbers::verdict_of(checker::check_in(text, image, numbers, plan, work));
+    *first = said.first;
+    *second = said.second;
+    said.code
+}
+
+// Start a program on samples with working memory lent: 16, line 0, where it is too short.
+#[no_mangle]
+pub extern "C" fn stal_start_in(
+    text: &[u8],
+    samples: &[u8],
+    budget: usize,
+    image: &mut [u16],
+    numbers: &mut [u32],
+    plan: &mut [u32],
+    rk: &mut [u8],
+    rn: &mut [u32],
+    sk: &mut [u8],
+    sn: &mut [u32],
+    hk: &mut [u8],
+    hn: &mut [u32],
+    depth: &mut u32,
+    used: &mut usize,
+    position: &mut usize,
+    first: &mut usize,
+    kind: &mut u8,
+    number: &mut u32,
+) -> usize
+    ensures { λ r. ⌜ call (reply r (now (first .exit)) (now (kind .exit)) (now (number .exit))) (stateIn (now (rk .exit)) (now (rn .exit)) (now (sk .exit)) (now (sn .exit)) (now (hk .exit)) (now (hn .exit)) (now (depth .exit)) (now (used .exit)) (now (position .exit))) ≡ callOf (startingIn (enough (length (now (image .entry))) (length (now (numbers .entry))) (length (now (plan .entry)))) (now (text .entry)) (now (samples .entry)) budget (stateIn (now (rk .entry)) (now (rn .entry)) (now (sk .entry)) (now (sn .entry)) (now (hk .entry)) (now (hn .entry)) (now (depth .entry)) (now (used .entry)) (now (position .entry)))) ⌝ }
+{
+    let from = Place {
+        depth: *depth,
+        used: *used,
+        position: *position,
+    };
+    let out = execute::lent::start(
+        text,
+        samples,
+        budget,
+        image,
+        numbers,
+        plan,
+        rk,
+        rn,
+        sk,
+        sn,
+        hk,
+        hn,
+        from,
+    );
+    let place = out.place;
+    *depth = place.depth;
+    *used = place.used;
+    *position = place.position;
+    let answer = out.answer;
+    let said = stal_numbers::reply_of(answer);
+    *first = said.first;
+    *kind = said.kind;
+    *number = said.number;
+    said.code
+}
+
+// Continue a program from the lent state with working memory lent: 16, line 0, where it is too short.
+#[no_mangle]
+pub extern "C" fn stal_continue_in(
+    text: &[u8],
+    budget: usize,
+    image: &mut [u16],
+    numbers: &mut [u32],
+    plan: &mut [u32],
+    rk: &mut [u8],
+    rn: &mut [u32],
+    sk: &mut [u8],
+    sn: &mut [u32],
+    hk: &mut [u8],
+    hn: &mut [u32],
+    depth: &mut u32,
+    used: &mut usize,
+    position: &mut usize,
+    first: &mut usize,
+    kind: &mut u8,
+    number: &mut u32,
+) -> usize
+    ensures { λ r. ⌜ call (reply r (now (first .exit)) (now (kind .exit)) (now (number .exit))) (stateIn (now (rk .exit)) (now (rn .exit)) (now (sk .exit)) (now (sn .exit)) (now (hk .exit)) (now (hn .exit)) (now (depth .exit)) (now (used .exit)) (now (position .exit))) ≡ callOf (continuingIn (enough (length (now (image .entry))) (length (now (numbers .entry))) (length (now (plan .entry)))) (now (text .entry)) budget (stateIn (now (rk .entry)) (now (rn .entry)) (now (sk .entry)) (now (sn .entry)) (now (hk .entry)) (now (hn .entry)) (now (depth .entry)) (now (used .entry)) (now (position .entry)))) ⌝ }
+{
+    let from = Place {
+        depth: *depth,
+        used: *used,
+        position: *position,
+    };
+    let out = execute::lent::resume(
+        text,
+        budget,
+        image,
+        numbers,
+        plan,
+        rk,
+        rn,
+        sk,
+        sn,
+        hk,
+        hn,
+        from,
+    );
+    let place = out.place;
+    *depth = place.depth;
+    *used = place.used;
+    *position = place.position;
+    let answer = out.answer;
+    let said = stal_numbers::reply_of(answer);
+    *first = said.first;
+    *kind = said.kind;
+    *number = said.number;
+    said.code
+}

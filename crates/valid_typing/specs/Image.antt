@@ -1,0 +1,55 @@
+-- What pass three reads, in one image: its tables are the image's sections, the rows' as the checker shares them.
+use Prim.Native.Nat.{ℕ}
+use mathlib.Core.List.{List, map}
+use Rattle.syntax.specs.Syntax.{Kind, Operand, Instr}
+use Rattle.types.specs.Types.{Arg}
+use Rattle.tables.specs.Tables.{RowTable, OperandTable, span, letterOf, operandAt, operandsAt, instrAt}
+use Rattle.valid.specs.Program.{Program}
+use Rattle.image.specs.declared.Places.{Places}
+use Rattle.image.specs.declared.Counts.{Counts}
+use Rattle.image.specs.Sections.{blockSection, instrSection, operandSection, argSection, useSection, topSection, sharedSection, slotSection}
+use Rattle.types_rows.specs.Read.{tab}
+use Rattle.valid_scope.specs.Scoped.{Scoped}
+use Rattle.valid_context.specs.premises.Answers.{Holds}
+use Rattle.valid_typing.specs.Typing.{typesIn, Ready}
+use Rattle.valid_typing.specs.operands.Operands.{operandTable}
+use Rattle.valid_typing.specs.declared.BlockLetters.{BlockLetters}
+use Rattle.valid_typing.specs.declared.Listed.{Listed}
+
+-- the table of the rows
+abbrev pub rowTable : Places → List ℕ → RowTable
+rowTable p l = tab (sharedSection p l) (slotSection p l)
+
+-- the types of its n rows, and of the two made ones
+abbrev pub typesAt : Places → List ℕ → ℕ → List Arg
+typesAt p l n = typesIn (sharedSection p l) (slotSection p l) n
+
+abbrev pub ReadyAt : Places → List ℕ → ℕ → Type 0
+ReadyAt p l n = Ready (sharedSection p l) (slotSection p l) n
+
+-- the rows' uses of variables
+abbrev pub ScopedAt : Places → List ℕ → ℕ → Type 0
+ScopedAt p l n = Scoped (rowTable p l) n (useSection p l) (topSection p l)
+
+-- the operands, with the literals
+abbrev pub operandsIn : Places → List ℕ → List ℕ → OperandTable
+operandsIn p l literals = operandTable (operandSection p l) literals (argSection p l)
+
+-- operand v, and operands that are listed
+abbrev pub operandIn : Places → List ℕ → List ℕ → ℕ → Operand
+operandIn p l literals v = operandAt (operandsIn p l literals) v
+
+abbrev pub listedIn : Places → List ℕ → List ℕ → Listed → List Operand
+listedIn p l literals o = operandsAt (operandsIn p l literals) (o .first) (o .count)
+
+-- instruction i
+abbrev pub instrIn : Places → List ℕ → List ℕ → ℕ → Instr
+instrIn p l literals i = instrAt (instrSection p l) (operandsIn p l literals) i
+
+-- P has these rows and blocks
+abbrev pub HoldsAt : Places → List ℕ → Counts → Program → Type 0
+HoldsAt p l c P = Holds (rowTable p l) (c .rows) (blockSection p l) (c .blocks) P
+
+-- the letters of a block
+abbrev pub lettersIn : Places → List ℕ → BlockLetters → List Kind
+lettersIn p l w = map letterOf (span (slotSection p l) (w .start) (w .count))
