@@ -10,7 +10,7 @@ use core::sync::atomic::{AtomicBool, Ordering};
 pub const STACK: usize = 256;
 pub const HEAP: usize = 2048;
 pub const BUDGET: usize = 1_000_000;
-const IMAGE: usize = 259_998;
+const IMAGE: usize = 161_694;
 const LITERALS: usize = 16_400;
 const PLAN: usize = 8_208;
 const WORK: usize = 4_096;
@@ -114,7 +114,7 @@ impl Default for State {
     }
 }
 
-/// Working memory, laid out as stal_memory of stal.h: 627 KB. What it holds changes no answer.
+/// Working memory, laid out as stal_memory of stal.h: 430 KB. What it holds changes no answer.
 #[repr(C)]
 pub struct Memory {
     image: [u16; IMAGE],

@@ -395,7 +395,7 @@ fn take_samples(at: usize, end: usize, b: Bench) -> Bench {
 
 // What check answers with working memory lent, which holds junk.
 fn check_lent(text: &[u8]) -> Answer {
-    let mut image = [42405u16; 259998];
+    let mut image = [42405u16; 161694];
     let mut literals = [2779096485u32; 16400];
     let mut plan = [2779096485u32; 8208];
     let mut work = [42405u16; 4096];
@@ -575,7 +575,7 @@ fn call_in(
     hn: &mut [u32],
     place: Place,
 ) -> Outcome {
-    let mut image = [42405u16; 259998];
+    let mut image = [42405u16; 161694];
     let mut literals = [2779096485u32; 16400];
     let mut plan = [2779096485u32; 8208];
     let budget = field(line, 0);

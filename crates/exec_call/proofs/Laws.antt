@@ -2,12 +2,12 @@
 use Prim.Native.Nat.{ℕ, _-_, _<_, _≤_}
 use native.Mathlib.Omega.{arith}
 use mathlib.Core.Path.{_≡_, refl, ap, sym, _∙_}
-use mathlib.Core.Bool.{Bool, true, false, not, _&&_, true≢false}
+use mathlib.Core.Bool.{Bool, true, false, not, true≢false}
 use mathlib.Core.Option.{Option, none, some}
 use mathlib.Core.List.{List, []}
-use lib.Dec.{eqb, leb, ltb}
+use lib.Dec.{eqb, ltb}
 use lib.ListN.{length, replicate, length-replicate}
-use borrow.Author.Tests.{ne-eqb, lt-leb, le-leb, leb-true, ltb-true, ltb-false}
+use borrow.Author.Tests.{ne-eqb, ltb-true, ltb-false}
 use Rattle.syntax.specs.Fault.{Refusal}
 use Rattle.text.specs.Samples.{samplesOf}
 use Rattle.valid.specs.Program.{Program, programOf}
@@ -23,7 +23,7 @@ use Rattle.image.specs.Layout.{placesOf}
 use Rattle.image.proofs.Laws.{ordered, part-length, small, large, large-shared}
 use Rattle.text_decode.specs.store.Store.{storeIn}
 use Rattle.text_decode.proofs.AnswerLaws.{failed}
-use Rattle.exec_call.specs.Tries.{called, ranOn, Tries, PlanFits, enough}
+use Rattle.exec_call.specs.Tries.{called, ranOn, Tries, PlanFits}
 
 -- ---- attempts
 pub tried : {R : Type 0} (got asked : Outcome) (after before : State) → got ≡ asked → (R → true ≡ true) × Tries true got asked after before
@@ -62,46 +62,16 @@ module _ (text ι os ns β : List ℕ) (r : Ready) (d : ReadyIs text ι os ns β
         → out ≡ called first text samples m σ
     ran first samples z out f = let k = d .startable z in f (k .args) (programOf text) (k .represents) (k .samples) ∙ none-bars first samples z
 
--- ---- working memory that is long enough
-pub short-image : (i n p : ℕ) → i < 259998 → false ≡ enough i n p
-unfolding enough
-short-image i n p h = let e : leb 259998 i ≡ false = lt-leb 259998 i h in rw e refl
-
-pub short-numbers : (i n p : ℕ) → 259998 ≤ i → n < 16400 → false ≡ enough i n p
-unfolding enough
-short-numbers i n p g h =
-    let e : leb 259998 i ≡ true = le-leb 259998 i g in
-    let f : leb 16400 n ≡ false = lt-leb 16400 n h in
-    rw e (rw f refl)
-
-pub by-plan : (i n p : ℕ) → 259998 ≤ i → 16400 ≤ n → leb 8208 p ≡ enough i n p
-unfolding enough
-by-plan i n p g h =
-    let e : leb 259998 i ≡ true = le-leb 259998 i g in
-    let f : leb 16400 n ≡ true = le-leb 16400 n h in
-    rw e (rw f refl)
-
-both : (a b : Bool) → a && b ≡ true → (a ≡ true) × (b ≡ true)
-both true b e = (refl, e)
-both false b e = absurd (true≢false (sym e))
-
-pub enough-is : (i n p : ℕ) → enough i n p ≡ true → (259998 ≤ i) × (16400 ≤ n) × (8208 ≤ p)
-unfolding enough
-enough-is i n p e =
-    let a = both (leb 259998 i && leb 16400 n) (leb 8208 p) e in
-    let b = both (leb 259998 i) (leb 16400 n) (a .0) in
-    (leb-true 259998 i (b .0), leb-true 16400 n (b .1), leb-true 8208 p (a .1))
-
 -- ---- a plan that is as long as the layouts want
-pub plan-small : (i p : ℕ) → 5899 ≤ i → i < 6764 → 776 ≤ p → PlanFits i p
+pub plan-small : (i p : ℕ) → 4423 ≤ i → i < 5162 → 712 ≤ p → PlanFits i p
 plan-small i p g h k = rw (small i g h) (omega arith)
 
-pub plan-large : (i p : ℕ) → 249204 ≤ i → 8208 ≤ p → PlanFits i p
-plan-large i p g k = by (ltb i 259998) refl
+pub plan-large : (i p : ℕ) → 150900 ≤ i → 8208 ≤ p → PlanFits i p
+plan-large i p g k = by (ltb i 161694) refl
   where
-    by : (b : Bool) → ltb i 259998 ≡ b → PlanFits i p
-    by true e = rw (large i g (ltb-true i 259998 e)) (omega arith)
-    by false e = rw (large-shared i (ltb-false i 259998 e)) (omega arith)
+    by : (b : Bool) → ltb i 161694 ≡ b → PlanFits i p
+    by true e = rw (large i g (ltb-true i 161694 e)) (omega arith)
+    by false e = rw (large-shared i (ltb-false i 161694 e)) (omega arith)
 
 -- the instructions' section of an image
 pub instrs-long : (p : Places) (l ns : List ℕ) → p ≡ placesOf (length l) → length (storeIn p l ns .instrs) ≡ placesOf (length l) .parts - placesOf (length l) .instrs

@@ -1,11 +1,10 @@
--- What a call asks for, and what an attempt at it with tables that may be too small leaves: where the text fits them the outcome that is
+-- What a call asks for, and what an attempt at it with an image that may be too small leaves: where the text fits it the outcome that is
 -- asked for, else the lent state as it was.
 use Prim.Native.Nat.{ℕ, _+_, _-_, _≤_}
 use mathlib.Core.Path.{_≡_}
-use mathlib.Core.Bool.{Bool, true, false, _&&_, cond}
+use mathlib.Core.Bool.{Bool, true, false, cond}
 use mathlib.Core.Option.{Option, none}
 use mathlib.Core.List.{List}
-use lib.Dec.{leb}
 use Rattle.valid.specs.Program.{Program}
 use Rattle.exec.specs.Machine.{State}
 use Rattle.exec.specs.Run.{Outcome, refuse, startOn, starting, continueUnless, continuing}
@@ -35,10 +34,6 @@ tablesIn p image numbers r = tables (instrSection p image) (operandSection p ima
 -- a plan of that length holds one row more than an image has instructions
 abbrev pub PlanFits : ℕ → ℕ → Type 0
 PlanFits image plan = placesOf image .parts - placesOf image .instrs + 8 ≤ plan
-
--- an image, numbers and a plan of these lengths are long enough for every text
-unfoldable pub enough : ℕ → ℕ → ℕ → Bool
-enough image numbers plan = leb 259998 image && leb 16400 numbers && leb 8208 plan
 
 -- a start, or to go on, with working memory lent: 16, line 0, where it is too short, before anything else
 abbrev pub calledIn : Bool → Bool → List ℕ → List ℕ → ℕ → State → Outcome

@@ -1,5 +1,5 @@
 // A call, the start of a run or its continuation, with working memory on the stack: `small` for texts that fit its image, `large` for
-// every text (some 600 KB). Promised: the answer and the whole lent state, as `starting` and `continuing` of crate exec have them, of
+// every text (some 400 KB). Promised: the answer and the whole lent state, as `starting` and `continuing` of crate exec have them, of
 // `small` only where the text fits; where it does not, the lent state is as it was. `call` tries the small ones first where the text is
 // short. Nothing is asked. rk and rn are the registers' kinds and numbers, sk and sn the stack's, hk and hn the heap's; `place` says how
 // much is in use.
@@ -32,9 +32,9 @@ fn small(
     if 9223372036854775807 < text.len() {
         return small(first, text, samples, budget, rk, rn, sk, sn, hk, hn, place);
     }
-    let mut image = [0u16; 5899];
-    let mut numbers = [0u32; 128];
-    let mut plan = [0u32; 776];
+    let mut image = [0u16; 4423];
+    let mut numbers = [0u32; 96];
+    let mut plan = [0u32; 712];
     call_in(
         first,
         text,
@@ -70,7 +70,7 @@ fn large(
 ) -> Outcome
     ensures { λ r. ⌜ outcomeIs r (now (rk .exit)) (now (rn .exit)) (now (sk .exit)) (now (sn .exit)) (now (hk .exit)) (now (hn .exit)) ≡ called first (now (text .entry)) (now (samples .entry)) budget (stateOf (now (rk .entry)) (now (rn .entry)) (now (sk .entry)) (now (sn .entry)) (now (hk .entry)) (now (hn .entry)) place) ⌝ }
 {
-    let mut image = [0u16; 249204];
+    let mut image = [0u16; 150900];
     let mut numbers = [0u32; 16400];
     let mut plan = [0u32; 8208];
     let r = call_in(

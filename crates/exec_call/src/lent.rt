@@ -1,30 +1,18 @@
 // A call, the start of a run or its continuation, with working memory from the caller, whatever it holds. Promised, on every input: the
-// answer and the whole lent state, as `starting` and `continuing` of crate exec have them, if the working memory is long enough; else 16,
-// line 0, before anything else is looked at, and the state as it was. What the working memory holds afterwards is free. Nothing is asked.
+// answer and the whole lent state, as `starting` and `continuing` of crate exec have them, if the working memory is long enough, and what
+// it holds afterwards is free; else 16, line 0, before anything else is looked at, and nothing is changed. Nothing is asked.
 // rk and rn are the registers' kinds and numbers, sk and sn the stack's, hk and hn the heap's; `place` says how much is in use.
 ghost use mathlib.Core.Path.{_≡_};
-ghost use mathlib.Core.Bool.{_&&_};
-ghost use lib.Dec.{leb};
+ghost use Prim.Native.Nat.{ℕ};
+ghost use mathlib.Core.List.{List};
 ghost use lib.ListN.{length};
 ghost use Rattle.exec_machine.specs.Step.{stateOf};
 ghost use Rattle.exec_outcome.specs.Answers.{outcomeIs};
-ghost use Rattle.exec_call.specs.Tries.{enough, calledIn};
+ghost use Rattle.image.specs.Enough.{enough, Left};
+ghost use Rattle.exec_call.specs.Tries.{calledIn};
 use crate::call_in;
 use exec_machine::Place;
 use exec_outcome::Outcome;
-
-// Working memory of these lengths is long enough for every text.
-fn is_enough(image: usize, numbers: usize, plan: usize) -> bool
-    ensures { λ r. ⌜ r ≡ enough image numbers plan ⌝ }
-{
-    if image < 259998 {
-        return false;
-    }
-    if numbers < 16400 {
-        return false;
-    }
-    8208 <= plan
-}
 
 // A call with working memory lent. The last line is not reached.
 pub fn call(
@@ -43,9 +31,9 @@ pub fn call(
     hn: &mut [u32],
     place: Place,
 ) -> Outcome
-    ensures { λ r. ⌜ outcomeIs r (now (rk .exit)) (now (rn .exit)) (now (sk .exit)) (now (sn .exit)) (now (hk .exit)) (now (hn .exit)) ≡ calledIn (enough (length (now (image .entry))) (length (now (numbers .entry))) (length (now (plan .entry)))) first (now (text .entry)) (now (samples .entry)) budget (stateOf (now (rk .entry)) (now (rn .entry)) (now (sk .entry)) (now (sn .entry)) (now (hk .entry)) (now (hn .entry)) place) ⌝ }
+    ensures { λ r. ⌜ (outcomeIs r (now (rk .exit)) (now (rn .exit)) (now (sk .exit)) (now (sn .exit)) (now (hk .exit)) (now (hn .exit)) ≡ calledIn (enough (length (now (image .entry))) (length (now (numbers .entry))) (length (now (plan .entry)))) first (now (text .entry)) (now (samples .entry)) budget (stateOf (now (rk .entry)) (now (rn .entry)) (now (sk .entry)) (now (sn .entry)) (now (hk .entry)) (now (hn .entry)) place)) × Left {A = List ℕ × List ℕ × List ℕ} (enough (length (now (image .entry))) (length (now (numbers .entry))) (length (now (plan .entry)))) (now (image .entry), now (numbers .entry), now (plan .entry)) (now (image .exit), now (numbers .exit), now (plan .exit)) ⌝ }
 {
-    if !is_enough(image.len(), numbers.len(), plan.len()) {
+    if !image::lent::is_enough(image.len(), numbers.len(), plan.len()) {
         return exec_outcome::refuse(16, 0, place);
     }
     let r = call_in(

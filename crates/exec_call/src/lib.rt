@@ -27,7 +27,7 @@ use exec_outcome::Outcome;
 use exec_ready::Ready;
 use image::Places;
 
-// Whether a text fits the tables, and the outcome if it does.
+// Whether a text fits the image, and the outcome if it does.
 pub struct Tried {
     pub fits: bool,
     pub outcome: Outcome,

@@ -29,7 +29,7 @@ module _ (R : Memory) (os bs args : List ℕ) where
 
   base-only : (v : ℕ) → wordOf R (operandAt with-args v) ≡ baseWord R (baseOf (cell 4 os v 0) (getD bs v 0))
   unfolding operandAt wordOf operandOf
-  base-only v = go (span args (8 * v) (cell 4 os v 1))
+  base-only v = go (span args (cell 4 os v 3) (cell 4 os v 1))
     where
       go : (ts : List ℕ) → wordOf R (operandOf (baseOf (cell 4 os v 0) (getD bs v 0)) ts (cell 4 os v 2)) ≡ baseWord R (baseOf (cell 4 os v 0) (getD bs v 0))
       go [] = refl

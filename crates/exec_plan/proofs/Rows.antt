@@ -104,7 +104,7 @@ low-base b (a ∷ ts) t h = h
 
 low-at : (ω : OperandTable) (v : ℕ) → LowOperand (operandAt ω v) → LowBase (baseOf (cell 4 (ω .operands) v 0) (getD (ω .numbers) v 0))
 unfolding operandAt
-low-at ω v h = low-base (baseOf (cell 4 (ω .operands) v 0) (getD (ω .numbers) v 0)) (span (ω .args) (8 * v) (cell 4 (ω .operands) v 1)) (cell 4 (ω .operands) v 2) h
+low-at ω v h = low-base (baseOf (cell 4 (ω .operands) v 0) (getD (ω .numbers) v 0)) (span (ω .args) (cell 4 (ω .operands) v 3) (cell 4 (ω .operands) v 1)) (cell 4 (ω .operands) v 2) h
 
 -- that of each of a list
 low-among : (ω : OperandTable) (v n k : ℕ) → LowOperands (operandsAt ω v n) → k < n → LowOperand (operandAt ω (v + k))

@@ -307,7 +307,7 @@ module _ (os ns args : List ℕ) where
   unfolding operandAt
   low-bare v h =
       let b : Base = baseOf (cell 4 os v 0) (getD ns v 0) in
-      low-again b (span [] (8 * v) (cell 4 os v 1)) (cell 4 os v 2) (low-base b (span args (8 * v) (cell 4 os v 1)) (cell 4 os v 2) h)
+      low-again b (span [] (cell 4 os v 3) (cell 4 os v 1)) (cell 4 os v 2) (low-base b (span args (cell 4 os v 3) (cell 4 os v 1)) (cell 4 os v 2) h)
 
   low-all : (v n : ℕ) → LowOperands (operandsAt full v n) → LowOperands (operandsAt bare v n)
   unfolding operandsAt

@@ -14,7 +14,7 @@ use Rattle.exec_machine.specs.Represents.{Represents, Fit}
 use Rattle.text_decode.specs.store.Store.{stored}
 use Rattle.exec_ready.specs.declared.Ready.{Ready}
 
--- the answer where the text does not fit the tables
+-- the answer where the text does not fit the image
 abbrev pub unfitReady : Ready
 unfitReady = record { fits = false; fault = 0; line = 0; blocks = 0; instrs = 0; samples = 0 }
 

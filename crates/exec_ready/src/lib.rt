@@ -1,5 +1,5 @@
 // A text that may be run: loaded (crate load), and with no fault on block 0's line (module entry of valid_scope). Promised: whether the
-// text fits the tables that are lent, which every text does where they have `Space`. Where it fits, what bars the program from starting, as
+// text fits the image that is lent, which every text does where it has `Space`. Where it fits, what bars the program from starting, as
 // `barred` of crate exec has it, or else that the tables represent the program to the machine and fit it (`Fit` of crate exec_machine: few
 // instructions, registers r1 to r8, operands that stand in the tables), and how many samples it wants. Nothing is asked.
 ghost use mathlib.Core.Path.{_≡_};
@@ -22,7 +22,7 @@ ghost use Rattle.load.specs.Loaded.{SpaceIn};
 ghost use Rattle.exec_ready.specs.Ready.{unfitReady, barredAt, ReadyIn};
 use image::Places;
 
-// Whether the text fits the tables; the fault that bars the program and its line, 0 and 0 for none; then how many blocks and instructions
+// Whether the text fits the image; the fault that bars the program and its line, 0 and 0 for none; then how many blocks and instructions
 // there are, and how many samples are wanted.
 pub struct Ready {
     pub fits: bool,

@@ -1,13 +1,16 @@
-// Starting and continuing a run with working memory from the caller, whatever it holds: an image of 259,998 entries, 16,400 numbers and a
+// Starting and continuing a run with working memory from the caller, whatever it holds: an image of 161,694 entries, 16,400 numbers and a
 // plan of 8,208 are enough for every text. Promised, on every input: the answer and the whole lent state, one equation with `starting` and
-// one with `continuing` of crate exec, if the working memory is long enough; else 16, line 0, before anything else is looked at, and the
-// state as it was. What the working memory holds afterwards is free. rk and rn are the registers' kinds and numbers, sk and sn the stack's,
+// one with `continuing` of crate exec, if the working memory is long enough, and what it holds afterwards is free; else 16, line 0, before
+// anything else is looked at, and nothing is changed. rk and rn are the registers' kinds and numbers, sk and sn the stack's,
 // hk and hn the heap's; `place` says how much is in use.
 ghost use mathlib.Core.Path.{_≡_};
+ghost use Prim.Native.Nat.{ℕ};
+ghost use mathlib.Core.List.{List};
 ghost use lib.ListN.{length};
 ghost use Rattle.exec_machine.specs.Step.{stateOf};
 ghost use Rattle.exec_outcome.specs.Answers.{outcomeIs};
-ghost use Rattle.exec_call.specs.Tries.{enough, startingIn, continuingIn};
+ghost use Rattle.image.specs.Enough.{enough, Left};
+ghost use Rattle.exec_call.specs.Tries.{startingIn, continuingIn};
 use exec_machine::Place;
 use exec_outcome::Outcome;
 
@@ -27,7 +30,7 @@ pub fn start(
     hn: &mut [u32],
     place: Place,
 ) -> Outcome
-    ensures { λ r. ⌜ outcomeIs r (now (rk .exit)) (now (rn .exit)) (now (sk .exit)) (now (sn .exit)) (now (hk .exit)) (now (hn .exit)) ≡ startingIn (enough (length (now (image .entry))) (length (now (numbers .entry))) (length (now (plan .entry)))) (now (text .entry)) (now (samples .entry)) budget (stateOf (now (rk .entry)) (now (rn .entry)) (now (sk .entry)) (now (sn .entry)) (now (hk .entry)) (now (hn .entry)) place) ⌝ }
+    ensures { λ r. ⌜ (outcomeIs r (now (rk .exit)) (now (rn .exit)) (now (sk .exit)) (now (sn .exit)) (now (hk .exit)) (now (hn .exit)) ≡ startingIn (enough (length (now (image .entry))) (length (now (numbers .entry))) (length (now (plan .entry)))) (now (text .entry)) (now (samples .entry)) budget (stateOf (now (rk .entry)) (now (rn .entry)) (now (sk .entry)) (now (sn .entry)) (now (hk .entry)) (now (hn .entry)) place)) × Left {A = List ℕ × List ℕ × List ℕ} (enough (length (now (image .entry))) (length (now (numbers .entry))) (length (now (plan .entry)))) (now (image .entry), now (numbers .entry), now (plan .entry)) (now (image .exit), now (numbers .exit), now (plan .exit)) ⌝ }
 {
     exec_call::lent::call(
         true,
@@ -62,7 +65,7 @@ pub fn resume(
     hn: &mut [u32],
     place: Place,
 ) -> Outcome
-    ensures { λ r. ⌜ outcomeIs r (now (rk .exit)) (now (rn .exit)) (now (sk .exit)) (now (sn .exit)) (now (hk .exit)) (now (hn .exit)) ≡ continuingIn (enough (length (now (image .entry))) (length (now (numbers .entry))) (length (now (plan .entry)))) (now (text .entry)) budget (stateOf (now (rk .entry)) (now (rn .entry)) (now (sk .entry)) (now (sn .entry)) (now (hk .entry)) (now (hn .entry)) place) ⌝ }
+    ensures { λ r. ⌜ (outcomeIs r (now (rk .exit)) (now (rn .exit)) (now (sk .exit)) (now (sn .exit)) (now (hk .exit)) (now (hn .exit)) ≡ continuingIn (enough (length (now (image .entry))) (length (now (numbers .entry))) (length (now (plan .entry)))) (now (text .entry)) budget (stateOf (now (rk .entry)) (now (rn .entry)) (now (sk .entry)) (now (sn .entry)) (now (hk .entry)) (now (hn .entry)) place)) × Left {A = List ℕ × List ℕ × List ℕ} (enough (length (now (image .entry))) (length (now (numbers .entry))) (length (now (plan .entry)))) (now (image .entry), now (numbers .entry), now (plan .entry)) (now (image .exit), now (numbers .exit), now (plan .exit)) ⌝ }
 {
     exec_call::lent::call(
         false,

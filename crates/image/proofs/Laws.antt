@@ -122,53 +122,53 @@ returned a b l y ab hb ey =
     record { here = back a b l y ha (ey ∙ part-length a b l hb); outside = lent a b l y ab hb ey }
 
 -- ---- the layouts
-by-length : (n : ℕ) (x y z w : Bool) → ltb n 5899 ≡ x → ltb n 6764 ≡ y → ltb n 249204 ≡ z → ltb n 259998 ≡ w → Ordered (cond x noPlaces (cond y smallPlaces (cond z smallSharedPlaces (cond w largePlaces largeSharedPlaces)))) n
+by-length : (n : ℕ) (x y z w : Bool) → ltb n 4423 ≡ x → ltb n 5162 ≡ y → ltb n 150900 ≡ z → ltb n 161694 ≡ w → Ordered (cond x noPlaces (cond y smallPlaces (cond z smallSharedPlaces (cond w largePlaces largeSharedPlaces)))) n
 by-length n true y z w ex ey ez ew = record { rows = omega arith; blocks = omega arith; instrs = omega arith; parts = omega arith; operands = omega arith; args = omega arith; uses = omega arith; tops = omega arith; shared = omega arith; slots = omega arith; fits = omega arith }
-by-length n false true z w ex ey ez ew = record { rows = omega arith; blocks = omega arith; instrs = omega arith; parts = omega arith; operands = omega arith; args = omega arith; uses = omega arith; tops = omega arith; shared = omega arith; slots = omega arith; fits = ltb-false n 5899 ex }
-by-length n false false true w ex ey ez ew = record { rows = omega arith; blocks = omega arith; instrs = omega arith; parts = omega arith; operands = omega arith; args = omega arith; uses = omega arith; tops = omega arith; shared = omega arith; slots = omega arith; fits = ltb-false n 6764 ey }
-by-length n false false false true ex ey ez ew = record { rows = omega arith; blocks = omega arith; instrs = omega arith; parts = omega arith; operands = omega arith; args = omega arith; uses = omega arith; tops = omega arith; shared = omega arith; slots = omega arith; fits = ltb-false n 249204 ez }
-by-length n false false false false ex ey ez ew = record { rows = omega arith; blocks = omega arith; instrs = omega arith; parts = omega arith; operands = omega arith; args = omega arith; uses = omega arith; tops = omega arith; shared = omega arith; slots = omega arith; fits = ltb-false n 259998 ew }
+by-length n false true z w ex ey ez ew = record { rows = omega arith; blocks = omega arith; instrs = omega arith; parts = omega arith; operands = omega arith; args = omega arith; uses = omega arith; tops = omega arith; shared = omega arith; slots = omega arith; fits = ltb-false n 4423 ex }
+by-length n false false true w ex ey ez ew = record { rows = omega arith; blocks = omega arith; instrs = omega arith; parts = omega arith; operands = omega arith; args = omega arith; uses = omega arith; tops = omega arith; shared = omega arith; slots = omega arith; fits = ltb-false n 5162 ey }
+by-length n false false false true ex ey ez ew = record { rows = omega arith; blocks = omega arith; instrs = omega arith; parts = omega arith; operands = omega arith; args = omega arith; uses = omega arith; tops = omega arith; shared = omega arith; slots = omega arith; fits = ltb-false n 150900 ez }
+by-length n false false false false ex ey ez ew = record { rows = omega arith; blocks = omega arith; instrs = omega arith; parts = omega arith; operands = omega arith; args = omega arith; uses = omega arith; tops = omega arith; shared = omega arith; slots = omega arith; fits = ltb-false n 161694 ew }
 
 -- the sections stand one behind the other
 pub ordered : (n : ℕ) → Ordered (placesOf n) n
 unfolding placesOf
-ordered n = by-length n (ltb n 5899) (ltb n 6764) (ltb n 249204) (ltb n 259998) refl refl refl refl
+ordered n = by-length n (ltb n 4423) (ltb n 5162) (ltb n 150900) (ltb n 161694) refl refl refl refl
 
-pub short : (n : ℕ) → n < 5899 → placesOf n ≡ noPlaces
+pub short : (n : ℕ) → n < 4423 → placesOf n ≡ noPlaces
 unfolding placesOf
 short n h =
-    let e0 : ltb n 5899 ≡ true = lt-ltb n 5899 h in
+    let e0 : ltb n 4423 ≡ true = lt-ltb n 4423 h in
     rw e0 refl
 
-pub small : (n : ℕ) → 5899 ≤ n → n < 6764 → placesOf n ≡ smallPlaces
+pub small : (n : ℕ) → 4423 ≤ n → n < 5162 → placesOf n ≡ smallPlaces
 unfolding placesOf
 small n g h =
-    let e0 : ltb n 5899 ≡ false = le-ltb n 5899 (omega arith) in
-    let e1 : ltb n 6764 ≡ true = lt-ltb n 6764 h in
+    let e0 : ltb n 4423 ≡ false = le-ltb n 4423 (omega arith) in
+    let e1 : ltb n 5162 ≡ true = lt-ltb n 5162 h in
     rw e0 (rw e1 refl)
 
-pub small-shared : (n : ℕ) → 6764 ≤ n → n < 249204 → placesOf n ≡ smallSharedPlaces
+pub small-shared : (n : ℕ) → 5162 ≤ n → n < 150900 → placesOf n ≡ smallSharedPlaces
 unfolding placesOf
 small-shared n g h =
-    let e0 : ltb n 5899 ≡ false = le-ltb n 5899 (omega arith) in
-    let e1 : ltb n 6764 ≡ false = le-ltb n 6764 (omega arith) in
-    let e2 : ltb n 249204 ≡ true = lt-ltb n 249204 h in
+    let e0 : ltb n 4423 ≡ false = le-ltb n 4423 (omega arith) in
+    let e1 : ltb n 5162 ≡ false = le-ltb n 5162 (omega arith) in
+    let e2 : ltb n 150900 ≡ true = lt-ltb n 150900 h in
     rw e0 (rw e1 (rw e2 refl))
 
-pub large : (n : ℕ) → 249204 ≤ n → n < 259998 → placesOf n ≡ largePlaces
+pub large : (n : ℕ) → 150900 ≤ n → n < 161694 → placesOf n ≡ largePlaces
 unfolding placesOf
 large n g h =
-    let e0 : ltb n 5899 ≡ false = le-ltb n 5899 (omega arith) in
-    let e1 : ltb n 6764 ≡ false = le-ltb n 6764 (omega arith) in
-    let e2 : ltb n 249204 ≡ false = le-ltb n 249204 (omega arith) in
-    let e3 : ltb n 259998 ≡ true = lt-ltb n 259998 h in
+    let e0 : ltb n 4423 ≡ false = le-ltb n 4423 (omega arith) in
+    let e1 : ltb n 5162 ≡ false = le-ltb n 5162 (omega arith) in
+    let e2 : ltb n 150900 ≡ false = le-ltb n 150900 (omega arith) in
+    let e3 : ltb n 161694 ≡ true = lt-ltb n 161694 h in
     rw e0 (rw e1 (rw e2 (rw e3 refl)))
 
-pub large-shared : (n : ℕ) → 259998 ≤ n → placesOf n ≡ largeSharedPlaces
+pub large-shared : (n : ℕ) → 161694 ≤ n → placesOf n ≡ largeSharedPlaces
 unfolding placesOf
 large-shared n g =
-    let e0 : ltb n 5899 ≡ false = le-ltb n 5899 (omega arith) in
-    let e1 : ltb n 6764 ≡ false = le-ltb n 6764 (omega arith) in
-    let e2 : ltb n 249204 ≡ false = le-ltb n 249204 (omega arith) in
-    let e3 : ltb n 259998 ≡ false = le-ltb n 259998 (omega arith) in
+    let e0 : ltb n 4423 ≡ false = le-ltb n 4423 (omega arith) in
+    let e1 : ltb n 5162 ≡ false = le-ltb n 5162 (omega arith) in
+    let e2 : ltb n 150900 ≡ false = le-ltb n 150900 (omega arith) in
+    let e3 : ltb n 161694 ≡ false = le-ltb n 161694 (omega arith) in
     rw e0 (rw e1 (rw e2 (rw e3 refl)))

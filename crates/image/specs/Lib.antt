@@ -1,2 +1,3 @@
 pub mod Sections
 pub mod Layout
+pub mod Enough

@@ -1,7 +1,9 @@
 // The decoded program as one image: its tables are sections of one lent slice, at places that its length decides. Promised: the places,
 // which stand one behind the other within the slice (proofs/Laws.antt: `ordered`). Nothing is asked, and nothing is set beforehand. There
 // are five layouts: for a slice that is too short to hold a text, no room at all; for small texts; and for every text; the last two with
-// the rows once more, as the checker shares them, or without.
+// the rows once more, as the checker shares them, or without. Module lent says how long is long enough for every text.
+pub mod lent;
+
 ghost use mathlib.Core.Path.{_≡_};
 ghost use Rattle.image.specs.Layout.{placesOf, noPlaces, smallPlaces, smallSharedPlaces, largePlaces, largeSharedPlaces};
 
@@ -50,16 +52,16 @@ fn small_places() -> Places
 {
     Places {
         rows: 0,
-        blocks: 168,
-        instrs: 298,
-        parts: 1066,
-        operands: 1763,
-        args: 2275,
-        uses: 3299,
-        tops: 5859,
-        shared: 5899,
-        slots: 5899,
-        end: 5899,
+        blocks: 144,
+        instrs: 274,
+        parts: 978,
+        operands: 1573,
+        args: 1957,
+        uses: 2213,
+        tops: 4389,
+        shared: 4423,
+        slots: 4423,
+        end: 4423,
     }
 }
 
@@ -68,16 +70,16 @@ fn small_shared_places() -> Places
 {
     Places {
         rows: 0,
-        blocks: 168,
-        instrs: 298,
-        parts: 1066,
-        operands: 1763,
-        args: 2275,
-        uses: 3299,
-        tops: 5859,
-        shared: 5899,
-        slots: 6067,
-        end: 6764,
+        blocks: 144,
+        instrs: 274,
+        parts: 978,
+        operands: 1573,
+        args: 1957,
+        uses: 2213,
+        tops: 4389,
+        shared: 4423,
+        slots: 4567,
+        end: 5162,
     }
 }
 
@@ -91,11 +93,11 @@ fn large_places() -> Places
         parts: 10386,
         operands: 19124,
         args: 84724,
-        uses: 215924,
-        tops: 248692,
-        shared: 249204,
-        slots: 249204,
-        end: 249204,
+        uses: 117620,
+        tops: 150388,
+        shared: 150900,
+        slots: 150900,
+        end: 150900,
     }
 }
 
@@ -109,11 +111,11 @@ fn large_shared_places() -> Places
         parts: 10386,
         operands: 19124,
         args: 84724,
-        uses: 215924,
-        tops: 248692,
-        shared: 249204,
-        slots: 251260,
-        end: 259998,
+        uses: 117620,
+        tops: 150388,
+        shared: 150900,
+        slots: 152956,
+        end: 161694,
     }
 }
 
@@ -121,16 +123,16 @@ fn large_shared_places() -> Places
 pub fn lay_out(n: usize) -> Places
     ensures { λ r. ⌜ r ≡ placesOf n ⌝ }
 {
-    if n < 5899 {
+    if n < 4423 {
         return no_places();
     }
-    if n < 6764 {
+    if n < 5162 {
         return small_places();
     }
-    if n < 249204 {
+    if n < 150900 {
         return small_shared_places();
     }
-    if n < 259998 {
+    if n < 161694 {
         return large_places();
     }
     large_shared_places()

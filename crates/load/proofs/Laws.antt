@@ -38,14 +38,6 @@ use Rattle.load.specs.declared.Loaded.{Loaded}
 use Rattle.load.specs.Loaded.{Space, SpaceFor, SpaceIn, faulty, refusalOf, IsLoaded, LoadIs}
 use Rattle.load.proofs.Codes.{CodeOk, all-codes, holds-is}
 
--- ---- room for every text is room for this one
-pub space-for : (σ : Store) (n k u t : ℕ) → k ≡ length (σ .rows) → n ≤ 512 → Space σ u t → SpaceFor n k u t
-space-for σ n k u t e h s = record {
-  rows = omega (arith, s .rows);
-  uses = omega (arith, s .uses);
-  tops = omega (arith, s .tops);
-}
-
 -- a fault that is named
 named : (n line : ℕ) → (n ≡ 0 → ⊥) → refusalOf (faulty n line) ≡ some (record { number = n; line = line; items = [] })
 named n line h = let e : eqb n 0 ≡ false = ne-eqb n 0 h in rw e refl
@@ -169,14 +161,6 @@ module _ (text : List ℕ) (σ : Store) (r : Read) (d : decode.Decoded text σ r
         };
       })
 
--- the room is kept
-pub space-still : (n k u t k′ u′ t′ : ℕ) → k′ ≡ k → u′ ≡ u → t′ ≡ t → SpaceFor n k u t → SpaceFor n k′ u′ t′
-space-still n k u t k′ u′ t′ a b c s = record {
-  rows = omega (arith, s .rows);
-  uses = omega (arith, s .uses);
-  tops = omega (arith, s .tops);
-}
-
 -- ---- what `pass_two` asks
 pub few-ok : (text : List ℕ) (σ : Store) (r : Read) → decode.Decoded text σ r → lowestLine 0 (passOne text) ≡ none → (r .rows ≤ 65535) × (r .blocks ≤ 65535) × (r .instrs ≤ 65535) × Rising (σ .blocks) (r .blocks)
 few-ok text σ r d o =
@@ -207,7 +191,7 @@ space-at p l ns n o h s = record {
 }
 
 -- an image for every text has room for every text
-by-places : (p : Places) (l ns : List ℕ) → Ordered p (length l) → 4 * 514 ≤ p .blocks - p .rows → 2 * 65 ≤ p .instrs - p .blocks → 8 * 1025 ≤ p .parts - p .instrs → 17 * 513 ≤ p .operands - p .parts → 4 * 16400 ≤ p .args - p .operands → 8 * 16400 ≤ p .uses - p .args → 64 * 512 ≤ p .tops - p .uses → 512 ≤ p .shared - p .tops → 16400 ≤ length ns → Space (storeIn p l ns) (length (useSection p l)) (length (topSection p l))
+by-places : (p : Places) (l ns : List ℕ) → Ordered p (length l) → 4 * 514 ≤ p .blocks - p .rows → 2 * 65 ≤ p .instrs - p .blocks → 8 * 1025 ≤ p .parts - p .instrs → 17 * 513 ≤ p .operands - p .parts → 4 * 16400 ≤ p .args - p .operands → 32896 ≤ p .uses - p .args → 64 * 512 ≤ p .tops - p .uses → 512 ≤ p .shared - p .tops → 16400 ≤ length ns → Space (storeIn p l ns) (length (useSection p l)) (length (topSection p l))
 by-places p l ns o rows blocks instrs parts operands args uses tops numbers =
     let w = lengths p l o in
     record {
@@ -225,23 +209,17 @@ by-places p l ns o rows blocks instrs parts operands args uses tops numbers =
       tops = omega (arith, part-length (p .tops) (p .shared) l (omega arith));
     }
 
-pub enough : (l ns : List ℕ) → 249204 ≤ length l → 16400 ≤ length ns → SpaceIn l ns
-enough l ns h n = by (ltb (length l) 259998) refl
+pub enough : (l ns : List ℕ) → 150900 ≤ length l → 16400 ≤ length ns → SpaceIn l ns
+enough l ns h n = by (ltb (length l) 161694) refl
   where
-    by : (b : Bool) → ltb (length l) 259998 ≡ b → SpaceIn l ns
+    by : (b : Bool) → ltb (length l) 161694 ≡ b → SpaceIn l ns
     by true e =
-        let q : placesOf (length l) ≡ largePlaces = large (length l) h (ltb-true (length l) 259998 e) in
+        let q : placesOf (length l) ≡ largePlaces = large (length l) h (ltb-true (length l) 161694 e) in
         rw q (by-places largePlaces l ns (subst (λ (p : Places). Ordered p (length l)) q (ordered (length l))) (omega arith) (omega arith) (omega arith) (omega arith) (omega arith) (omega arith) (omega arith) (omega arith) n)
     by false e =
-        let q : placesOf (length l) ≡ largeSharedPlaces = large-shared (length l) (ltb-false (length l) 259998 e) in
+        let q : placesOf (length l) ≡ largeSharedPlaces = large-shared (length l) (ltb-false (length l) 161694 e) in
         rw q (by-places largeSharedPlaces l ns (subst (λ (p : Places). Ordered p (length l)) q (ordered (length l))) (omega arith) (omega arith) (omega arith) (omega arith) (omega arith) (omega arith) (omega arith) (omega arith) n)
 
 -- ---- slices set to zero: their lengths
 pub zeros-long : (n m : ℕ) → m ≤ n → m ≤ length (replicate {A = ℕ} n 0)
 zeros-long n m h = let e = length-replicate {A = ℕ} n 0 in omega arith
-
-pub zeros-above : (n m k : ℕ) → n + k ≤ m → length (replicate {A = ℕ} n 0) + k ≤ length (replicate {A = ℕ} m 0)
-zeros-above n m k h =
-    let a = length-replicate {A = ℕ} n 0 in
-    let b = length-replicate {A = ℕ} m 0 in
-    omega arith

@@ -46,7 +46,7 @@ topsIn image = topSection (placesOf (length image)) image
 abbrev pub SpaceIn : List ℕ → List ℕ → Type 0
 SpaceIn image numbers = Space (stored image numbers) (length (usesIn image)) (length (topsIn image))
 
--- the answer where the text does not fit the tables
+-- the answer where the text does not fit the image
 abbrev pub unfitLoad : Loaded
 unfitLoad = record { fits = false; fault = 0; line = 0; rows = 0; blocks = 0; instrs = 0 }
 

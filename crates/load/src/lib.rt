@@ -1,5 +1,5 @@
-// A text that may be run or typed: decoded into tables (crate text_decode), passed by passes one and two (crate types_pass_two), and
-// prepared for pass three (module prepare). Promised: whether the text fits the tables that are lent, which every text does where they have
+// A text that may be run or typed: decoded into an image (crate text_decode), passed by passes one and two (crate types_pass_two), and
+// prepared for pass three (module prepare). Promised: whether the text fits the image that is lent, which every text does where it has
 // `Space`. Where it fits, the fault of passes one and two, as crate valid has them, or else that the tables stand for the program of the
 // text, with what these passes have seen of it. Nothing is asked.
 pub mod prepare;
@@ -21,7 +21,7 @@ ghost use Rattle.text_decode.specs.store.Store.{rowTable, operandsOf, storeIn, 
 ghost use Rattle.text_decode.specs.Decoded.{Fitting};
 ghost use Rattle.load.specs.Loaded.{SpaceFor, SpaceIn, usesIn, topsIn, unfitLoad, faulty, LoadIs};
 
-// Whether the text fits the tables; the fault of passes one and two and its line, 0 and 0 for none; then how many rows, blocks and
+// Whether the text fits the image; the fault of passes one and two and its line, 0 and 0 for none; then how many rows, blocks and
 // instructions there are.
 pub struct Loaded {
     pub fits: bool,

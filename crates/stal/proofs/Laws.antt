@@ -16,12 +16,12 @@ use Rattle.exec_outcome.specs.declared.Outcome.{Outcome}
 use Rattle.exec_outcome.specs.Answers.{answerIs, outcomeIs}
 use Rattle.stal_numbers.specs.declared.Verdict.{Verdict}
 use Rattle.stal_numbers.specs.declared.Reply.{Reply}
-use Rattle.stal_numbers.specs.Numbers.{verdict, verdictBy, verdictOf, Last, Tells, TellsIn, replyOf, call, callOf}
+use Rattle.stal_numbers.specs.Numbers.{verdict, verdictBy, verdictOf, Last, Tells, TellsIn, replyOf, call, callOf, stateIn}
 
 -- ---- start and continue
-pub called : (o : Outcome) (r : Reply) (rk rn sk sn hk hn : List ℕ) (e : exec.Outcome) → outcomeIs o rk rn sk sn hk hn ≡ e → r ≡ replyOf (answerIs (o .answer)) → call r (stateOf rk rn sk sn hk hn (o .place)) ≡ callOf e
+pub called : (o : Outcome) (r : Reply) (rk rn sk sn hk hn : List ℕ) (d u p : ℕ) (e : exec.Outcome) → outcomeIs o rk rn sk sn hk hn ≡ e → (d ≡ o .place .depth) × (u ≡ o .place .used) × (p ≡ o .place .position) → r ≡ replyOf (answerIs (o .answer)) → call r (stateIn rk rn sk sn hk hn d u p) ≡ callOf e
 unfolding callOf
-called o r rk rn sk sn hk hn e h q = ap (λ (x : Reply). call x (stateOf rk rn sk sn hk hn (o .place))) q ∙ ap callOf h
+called o r rk rn sk sn hk hn d u p e h w q = rw (w .0, w .1, w .2) (ap (λ (x : Reply). call x (stateOf rk rn sk sn hk hn (o .place))) q ∙ ap callOf h)
 
 -- ---- check
 by-said : (a : Answer) → verdictBy a ≡ verdictOf (saidBy a) (verdictBy a .second)

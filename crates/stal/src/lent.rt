@@ -1,11 +1,14 @@
 // Check, start and continue under C names, with working memory from the caller, whatever it holds: image, numbers and plan, of a check work
-// too. Promised, on every input: the numbers and the whole lent state of crate stal's other three, if the working memory is long enough; else
-// 16, line 0, before anything else is looked at, and the state as it was. What it holds afterwards is free. Nothing is asked.
+// too. Promised, on every input: the numbers and the whole lent state of crate stal's other three, if the working memory is long enough,
+// and what it holds afterwards is free; else 16, line 0, before anything else is looked at, and state and memory as they were. Nothing is
+// asked.
 use exec_machine::Place;
 ghost use mathlib.Core.Path.{_≡_};
+ghost use Prim.Native.Nat.{ℕ};
+ghost use mathlib.Core.List.{List};
 ghost use lib.ListN.{length};
-ghost use Rattle.valid_check.specs.Lent.{enough as enoughForCheck};
-ghost use Rattle.exec_call.specs.Tries.{enough, startingIn, continuingIn};
+ghost use Rattle.image.specs.Enough.{enough, enoughToCheck, Left};
+ghost use Rattle.exec_call.specs.Tries.{startingIn, continuingIn};
 ghost use Rattle.stal_numbers.specs.Numbers.{verdict, TellsIn, reply, call, callOf, stateIn};
 
 // Check with working memory lent: 16, line 0, where it is too short.
@@ -19,12 +22,10 @@ pub extern "C" fn stal_check_in(
     first: &mut usize,
     second: &mut usize,
 ) -> usize
-    ensures { λ r. ⌜ TellsIn (enoughForCheck (length (now (image .entry))) (length (now (numbers .entry))) (length (now (plan .entry))) (length (now (work .entry)))) (now (text .entry)) (verdict r (now (first .exit)) (now (second .exit))) ⌝ }
+    ensures { λ r. ⌜ TellsIn (enoughToCheck (length (now (image .entry))) (length (now (numbers .entry))) (length (now (plan .entry))) (length (now (work .entry)))) (now (text .entry)) (verdict r (now (first .exit)) (now (second .exit))) × Left {A = List ℕ × List ℕ × List ℕ × List ℕ} (enoughToCheck (length (now (image .entry))) (length (now (numbers .entry))) (length (now (plan .entry))) (length (now (work .entry)))) (now (image .entry), now (numbers .entry), now (plan .entry), now (work .entry)) (now (image .exit), now (numbers .exit), now (plan .exit), now (work .exit)) ⌝ }
 {
-    let said = stal_numbers::verdict_of(checker::check_in(text, image, numbers, plan, work));
-    *first = said.first;
-    *second = said.second;
-    said.code
+    let a = checker::check_in(text, image, numbers, plan, work);
+    stal_numbers::put_verdict(a, first, second)
 }
 
 // Start a program on samples with working memory lent: 16, line 0, where it is too short.
@@ -49,7 +50,7 @@ pub extern "C" fn stal_start_in(
     kind: &mut u8,
     number: &mut u32,
 ) -> usize
-    ensures { λ r. ⌜ call (reply r (now (first .exit)) (now (kind .exit)) (now (number .exit))) (stateIn (now (rk .exit)) (now (rn .exit)) (now (sk .exit)) (now (sn .exit)) (now (hk .exit)) (now (hn .exit)) (now (depth .exit)) (now (used .exit)) (now (position .exit))) ≡ callOf (startingIn (enough (length (now (image .entry))) (length (now (numbers .entry))) (length (now (plan .entry)))) (now (text .entry)) (now (samples .entry)) budget (stateIn (now (rk .entry)) (now (rn .entry)) (now (sk .entry)) (now (sn .entry)) (now (hk .entry)) (now (hn .entry)) (now (depth .entry)) (now (used .entry)) (now (position .entry)))) ⌝ }
+    ensures { λ r. ⌜ (call (reply r (now (first .exit)) (now (kind .exit)) (now (number .exit))) (stateIn (now (rk .exit)) (now (rn .exit)) (now (sk .exit)) (now (sn .exit)) (now (hk .exit)) (now (hn .exit)) (now (depth .exit)) (now (used .exit)) (now (position .exit))) ≡ callOf (startingIn (enough (length (now (image .entry))) (length (now (numbers .entry))) (length (now (plan .entry)))) (now (text .entry)) (now (samples .entry)) budget (stateIn (now (rk .entry)) (now (rn .entry)) (now (sk .entry)) (now (sn .entry)) (now (hk .entry)) (now (hn .entry)) (now (depth .entry)) (now (used .entry)) (now (position .entry))))) × Left {A = List ℕ × List ℕ × List ℕ} (enough (length (now (image .entry))) (length (now (numbers .entry))) (length (now (plan .entry)))) (now (image .entry), now (numbers .entry), now (plan .entry)) (now (image .exit), now (numbers .exit), now (plan .exit)) ⌝ }
 {
     let from = Place {
         depth: *depth,
@@ -71,16 +72,9 @@ pub extern "C" fn stal_start_in(
         hn,
         from,
     );
-    let place = out.place;
-    *depth = place.depth;
-    *used = place.used;
-    *position = place.position;
+    stal_numbers::put_place(out.place, depth, used, position);
     let answer = out.answer;
-    let said = stal_numbers::reply_of(answer);
-    *first = said.first;
-    *kind = said.kind;
-    *number = said.number;
-    said.code
+    stal_numbers::put_reply(answer, first, kind, number)
 }
 
 // Continue a program from the lent state with working memory lent: 16, line 0, where it is too short.
@@ -104,7 +98,7 @@ pub extern "C" fn stal_continue_in(
     kind: &mut u8,
     number: &mut u32,
 ) -> usize
-    ensures { λ r. ⌜ call (reply r (now (first .exit)) (now (kind .exit)) (now (number .exit))) (stateIn (now (rk .exit)) (now (rn .exit)) (now (sk .exit)) (now (sn .exit)) (now (hk .exit)) (now (hn .exit)) (now (depth .exit)) (now (used .exit)) (now (position .exit))) ≡ callOf (continuingIn (enough (length (now (image .entry))) (length (now (numbers .entry))) (length (now (plan .entry)))) (now (text .entry)) budget (stateIn (now (rk .entry)) (now (rn .entry)) (now (sk .entry)) (now (sn .entry)) (now (hk .entry)) (now (hn .entry)) (now (depth .entry)) (now (used .entry)) (now (position .entry)))) ⌝ }
+    ensures { λ r. ⌜ (call (reply r (now (first .exit)) (now (kind .exit)) (now (number .exit))) (stateIn (now (rk .exit)) (now (rn .exit)) (now (sk .exit)) (now (sn .exit)) (now (hk .exit)) (now (hn .exit)) (now (depth .exit)) (now (used .exit)) (now (position .exit))) ≡ callOf (continuingIn (enough (length (now (image .entry))) (length (now (numbers .entry))) (length (now (plan .entry)))) (now (text .entry)) budget (stateIn (now (rk .entry)) (now (rn .entry)) (now (sk .entry)) (now (sn .entry)) (now (hk .entry)) (now (hn .entry)) (now (depth .entry)) (now (used .entry)) (now (position .entry))))) × Left {A = List ℕ × List ℕ × List ℕ} (enough (length (now (image .entry))) (length (now (numbers .entry))) (length (now (plan .entry)))) (now (image .entry), now (numbers .entry), now (plan .entry)) (now (image .exit), now (numbers .exit), now (plan .exit)) ⌝ }
 {
     let from = Place {
         depth: *depth,
@@ -125,14 +119,7 @@ pub extern "C" fn stal_continue_in(
         hn,
         from,
     );
-    let place = out.place;
-    *depth = place.depth;
-    *used = place.used;
-    *position = place.position;
+    stal_numbers::put_place(out.place, depth, used, position);
     let answer = out.answer;
-    let said = stal_numbers::reply_of(answer);
-    *first = said.first;
-    *kind = said.kind;
-    *number = said.number;
-    said.code
+    stal_numbers::put_reply(answer, first, kind, number)
 }

@@ -14,10 +14,7 @@ ghost use Rattle.stal_numbers.specs.Numbers.{verdict, Tells, reply, call, callO
 pub extern "C" fn stal_check(text: &[u8], first: &mut usize, second: &mut usize) -> usize
     ensures { λ r. ⌜ Tells (now (text .entry)) (verdict r (now (first .exit)) (now (second .exit))) ⌝ }
 {
-    let said = stal_numbers::verdict_of(checker::check(text));
-    *first = said.first;
-    *second = said.second;
-    said.code
+    stal_numbers::put_verdict(checker::check(text), first, second)
 }
 
 // Start a program on samples, with at most `budget` steps.
@@ -47,16 +44,9 @@ pub extern "C" fn stal_start(
         position: *position,
     };
     let out = execute::start(text, samples, budget, rk, rn, sk, sn, hk, hn, from);
-    let place = out.place;
-    *depth = place.depth;
-    *used = place.used;
-    *position = place.position;
+    stal_numbers::put_place(out.place, depth, used, position);
     let answer = out.answer;
-    let said = stal_numbers::reply_of(answer);
-    *first = said.first;
-    *kind = said.kind;
-    *number = said.number;
-    said.code
+    stal_numbers::put_reply(answer, first, kind, number)
 }
 
 // Continue a program from the lent state, with at most `budget` steps.
@@ -85,14 +75,7 @@ pub extern "C" fn stal_continue(
         position: *position,
     };
     let out = execute::resume(text, budget, rk, rn, sk, sn, hk, hn, from);
-    let place = out.place;
-    *depth = place.depth;
-    *used = place.used;
-    *position = place.position;
+    stal_numbers::put_place(out.place, depth, used, position);
     let answer = out.answer;
-    let said = stal_numbers::reply_of(answer);
-    *first = said.first;
-    *kind = said.kind;
-    *number = said.number;
-    said.code
+    stal_numbers::put_reply(answer, first, kind, number)
 }

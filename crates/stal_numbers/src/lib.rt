@@ -1,9 +1,10 @@
 // The answers of check, start and continue as numbers, for crate stal: a code, and the values that document 01 gives for it.
-// Promised: the numbers that specs/Numbers.antt has for each case. Nothing is asked.
+// Promised: the numbers that specs/Numbers.antt has for each case, also where they are put at places of the caller's. Nothing is asked.
+use exec_machine::Place;
 use exec_outcome::Answer;
 ghost use mathlib.Core.Path.{_≡_};
 ghost use Rattle.exec_outcome.specs.Answers.{answerIs};
-ghost use Rattle.stal_numbers.specs.Numbers.{verdictBy, reply, replyOf};
+ghost use Rattle.stal_numbers.specs.Numbers.{verdict, verdictBy, reply, replyOf};
 
 // Check's answer in numbers: 0, blocks and instructions, or a fault's number, its line and an item.
 pub struct Verdict {
@@ -71,4 +72,35 @@ pub fn verdict_of(a: valid_verdict::Answer) -> Verdict
             second: item,
         },
     }
+}
+
+// ---- at places of the caller's
+// Check's answer: its code is returned.
+pub fn put_verdict(a: valid_verdict::Answer, first: &mut usize, second: &mut usize) -> usize
+    ensures { λ r. ⌜ verdict r (now (first .exit)) (now (second .exit)) ≡ verdictBy a ⌝ }
+{
+    let v = verdict_of(a);
+    *first = v.first;
+    *second = v.second;
+    v.code
+}
+
+// The answer to start or continue: its code is returned.
+pub fn put_reply(a: Answer, first: &mut usize, kind: &mut u8, number: &mut u32) -> usize
+    ensures { λ r. ⌜ reply r (now (first .exit)) (now (kind .exit)) (now (number .exit)) ≡ replyOf (answerIs a) ⌝ }
+{
+    let r = reply_of(a);
+    *first = r.first;
+    *kind = r.kind;
+    *number = r.number;
+    r.code
+}
+
+// Where the run is.
+pub fn put_place(at: Place, depth: &mut u32, used: &mut usize, position: &mut usize)
+    ensures { λ _. ⌜ (now (depth .exit) ≡ at .depth) × (now (used .exit) ≡ at .used) × (now (position .exit) ≡ at .position) ⌝ }
+{
+    *depth = at.depth;
+    *used = at.used;
+    *position = at.position;
 }

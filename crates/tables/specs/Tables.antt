@@ -72,7 +72,7 @@ rowsIn τ n = rowsFrom τ 0 n
 
 -- ---- operands
 -- An operand has four entries: its base's kind (0 register, 1 literal, 2 label), the count of its arguments (none: it is plain), the
--- resulting row, and one that is not used; its base's number stands in `numbers`, its arguments in `args` from 8 v on.
+-- resulting row, and where its arguments start in `args`; its base's number stands in `numbers`.
 pub record OperandTable : Type 0 where
   pub operands : List ℕ
   pub numbers : List ℕ
@@ -92,7 +92,7 @@ operandOf b (a ∷ ts) t = inst b (a ∷ ts) t
 -- operand v of the table
 unfoldable pub operandAt : OperandTable → ℕ → Operand
 operandAt ω v =
-    operandOf (baseOf (cell 4 (ω .operands) v 0) (getD (ω .numbers) v 0)) (span (ω .args) (8 * v) (cell 4 (ω .operands) v 1)) (cell 4 (ω .operands) v 2)
+    operandOf (baseOf (cell 4 (ω .operands) v 0) (getD (ω .numbers) v 0)) (span (ω .args) (cell 4 (ω .operands) v 3) (cell 4 (ω .operands) v 1)) (cell 4 (ω .operands) v 2)
 
 -- operands v to v + n - 1
 unfoldable pub operandsAt : OperandTable → ℕ → ℕ → List Operand

@@ -64,8 +64,8 @@ pub data Kin : Line → Option Entry → Type 0 where
   no-form : Kin line.NoForm none
   a-row : (r : Row) → Kin line.Row (some (row r))
   a-block : (c : ℕ) → Kin line.Block (some (block c))
-  an-instr : (n : ℕ) (x : Instr) → isLast x ≡ false → Kin (line.Instruction n) (some (instr x))
-  a-last : (n : ℕ) (x : Instr) → isLast x ≡ true → Kin (line.Last n) (some (instr x))
+  an-instr : (n m : ℕ) (x : Instr) → isLast x ≡ false → Kin (line.Instruction n m) (some (instr x))
+  a-last : (n m : ℕ) (x : Instr) → isLast x ≡ true → Kin (line.Last n m) (some (instr x))
 
 module _ (p : ℕ) (u : Used) where
   -- its least fault
@@ -74,16 +74,16 @@ module _ (p : ℕ) (u : Used) where
   fault-is l o no-form = unfold leastOf lowest numberOf in refl
   fault-is l o (a-row r) = least-two (inOrder (placeOf p) (row r)) (leb 512 (u .rows)) ∙ ap (λ (i : Bool). faultOf i (leb 512 (u .rows))) (row-order p r)
   fault-is l o (a-block c) = least-two (inOrder (placeOf p) (block c)) (leb 64 (u .blocks)) ∙ ap (λ (i : Bool). faultOf i (leb 64 (u .blocks))) (block-order p c)
-  fault-is l o (an-instr n x e) = least-two (inOrder (placeOf p) (instr x)) (leb 1024 (u .instrs)) ∙ ap (λ (i : Bool). faultOf i (leb 1024 (u .instrs))) (instr-order p x)
-  fault-is l o (a-last n x e) = least-two (inOrder (placeOf p) (instr x)) (leb 1024 (u .instrs)) ∙ ap (λ (i : Bool). faultOf i (leb 1024 (u .instrs))) (instr-order p x)
+  fault-is l o (an-instr n m x e) = least-two (inOrder (placeOf p) (instr x)) (leb 1024 (u .instrs)) ∙ ap (λ (i : Bool). faultOf i (leb 1024 (u .instrs))) (instr-order p x)
+  fault-is l o (a-last n m x e) = least-two (inOrder (placeOf p) (instr x)) (leb 1024 (u .instrs)) ∙ ap (λ (i : Bool). faultOf i (leb 1024 (u .instrs))) (instr-order p x)
 
   pub no-fault : (l : Line) (o : Option Entry) → Kin l o → lineFault l p u ≡ 0 → lineFaults (placeOf p) (countsOf u) o ≡ []
   unfolding lineFaults tooMany
   no-fault l o no-form e = absurd (omega arith)
   no-fault l o (a-row r) e = none-two (inOrder (placeOf p) (row r)) (leb 512 (u .rows)) (ap (λ (i : Bool). faultOf i (leb 512 (u .rows))) (row-order p r) ∙ e)
   no-fault l o (a-block c) e = none-two (inOrder (placeOf p) (block c)) (leb 64 (u .blocks)) (ap (λ (i : Bool). faultOf i (leb 64 (u .blocks))) (block-order p c) ∙ e)
-  no-fault l o (an-instr n x q) e = none-two (inOrder (placeOf p) (instr x)) (leb 1024 (u .instrs)) (ap (λ (i : Bool). faultOf i (leb 1024 (u .instrs))) (instr-order p x) ∙ e)
-  no-fault l o (a-last n x q) e = none-two (inOrder (placeOf p) (instr x)) (leb 1024 (u .instrs)) (ap (λ (i : Bool). faultOf i (leb 1024 (u .instrs))) (instr-order p x) ∙ e)
+  no-fault l o (an-instr n m x q) e = none-two (inOrder (placeOf p) (instr x)) (leb 1024 (u .instrs)) (ap (λ (i : Bool). faultOf i (leb 1024 (u .instrs))) (instr-order p x) ∙ e)
+  no-fault l o (a-last n m x q) e = none-two (inOrder (placeOf p) (instr x)) (leb 1024 (u .instrs)) (ap (λ (i : Bool). faultOf i (leb 1024 (u .instrs))) (instr-order p x) ∙ e)
 
   two-few : (i t : Bool) → faultOf i t ≤ 3
   two-few true true = omega arith
@@ -94,8 +94,8 @@ module _ (p : ℕ) (u : Used) where
   fault-few line.NoForm = omega arith
   fault-few line.Row = two-few (eqb p 0) (leb 512 (u .rows))
   fault-few line.Block = two-few (not (eqb p 1)) (leb 64 (u .blocks))
-  fault-few (line.Instruction n) = two-few (eqb p 1) (leb 1024 (u .instrs))
-  fault-few (line.Last n) = two-few (eqb p 1) (leb 1024 (u .instrs))
+  fault-few (line.Instruction n m) = two-few (eqb p 1) (leb 1024 (u .instrs))
+  fault-few (line.Last n m) = two-few (eqb p 1) (leb 1024 (u .instrs))
 
 -- a line with a fault, as the answer names it
 pub names : (n f : ℕ) (fs : List Fault) (ls : Pass) → leastOf fs ≡ f → (f ≡ 0 → ⊥) → f ≤ 3 → refusalOf (faultyRead f n) ≡ lowestLine n (fs ∷ ls)
@@ -112,16 +112,16 @@ unfolding placeAfter
 place-is l o p no-form = refl
 place-is l o p (a-row r) = refl
 place-is l o p (a-block c) = refl
-place-is l o p (an-instr n x e) = simp e
-place-is l o p (a-last n x e) = simp e
+place-is l o p (an-instr n m x e) = simp e
+place-is l o p (a-last n m x e) = simp e
 
 pub counts-are : (l : Line) (o : Option Entry) (u : Used) → Kin l o → with-one (countsOf u) o ≡ countsOf (usedAfter u l)
 unfolding counted
 counts-are l o u no-form = refl
 counts-are l o u (a-row r) = simp add-one
 counts-are l o u (a-block c) = simp add-one
-counts-are l o u (an-instr n x e) = simp add-one
-counts-are l o u (a-last n x e) = simp add-one
+counts-are l o u (an-instr n m x e) = simp add-one
+counts-are l o u (a-last n m x e) = simp add-one
 
 -- the first line is passed
 pub fault-behind : (n p : ℕ) (u : Used) (l : Line) (o : Option Entry) (os : List (Option Entry)) → Kin l o → lineFault l p u ≡ 0 → lowestLine n (linesFaults (placeOf p) (countsOf u) (o ∷ os)) ≡ lowestLine (n + 1) (linesFaults (placeOf (placeBehind l p)) (countsOf (usedAfter u l)) os)

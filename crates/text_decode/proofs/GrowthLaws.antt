@@ -28,7 +28,7 @@ pub same-trans : (u : Used) (ρ π σ : Store) → Same u ρ π → Same u π σ
 same-trans u ρ π σ s t = record {
   rows = s .rows ∙ t .rows;
   parts = s .parts ∙ t .parts;
-  operands = same-on (operandsOf ρ) (operandsOf π) (operandsOf σ) (u .operands) (s .operands) (t .operands);
+  operands = same-on (operandsOf ρ) (operandsOf π) (operandsOf σ) (u .operands) (u .args) (s .operands) (t .operands);
   instrs = s .instrs ∙ t .instrs;
   blocks = s .blocks ∙ t .blocks;
 }
@@ -62,22 +62,22 @@ module _ (u : Used) (σ π : Store) (es : List Entry) (says : Says u σ es) (kep
           ∙ blocks-block (ρ .instrs) (operandsOf ρ) (ρ .blocks) (u .instrs) 0 (u .blocks) (ap (λ (l : ℕ). cell 2 (ρ .blocks) l 1) z ∙ at)
           ∙ ap (λ (l : ℕ). blocksFrom (ρ .blocks) (ρ .instrs) (operandsOf ρ) (u .instrs) 0 (u .blocks) ++ (record { code = cell 2 (ρ .blocks) l 0; body = [] } ∷ [])) z
 
-  pub says-instr : (n : ℕ) (x : Instr) → ((ρ : Store) → Same (usedAfter u (line.Instruction n)) ρ π → instrAt (ρ .instrs) (operandsOf ρ) (u .instrs) ≡ x) → (m : ℕ) → u .blocks ≡ suc m → cell 2 (σ .blocks) m 1 ≤ u .instrs → Says (usedAfter u (line.Instruction n)) π (es ++ (instr x ∷ []))
-  says-instr n x is m some-blocks start = record {
-    rows = λ ρ s. says .rows ρ (before (line.Instruction n) ρ s) ∙ sym (rows-instr es x);
-    blocks = λ ρ s. one-more ρ s ∙ ap₂ (λ (y : Instr) (bs : List Listing). lengthened y bs) (is ρ s) (says .blocks ρ (before (line.Instruction n) ρ s)) ∙ sym (listings-instr es x);
+  pub says-instr : (n k : ℕ) (x : Instr) → ((ρ : Store) → Same (usedAfter u (line.Instruction n k)) ρ π → instrAt (ρ .instrs) (operandsOf ρ) (u .instrs) ≡ x) → (m : ℕ) → u .blocks ≡ suc m → cell 2 (σ .blocks) m 1 ≤ u .instrs → Says (usedAfter u (line.Instruction n k)) π (es ++ (instr x ∷ []))
+  says-instr n k x is m some-blocks start = record {
+    rows = λ ρ s. says .rows ρ (before (line.Instruction n k) ρ s) ∙ sym (rows-instr es x);
+    blocks = λ ρ s. one-more ρ s ∙ ap₂ (λ (y : Instr) (bs : List Listing). lengthened y bs) (is ρ s) (says .blocks ρ (before (line.Instruction n k) ρ s)) ∙ sym (listings-instr es x);
   }
     where
-      one-more : (ρ : Store) → Same (usedAfter u (line.Instruction n)) ρ π → blocksFrom (ρ .blocks) (ρ .instrs) (operandsOf ρ) (u .instrs + 1) 0 (u .blocks) ≡ lengthened (instrAt (ρ .instrs) (operandsOf ρ) (u .instrs)) (blocksFrom (ρ .blocks) (ρ .instrs) (operandsOf ρ) (u .instrs) 0 (u .blocks))
+      one-more : (ρ : Store) → Same (usedAfter u (line.Instruction n k)) ρ π → blocksFrom (ρ .blocks) (ρ .instrs) (operandsOf ρ) (u .instrs + 1) 0 (u .blocks) ≡ lengthened (instrAt (ρ .instrs) (operandsOf ρ) (u .instrs)) (blocksFrom (ρ .blocks) (ρ .instrs) (operandsOf ρ) (u .instrs) 0 (u .blocks))
       one-more ρ s =
-          let b : Same u ρ σ = before (line.Instruction n) ρ s in
+          let b : Same u ρ σ = before (line.Instruction n k) ρ s in
           let in-use : 2 * m + 1 < 2 * u .blocks = omega arith in
           let at : cell 2 (ρ .blocks) m 1 ≡ cell 2 (σ .blocks) m 1 = same-at (2 * u .blocks) (ρ .blocks) (σ .blocks) (2 * m + 1) in-use (b .blocks) in
           let low : cell 2 (ρ .blocks) (0 + m) 1 ≤ u .instrs = omega (arith, ap (λ (l : ℕ). cell 2 (ρ .blocks) l 1) (zero-add m)) in
-          ap (λ (k : ℕ). blocksFrom (ρ .blocks) (ρ .instrs) (operandsOf ρ) k 0 (u .blocks)) (add-one (u .instrs))
+          ap (λ (j : ℕ). blocksFrom (ρ .blocks) (ρ .instrs) (operandsOf ρ) j 0 (u .blocks)) (add-one (u .instrs))
           ∙ ap (blocksFrom (ρ .blocks) (ρ .instrs) (operandsOf ρ) (suc (u .instrs)) 0) some-blocks
           ∙ blocks-instr (ρ .instrs) (operandsOf ρ) (ρ .blocks) (u .instrs) 0 m low
-          ∙ ap (λ (k : ℕ). lengthened (instrAt (ρ .instrs) (operandsOf ρ) (u .instrs)) (blocksFrom (ρ .blocks) (ρ .instrs) (operandsOf ρ) (u .instrs) 0 k)) (sym some-blocks)
+          ∙ ap (λ (j : ℕ). lengthened (instrAt (ρ .instrs) (operandsOf ρ) (u .instrs)) (blocksFrom (ρ .blocks) (ρ .instrs) (operandsOf ρ) (u .instrs) 0 j)) (sym some-blocks)
 
 -- ---- where the blocks start
 abbrev LastStart : Place → Used → List ℕ → Type 0
@@ -101,8 +101,8 @@ module _ (u : Used) (β γ : List ℕ) (same : take (2 * u .blocks) γ ≡ take 
     last = s .last;
   }
 
-  pub starts-instr : (n : ℕ) → Starts 1 u β → Starts 1 (usedAfter u (line.Instruction n)) γ × Starts 2 (usedAfter u (line.Instruction n)) γ
-  starts-instr n s =
+  pub starts-instr : (n k : ℕ) → Starts 1 u β → Starts 1 (usedAfter u (line.Instruction n k)) γ × Starts 2 (usedAfter u (line.Instruction n k)) γ
+  starts-instr n k s =
       let m : ℕ = s .last .0 in
       let e : u .blocks ≡ suc m = s .last .1 in
       let in-use : m < u .blocks = omega arith in

@@ -8,7 +8,7 @@ use Prim.Native.Nat.{ℕ, zero, suc, _+_, _-_, _*_, _<_, _≤_, zero-le}
 use native.Mathlib.Omega.{arith}
 use native.Mathlib.Nat.{add-zero, add-suc}
 use lib.Dec.{eqb, leb, ltb}
-use lib.ListN.{length, take, drop}
+use lib.ListN.{length, take, drop, length-take}
 use borrow.Author.Tests.{eqb-true, eqb-false, leb-false, ltb-true, ltb-false, not-true}
 use Rattle.syntax.specs.Syntax.{Row, Instr, Entry, row, block, instr}
 use Rattle.syntax.specs.Fault.{fault, lowestLine}
@@ -18,10 +18,10 @@ use Rattle.text.specs.PassOne.{linesFaults, passOne, said, entriesOf, rowsOf, g
 use Rattle.tables.specs.Tables.{cell, rowAt, rowsFrom, instrAt, blocksFrom}
 use Rattle.tables.proofs.Spans.{same-at}
 use Rattle.text_lines.specs.Parts.{firstPart, lineIn, InLine, LastEnd}
-use Rattle.text_lines.proofs.Parts.{line-ended, line-unended, lines-none, end-from, part-is}
+use Rattle.text_lines.proofs.Parts.{within, line-ended, line-unended, lines-none, end-from, part-is}
 use Rattle.text_lines.proofs.InLine.{line-there, line-before}
 use Rattle.text_decode.specs.store.Store.{Store, rowTable, operandsOf, Room, RoomFor, Few, Same}
-use Rattle.text_decode.specs.store.Lines.{operandCount, usedAfter, endsBlock, Listed, LineIs, LineEnds}
+use Rattle.text_decode.specs.store.Lines.{operandCount, argCount, usedAfter, endsBlock, Listed, LineIs, LineEnds}
 use Rattle.text_decode.specs.Decoded.{refusalOf, Decoded, ReadIs, placeOf}
 use Rattle.text_decode.specs.state.State.{noneUsed, faultyRead, goodRead, lastRead, placeBehind, faultOf, lineFault}
 use Rattle.text_decode.specs.declared.store.Used.{Used}
@@ -56,6 +56,14 @@ room-still σ π a r = record {
   blocks = omega (arith, a .blocks, r .blocks);
 }
 
+-- the arguments in use behind a line
+args-after : (u : Used) (l : decoded.Line) → usedAfter u l .args ≡ u .args + argCount l
+args-after u line.NoForm = sym (add-zero (u .args))
+args-after u line.Row = sym (add-zero (u .args))
+args-after u line.Block = sym (add-zero (u .args))
+args-after u (line.Instruction n m) = refl
+args-after u (line.Last n m) = refl
+
 -- ---- what is in use stands in the tables
 pub record Held (u : Used) (σ : Store) : Type 0 where
   pub parts : 17 * u .rows ≤ length (σ .parts)
@@ -81,8 +89,8 @@ module _ (u : Used) (σ π : Store) (h : Held u σ) (room : RoomFor u σ) (a : A
     listed = l;
   }
 
-  held-instr : (n : ℕ) → n ≤ 16 → cell 8 (π .instrs) (u .instrs) 5 + cell 8 (π .instrs) (u .instrs) 6 ≡ u .operands + n → Held (usedAfter u (line.Instruction n)) π
-  held-instr n few e = held-by (usedAfter u (line.Instruction n)) (omega arith) (omega arith) (omega arith) (λ j k. go j k (ltb j (u .instrs)) refl)
+  held-instr : (n m : ℕ) → n ≤ 16 → cell 8 (π .instrs) (u .instrs) 5 + cell 8 (π .instrs) (u .instrs) 6 ≡ u .operands + n → Held (usedAfter u (line.Instruction n m)) π
+  held-instr n m few e = held-by (usedAfter u (line.Instruction n m)) (omega arith) (omega arith) (omega arith) (λ j k. go j k (ltb j (u .instrs)) refl)
     where
       go : (j : ℕ) → j < u .instrs + 1 → (t : Bool) → ltb j (u .instrs) ≡ t → cell 8 (π .instrs) j 5 + cell 8 (π .instrs) j 6 ≤ u .operands + n
       go j k true q = omega (arith, listed-still j (ltb-true j (u .instrs) q))
@@ -95,8 +103,8 @@ module _ (u : Used) (σ π : Store) (h : Held u σ) (room : RoomFor u σ) (a : A
   held-on line.NoForm few e = held-by u (omega arith) (omega arith) (omega arith) listed-still
   held-on line.Row few e = held-by (usedAfter u line.Row) (omega arith) (omega arith) (omega arith) listed-still
   held-on line.Block few e = held-by (usedAfter u line.Block) (omega arith) (omega arith) (omega arith) listed-still
-  held-on (line.Instruction n) few e = held-instr n few e
-  held-on (line.Last n) few e = held-instr n few e
+  held-on (line.Instruction n m) few e = held-instr n m few e
+  held-on (line.Last n m) few e = held-instr n m few e
 
 -- ---- the lines before `at` are read, as es, and no fault was found
 pub record Going (text : List ℕ) (at line place : ℕ) (u : Used) (σ : Store) : Type 0 where
@@ -104,6 +112,7 @@ pub record Going (text : List ℕ) (at line place : ℕ) (u : Used) (σ : Store)
   pub short : length text ≤ 65536
   pub counts : line ≤ at + 1
   pub few : Few u
+  pub carried : 2 * u .args ≤ at
   pub faults : lowestLine 0 (passOne text) ≡ lowestLine line (linesFaults (placeOf place) (countsOf u) (map parse (linesOf (drop at text))))
   pub es : List Entry
   pub entries : entriesOf text ≡ es ++ said (map parse (linesOf (drop at text)))
@@ -117,7 +126,8 @@ going-start text σ h = record {
   within = zero-le;
   short = h;
   counts = omega arith;
-  few = record { rows = zero-le; blocks = zero-le; instrs = zero-le; operands = zero-le };
+  few = record { rows = zero-le; blocks = zero-le; instrs = zero-le; operands = zero-le; args = zero-le };
+  carried = zero-le;
   faults = fault-start text h;
   es = [];
   entries = refl;
@@ -131,12 +141,12 @@ kin : (bytes : List ℕ) (u : Used) (σ π : Store) (l : decoded.Line) → LineI
 kin bytes u σ π line.NoForm h = rw (← (h .said π (same-refl u π))) no-form
 kin bytes u σ π line.Row h = rw (← (h .said π (same-refl (usedAfter u line.Row) π))) (a-row (rowAt (rowTable π) (u .rows)))
 kin bytes u σ π line.Block h = rw (← (h .said π (same-refl (usedAfter u line.Block) π))) (a-block (cell 2 (π .blocks) (u .blocks) 0))
-kin bytes u σ π (line.Instruction n) h =
-    let e = h .said π (same-refl (usedAfter u (line.Instruction n)) π) in
-    rw (← e) (an-instr n (instrAt (π .instrs) (operandsOf π) (u .instrs)) (ap endsBlock e ∙ sym (h .last)))
-kin bytes u σ π (line.Last n) h =
-    let e = h .said π (same-refl (usedAfter u (line.Last n)) π) in
-    rw (← e) (a-last n (instrAt (π .instrs) (operandsOf π) (u .instrs)) (ap endsBlock e ∙ sym (h .last)))
+kin bytes u σ π (line.Instruction n m) h =
+    let e = h .said π (same-refl (usedAfter u (line.Instruction n m)) π) in
+    rw (← e) (an-instr n m (instrAt (π .instrs) (operandsOf π) (u .instrs)) (ap endsBlock e ∙ sym (h .last)))
+kin bytes u σ π (line.Last n m) h =
+    let e = h .said π (same-refl (usedAfter u (line.Last n m)) π) in
+    rw (← e) (a-last n m (instrAt (π .instrs) (operandsOf π) (u .instrs)) (ap endsBlock e ∙ sym (h .last)))
 
 free : (i t : Bool) → faultOf i t ≡ 0 → (i ≡ true) × (t ≡ false)
 free true true e = absurd (omega arith)
@@ -239,6 +249,7 @@ module _ (text : List ℕ) (at number place : ℕ) (u : Used) (σ : Store) (g : 
         short = g .short;
         counts = let c = g .counts in let b = end-from 10 text at e is in omega arith;
         few = few;
+        carried = let c = g .carried in let d = i .carried in let k = args-after u l in let t = length-take (e - at) (drop at text) in let b = end-from 10 text at e is in omega arith;
         faults = g .faults ∙ ap (λ (os : List (Option Entry)). lowestLine number (linesFaults (placeOf place) (countsOf u) os)) here ∙ fault-behind number place u l (entryOf (fieldsOf (take (e - at) (drop at text)))) (map parse (linesOf (drop (e + 1) text))) (kin (take (e - at) (drop at text)) u σ π l i) z;
         es = g .es ++ (x ∷ []);
         entries = g .entries ∙ ap (λ (os : List (Option Entry)). g .es ++ said os) (here ∙ ap (λ (o : Option Entry). o ∷ map parse (linesOf (drop (e + 1) text))) w) ∙ sym (append-assoc (g .es) (x ∷ []) (said (map parse (linesOf (drop (e + 1) text)))));
@@ -255,7 +266,7 @@ module _ (text : List ℕ) (at number place : ℕ) (u : Used) (σ : Store) (g : 
           let q : u .rows < 512 = leb-false 512 (u .rows) (f .1) in
           let there : entryOf (fieldsOf (take (e - at) (drop at text))) ≡ some (row (rowAt (rowTable π) (u .rows))) = sym (i .said π (same-refl (usedAfter u line.Row) π)) in
           moved h π line.Row i (row (rowAt (rowTable π) (u .rows))) there z room long
-          (record { rows = omega arith; blocks = g .few .blocks; instrs = g .few .instrs; operands = g .few .operands })
+          (record { rows = omega arith; blocks = g .few .blocks; instrs = g .few .instrs; operands = g .few .operands; args = g .few .args })
           (says-row u σ π (g .es) (g .says) (i .kept) (rowAt (rowTable π) (u .rows)) (λ ρ s. ap (theRow (rowAt (rowTable π) (u .rows))) (i .said ρ s ∙ there)))
           (starts-row u (σ .blocks) (π .blocks) (i .kept .blocks) (subst (λ (k : ℕ). Starts k u (σ .blocks)) p (g .starts)))
 
@@ -266,49 +277,60 @@ module _ (text : List ℕ) (at number place : ℕ) (u : Used) (σ : Store) (g : 
           let q : u .blocks < 64 = leb-false 64 (u .blocks) (f .1) in
           let there : entryOf (fieldsOf (take (e - at) (drop at text))) ≡ some (block (cell 2 (π .blocks) (u .blocks) 0)) = sym (i .said π (same-refl (usedAfter u line.Block) π)) in
           moved h π line.Block i (block (cell 2 (π .blocks) (u .blocks) 0)) there z room long
-          (record { rows = g .few .rows; blocks = omega arith; instrs = g .few .instrs; operands = g .few .operands })
+          (record { rows = g .few .rows; blocks = omega arith; instrs = g .few .instrs; operands = g .few .operands; args = g .few .args })
           (says-block u σ π (g .es) (g .says) (i .kept) (cell 2 (π .blocks) (u .blocks) 0) (λ ρ s. ap theBlock (i .said ρ s ∙ there)) (i .starts refl))
           (starts-block u (σ .blocks) (π .blocks) (i .kept .blocks) place p (g .starts) (i .starts refl))
 
       -- an instruction, the last of its block or not
-      module _ (n : ℕ) (z : faultOf (eqb place 1) (leb 1024 (u .instrs)) ≡ 0) where
+      module _ (n m : ℕ) (z : faultOf (eqb place 1) (leb 1024 (u .instrs)) ≡ 0) where
         begun : Starts 1 u (σ .blocks)
         begun = subst (λ (k : ℕ). Starts k u (σ .blocks)) (eqb-true place 1 (free (eqb place 1) (leb 1024 (u .instrs)) z .0)) (g .starts)
 
-        few-still : n ≤ 16 → Few (usedAfter u (line.Instruction n))
-        few-still k =
+        few-still : n ≤ 16 → 2 * m ≤ length (take (e - at) (drop at text)) → Few (usedAfter u (line.Instruction n m))
+        few-still k j =
             let q : u .instrs < 1024 = leb-false 1024 (u .instrs) (free (eqb place 1) (leb 1024 (u .instrs)) z .1) in
             let w : u .operands ≤ 16 * u .instrs = g .few .operands in
-            record { rows = g .few .rows; blocks = g .few .blocks; instrs = omega arith; operands = omega arith }
+            let c = g .carried in
+            let d = g .short in
+            let t = length-take (e - at) (drop at text) in
+            let b = end-from 10 text at e is in
+            record { rows = g .few .rows; blocks = g .few .blocks; instrs = omega arith; operands = omega arith; args = omega arith }
 
-        say-still : Same u π σ → ((ρ : Store) → Same (usedAfter u (line.Instruction n)) ρ π → some (instr (instrAt (ρ .instrs) (operandsOf ρ) (u .instrs))) ≡ entryOf (fieldsOf (take (e - at) (drop at text)))) → Says (usedAfter u (line.Instruction n)) π (g .es ++ (instr (instrAt (π .instrs) (operandsOf π) (u .instrs)) ∷ []))
+        say-still : Same u π σ → ((ρ : Store) → Same (usedAfter u (line.Instruction n m)) ρ π → some (instr (instrAt (ρ .instrs) (operandsOf ρ) (u .instrs))) ≡ entryOf (fieldsOf (take (e - at) (drop at text)))) → Says (usedAfter u (line.Instruction n m)) π (g .es ++ (instr (instrAt (π .instrs) (operandsOf π) (u .instrs)) ∷ []))
         say-still kept told =
-            says-instr u σ π (g .es) (g .says) kept n (instrAt (π .instrs) (operandsOf π) (u .instrs))
-            (λ ρ s. ap (theInstr (instrAt (π .instrs) (operandsOf π) (u .instrs))) (told ρ s ∙ sym (told π (same-refl (usedAfter u (line.Instruction n)) π))))
+            says-instr u σ π (g .es) (g .says) kept n m (instrAt (π .instrs) (operandsOf π) (u .instrs))
+            (λ ρ s. ap (theInstr (instrAt (π .instrs) (operandsOf π) (u .instrs))) (told ρ s ∙ sym (told π (same-refl (usedAfter u (line.Instruction n m)) π))))
             (begun .last .0) (begun .last .1) (begun .last .2)
 
-        on-instr : LineIs (take (e - at) (drop at text)) u σ π (line.Instruction n) → Going text (e + 1) (number + 1) 1 (usedAfter u (line.Instruction n)) π
+        on-instr : LineIs (take (e - at) (drop at text)) u σ π (line.Instruction n m) → Going text (e + 1) (number + 1) 1 (usedAfter u (line.Instruction n m)) π
         on-instr i =
-            moved h π (line.Instruction n) i (instr (instrAt (π .instrs) (operandsOf π) (u .instrs))) (sym (i .said π (same-refl (usedAfter u (line.Instruction n)) π))) z room long
-            (few-still (i .few)) (say-still (i .kept) (i .said)) (starts-instr u (σ .blocks) (π .blocks) (i .kept .blocks) n begun .0)
+            moved h π (line.Instruction n m) i (instr (instrAt (π .instrs) (operandsOf π) (u .instrs))) (sym (i .said π (same-refl (usedAfter u (line.Instruction n m)) π))) z room long
+            (few-still (i .few) (i .carried)) (say-still (i .kept) (i .said)) (starts-instr u (σ .blocks) (π .blocks) (i .kept .blocks) n m begun .0)
 
-        on-last : LineIs (take (e - at) (drop at text)) u σ π (line.Last n) → Going text (e + 1) (number + 1) 2 (usedAfter u (line.Last n)) π
+        on-last : LineIs (take (e - at) (drop at text)) u σ π (line.Last n m) → Going text (e + 1) (number + 1) 2 (usedAfter u (line.Last n m)) π
         on-last i =
-            moved h π (line.Last n) i (instr (instrAt (π .instrs) (operandsOf π) (u .instrs))) (sym (i .said π (same-refl (usedAfter u (line.Last n)) π))) z room long
-            (few-still (i .few)) (say-still (i .kept) (i .said)) (starts-instr u (σ .blocks) (π .blocks) (i .kept .blocks) n begun .1)
+            moved h π (line.Last n m) i (instr (instrAt (π .instrs) (operandsOf π) (u .instrs))) (sym (i .said π (same-refl (usedAfter u (line.Last n m)) π))) z room long
+            (few-still (i .few) (i .carried)) (say-still (i .kept) (i .said)) (starts-instr u (σ .blocks) (π .blocks) (i .kept .blocks) n m begun .1)
 
       pub going-on : (l : decoded.Line) → LineIs (take (e - at) (drop at text)) u σ π l → lineFault l place u ≡ 0 → Going text (e + 1) (number + 1) (placeBehind l place) (usedAfter u l) π
       going-on line.NoForm i z = absurd (omega arith)
       going-on line.Row i z = on-row i z
       going-on line.Block i z = on-block i z
-      going-on (line.Instruction n) i z = on-instr n z i
-      going-on (line.Last n) i z = on-last n z i
+      going-on (line.Instruction n m) i z = on-instr n m z i
+      going-on (line.Last n m) i z = on-last n m z i
 
       -- a turn of the loop: the line has no fault, and what is in use and the place are those behind it
       pub turned : (l : decoded.Line) → LineIs (take (e - at) (drop at text)) u σ π l → (f : ℕ) → f ≡ lineFault l place u → f ≡ 0 → (v : Used) → v ≡ usedAfter u l → (p : ℕ) → p ≡ placeBehind l place → Going text (e + 1) (number + 1) p v π
       turned l i f w z v s p q = rw (s, q) (going-on l i (sym w ∙ z))
 
 -- ---- a line found by its reader
+-- it is no longer than the text
+pub line-short : (text : List ℕ) (at : ℕ) → length (lineIn (take (length text - at) (drop at text))) ≤ length text
+line-short text at =
+    let a = within 10 (take (length text - at) (drop at text)) in
+    let b = length-take (length text - at) (drop at text) in
+    omega arith
+
 module _ (text : List ℕ) (at r : ℕ) (l : LastEnd text r) (h : at < r) where
   abbrev pub lineEnd : ℕ
   lineEnd = at + length (firstPart 10 (drop at text))

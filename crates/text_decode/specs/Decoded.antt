@@ -36,7 +36,7 @@ pub record Decoded (text : List ℕ) (σ : Store) (r : Read) : Type 0 where
   pub room-instrs : 8 * r .instrs ≤ length (σ .instrs)
   pub room-operands : (j : ℕ) → j < r .instrs → OperandsIn σ j
 
--- A text may not fit the tables that are lent for it. With `room` in them every text does, and where one fits there is the answer.
+-- A text may not fit the image that is lent for it. With `room` in it every text does, and where one fits there is the answer.
 pub record Fitting (room : Type 0) (fits : Bool) (answer : Type 0) : Type 0 where
   pub enough : room → fits ≡ true
   pub answered : fits ≡ true → answer

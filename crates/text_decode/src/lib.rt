@@ -1,6 +1,6 @@
-// A text into tables, in one pass over its lines: a line's fields (module line), what they say stored (store), what is kept from line to
-// line (state). This is pass one. Promises: whether the text fits the tables that are lent, which every text does where they have `Room`.
-// Where it fits, the answer names the fault of pass one that document 01 gives; where there is none, the tables stand for the text
+// A text into an image, in one pass over its lines: a line's fields (module line), what they say stored (store), what is kept from line to
+// line (state). This is pass one. Promises: whether the text fits the image that is lent, which every text does where it has `Room`.
+// Where it fits, the answer names the fault of pass one that document 01 gives; where there is none, the image's tables stand for the text
 // (`ReadIs` of specs/Decoded.antt). Nothing is asked.
 pub mod line;
 pub mod state;
@@ -18,13 +18,14 @@ pub fn read_text(text: &[u8], image: &mut [u16], numbers: &mut [u32]) -> Read
         return crate::state::faulty(3, 0);
     }
     let p = image::lay_out(image.len());
+    let plenty = crate::state::has_plenty(p, numbers.len());
     let end = text_lines::last_end(text);
     let mut u = crate::state::unused();
     let mut at = 0;
     let mut line = 1;
     let mut place: u8 = 0;
     while at < end {
-        if !crate::state::has_room(p, numbers.len(), u) {
+        if !crate::state::has_room(plenty, p, numbers.len(), u) {
             return crate::state::unfit();
         }
         let x = crate::store::read_line(&text[at..], image, p, numbers, u);

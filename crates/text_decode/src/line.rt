@@ -1,4 +1,4 @@
-// A line's fields into the tables, in one walk up to the line's LF: `rest` is a text from a place within a line on, and a field is looked
+// A line's fields into the image, in one walk up to the line's LF: `rest` is a text from a place within a line on, and a field is looked
 // for behind a comma of that line. Promises: what the fields say by the line's form (`FormIs` of specs/line/Answers.antt), and where the
 // line ends if they are of that form.
 ghost use mathlib.Core.Path.{_≡_};
@@ -11,7 +11,8 @@ ghost use Rattle.text_lines.specs.Parts.{lineIn, fieldIn, InLine, StopAt};
 ghost use Rattle.text_fields.specs.numbers.Numbers.{ScanIs};
 ghost use Rattle.text_decode.specs.line.Fields.{fieldsFrom, plainField, mostOf, partNumber};
 ghost use Rattle.text_decode.specs.line.Forms.{formOf, fewest};
-ghost use Rattle.text_decode.specs.line.Answers.{noSlot, SlotIs, SlotsAre, PartsRead, withOperand, operandsIn, OperandRoom, OperandsRead, AtEnd, noEntry, PlainIs, RowIs, FormIs};
+ghost use Rattle.text_decode.specs.line.Answers.{noSlot, SlotIs, SlotsAre, PartsRead, withOperand, operandsIn, OperandRoom, OperandsRead, Carried, AtEnd, noEntry, PlainIs, RowIs, FormIs};
+use crate::store::Used;
 use image::Places;
 use text_fields::numbers::Number;
 use text_fields::numbers::Scan;
@@ -82,15 +83,16 @@ pub struct Slots {
     pub next: usize,
 }
 
-// How many operands or components were read, if all of them could be, and where the line ends.
+// How many operands or components were read, if all of them could be, how many arguments they carry, and where the line ends.
 pub struct Count {
     pub ok: bool,
     pub count: u16,
+    pub args: u16,
     pub next: usize,
 }
 
-// What a line's fields say: the numbers of a form's plain fields, how many operands follow, and where the line ends. Of U a and b are
-// where its components start and how many there are; of C they are its stack and where its registers start.
+// What a line's fields say: the numbers of a form's plain fields, how many operands follow, how many arguments they carry, and where the
+// line ends. Of U a and b are where its components start and how many there are; of C they are its stack and where its registers start.
 pub struct Said {
     pub ok: bool,
     pub a: u16,
@@ -98,6 +100,7 @@ pub struct Said {
     pub c: u16,
     pub d: u16,
     pub count: u16,
+    pub args: u16,
     pub next: usize,
 }
 
@@ -111,6 +114,7 @@ fn no_entry() -> Said
         c: 0,
         d: 0,
         count: 0,
+        args: 0,
         next: 0,
     }
 }
@@ -214,10 +218,23 @@ fn read_slots(rest: &[u8], at: usize, f: Form) -> Slots
 {
     let a = read_slot(rest, at, f.a);
     let b = read_slot(rest, a.next, f.b);
+    let ok = both(a.ok, b.ok);
+    if f.c == 0 {
+        if f.d == 0 {
+            return Slots {
+                ok,
+                a: a.value,
+                b: b.value,
+                c: 0,
+                d: 0,
+                next: b.next,
+            };
+        }
+    }
     let c = read_slot(rest, b.next, f.c);
     let d = read_slot(rest, c.next, f.d);
     Slots {
-        ok: both(both(a.ok, b.ok), both(c.ok, d.ok)),
+        ok: both(ok, both(c.ok, d.ok)),
         a: a.value,
         b: b.value,
         c: c.value,
@@ -276,6 +293,7 @@ fn read_parts(rest: &[u8], at: usize, known: bool, most: u16, parts: &mut [u16],
             return Count {
                 ok: false,
                 count: n,
+                args: 0,
                 next: i,
             };
         }
@@ -284,6 +302,7 @@ fn read_parts(rest: &[u8], at: usize, known: bool, most: u16, parts: &mut [u16],
             return Count {
                 ok: false,
                 count: n,
+                args: 0,
                 next: i,
             };
         }
@@ -295,23 +314,25 @@ fn read_parts(rest: &[u8], at: usize, known: bool, most: u16, parts: &mut [u16],
     Count {
         ok: true,
         count: n,
+        args: 0,
         next: i,
     }
 }
 
-// Stores operand v, all but its arguments.
-fn put_operand(o: OperandRead, operands: &mut [u16], numbers: &mut [u32], v: usize)
-    requires { ⌜ (4 * v + 3 ≤ length (now operands)) × (v < length (now numbers)) ⌝ }
-    ensures { λ _. ⌜ (now (operands .exit) ≡ withOperand (now (operands .entry)) v o) × (now (numbers .exit) ≡ set (now (numbers .entry)) v (o .number)) ⌝ }
+// Stores operand v, with its arguments from `start` on.
+fn put_operand(o: OperandRead, start: u16, operands: &mut [u16], numbers: &mut [u32], v: usize)
+    requires { ⌜ (4 * v + 4 ≤ length (now operands)) × (v < length (now numbers)) ⌝ }
+    ensures { λ _. ⌜ (now (operands .exit) ≡ withOperand (now (operands .entry)) v o start) × (now (numbers .exit) ≡ set (now (numbers .entry)) v (o .number)) ⌝ }
 {
     let i = 4 * v;
     operands[i] = o.kind;
     operands[i + 1] = o.count;
     operands[i + 2] = o.row;
+    operands[i + 3] = start;
     numbers[v] = o.number;
 }
 
-// All the fields behind the stop at `at`, at most `most`, as operands from v on.
+// All the fields behind the stop at `at`, at most `most`, as operands from v on, their arguments from a on.
 fn read_operands(
     rest: &[u8],
     at: usize,
@@ -320,40 +341,47 @@ fn read_operands(
     p: Places,
     numbers: &mut [u32],
     v: usize,
+    a: usize,
 ) -> Count
-    requires { ⌜ Ordered p (length (now image)) × OperandRoom (v + most) (length (operandSection p (now image))) (length (now numbers)) (length (argSection p (now image))) × (most ≤ 16) × StopAt (now rest) at ⌝ }
-    ensures { λ r. ⌜ OperandsRead (fieldsFrom (lineIn (now (rest .entry))) (at + 1)) most v (operandsIn p (now (image .entry)) (now (numbers .entry))) (operandsIn p (now (image .exit)) (now (numbers .exit))) r × AtEnd (now (rest .entry)) (r .ok) (r .next) × Outside (p .operands) (p .uses) (now (image .entry)) (now (image .exit)) ⌝ }
+    requires { ⌜ Ordered p (length (now image)) × OperandRoom (v + most) (a + 8 * most) (length (operandSection p (now image))) (length (now numbers)) (length (argSection p (now image))) × (most ≤ 16) × StopAt (now rest) at ⌝ }
+    ensures { λ r. ⌜ OperandsRead (fieldsFrom (lineIn (now (rest .entry))) (at + 1)) most v a (operandsIn p (now (image .entry)) (now (numbers .entry))) (operandsIn p (now (image .exit)) (now (numbers .exit))) r × Carried (now (rest .entry)) (r .args) × AtEnd (now (rest .entry)) (r .ok) (r .next) × Outside (p .operands) (p .uses) (now (image .entry)) (now (image .exit)) ⌝ }
 {
     let from = p.operands;
     let mid = p.args;
     let to = p.uses;
     let mut i = at;
     let mut n: u16 = 0;
+    let mut m: u16 = 0;
     while rest[i] == b',' {
         if n == most {
             return Count {
                 ok: false,
                 count: n,
+                args: m,
                 next: i,
             };
         }
         let w = v + (n as usize);
-        let x = text_fields::operand_at(rest, i + 1, &mut image[mid..to], 8 * w);
+        let start = a + (m as usize);
+        let x = text_fields::operand_at(rest, i + 1, &mut image[mid..to], start);
         let o = x.read;
         if 3 <= o.kind {
             return Count {
                 ok: false,
                 count: n,
+                args: m,
                 next: i,
             };
         }
-        put_operand(o, &mut image[from..mid], numbers, w);
+        put_operand(o, start as u16, &mut image[from..mid], numbers, w);
         n += 1;
+        m += o.count;
         i = x.next;
     }
     Count {
         ok: true,
         count: n,
+        args: m,
         next: i,
     }
 }
@@ -368,7 +396,7 @@ fn fewest(most: u16) -> u16
     0
 }
 
-// A line of any form but U and C.
+// A line of any form but U and C: operands are written from v on, their arguments from a on.
 fn read_plain(
     rest: &[u8],
     at: usize,
@@ -377,9 +405,10 @@ fn read_plain(
     p: Places,
     numbers: &mut [u32],
     v: usize,
+    a: usize,
 ) -> Said
-    requires { ⌜ Ordered p (length (now image)) × (code < 34) × (code ≡ 3 → ⊥) × (code ≡ 5 → ⊥) × OperandRoom (v + 16) (length (operandSection p (now image))) (length (now numbers)) (length (argSection p (now image))) × StopAt (now rest) at ⌝ }
-    ensures { λ r. ⌜ PlainIs code (fieldsFrom (lineIn (now (rest .entry))) (at + 1)) v (operandsIn p (now (image .entry)) (now (numbers .entry))) (operandsIn p (now (image .exit)) (now (numbers .exit))) r × AtEnd (now (rest .entry)) (r .ok) (r .next) × Outside (p .operands) (p .uses) (now (image .entry)) (now (image .exit)) ⌝ }
+    requires { ⌜ Ordered p (length (now image)) × (code < 34) × (code ≡ 3 → ⊥) × (code ≡ 5 → ⊥) × OperandRoom (v + 16) (a + 128) (length (operandSection p (now image))) (length (now numbers)) (length (argSection p (now image))) × StopAt (now rest) at ⌝ }
+    ensures { λ r. ⌜ PlainIs code (fieldsFrom (lineIn (now (rest .entry))) (at + 1)) v a (operandsIn p (now (image .entry)) (now (numbers .entry))) (operandsIn p (now (image .exit)) (now (numbers .exit))) r × Carried (now (rest .entry)) (r .args) × AtEnd (now (rest .entry)) (r .ok) (r .next) × Outside (p .operands) (p .uses) (now (image .entry)) (now (image .exit)) ⌝ }
 {
     let f = form_at(code);
     let x = read_slots(rest, at, f);
@@ -387,7 +416,7 @@ fn read_plain(
         return no_entry();
     }
     let most = f.most;
-    let n = read_operands(rest, x.next, most, image, p, numbers, v);
+    let n = read_operands(rest, x.next, most, image, p, numbers, v, a);
     if !n.ok {
         return no_entry();
     }
@@ -401,6 +430,7 @@ fn read_plain(
         c: x.c,
         d: x.d,
         count: n.count,
+        args: n.args,
         next: n.next,
     }
 }
@@ -421,6 +451,7 @@ fn read_tuple(rest: &[u8], at: usize, parts: &mut [u16], p: usize) -> Said
         c: 0,
         d: 0,
         count: 0,
+        args: 0,
         next: n.next,
     }
 }
@@ -457,31 +488,32 @@ fn read_code(rest: &[u8], at: usize, parts: &mut [u16], p: usize) -> Said
         c: 0,
         d: 0,
         count: 0,
+        args: 0,
         next: n.next,
     }
 }
 
-// The fields behind the stop at `at` of a line of the form at place `code`: a row's parts are written from k on, operands from v on.
+// The fields behind the stop at `at` of a line of the form at place `code`, written to the first places that are not in use.
 pub(crate) fn read_form(
     rest: &[u8],
     at: usize,
     code: usize,
     image: &mut [u16],
     p: Places,
-    k: usize,
     numbers: &mut [u32],
-    v: usize,
+    u: Used,
 ) -> Said
-    requires { ⌜ Ordered p (length (now image)) × (code < 34) × (k + 17 ≤ length (partSection p (now image))) × (k < 65536) × OperandRoom (v + 16) (length (operandSection p (now image))) (length (now numbers)) (length (argSection p (now image))) × StopAt (now rest) at ⌝ }
-    ensures { λ r. ⌜ FormIs code (fieldsFrom (lineIn (now (rest .entry))) (at + 1)) k v (partSection p (now (image .entry))) (partSection p (now (image .exit))) (operandsIn p (now (image .entry)) (now (numbers .entry))) (operandsIn p (now (image .exit)) (now (numbers .exit))) r × AtEnd (now (rest .entry)) (r .ok) (r .next) × Outside (p .parts) (p .uses) (now (image .entry)) (now (image .exit)) ⌝ }
+    requires { ⌜ Ordered p (length (now image)) × (code < 34) × (17 * u .rows + 17 ≤ length (partSection p (now image))) × (u .rows ≤ 512) × OperandRoom (u .operands + 16) (u .args + 128) (length (operandSection p (now image))) (length (now numbers)) (length (argSection p (now image))) × StopAt (now rest) at ⌝ }
+    ensures { λ r. ⌜ FormIs code (fieldsFrom (lineIn (now (rest .entry))) (at + 1)) (17 * u .rows) (u .operands) (u .args) (partSection p (now (image .entry))) (partSection p (now (image .exit))) (operandsIn p (now (image .entry)) (now (numbers .entry))) (operandsIn p (now (image .exit)) (now (numbers .exit))) r × Carried (now (rest .entry)) (r .args) × AtEnd (now (rest .entry)) (r .ok) (r .next) × Outside (p .parts) (p .uses) (now (image .entry)) (now (image .exit)) ⌝ }
 {
     let from = p.parts;
     let to = p.operands;
+    let k = 17 * u.rows;
     if code == 3 {
         return read_tuple(rest, at, &mut image[from..to], k);
     }
     if code == 5 {
         return read_code(rest, at, &mut image[from..to], k);
     }
-    read_plain(rest, at, code, image, p, numbers, v)
+    read_plain(rest, at, code, image, p, numbers, u.operands, u.args)
 }

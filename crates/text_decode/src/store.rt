@@ -9,27 +9,28 @@ ghost use lib.Seq.{sets};
 ghost use Rattle.image.specs.Sections.{Ordered, Outside, rowSection, blockSection, instrSection, partSection, operandSection, argSection};
 ghost use Rattle.text_lines.specs.Parts.{lineIn, InLine, StopAt};
 ghost use Rattle.text_decode.specs.line.Fields.{fieldsFrom};
-ghost use Rattle.text_decode.specs.line.Answers.{operandsIn, OperandRoom, AtEnd, FormIs};
+ghost use Rattle.text_decode.specs.line.Answers.{operandsIn, OperandRoom, Carried, AtEnd, FormIs};
 ghost use Rattle.text_decode.specs.store.Store.{storeIn, RoomFor, Few};
 ghost use Rattle.text_decode.specs.store.Lines.{noLine, LineIs, LineEnds, Stored};
 use crate::line::Said;
 use image::Places;
 
-// How many places of the tables are in use.
+// How many places of the image's tables are in use.
 pub struct Used {
     pub rows: usize,
     pub blocks: usize,
     pub instrs: usize,
     pub operands: usize,
+    pub args: usize,
 }
 
-// What a line is: an instruction with the number of its operands, the last of a block apart.
+// What a line is: an instruction with the numbers of its operands and of their arguments, the last of a block apart.
 pub enum Line {
     NoForm,
     Row,
     Block,
-    Instruction(usize),
-    Last(usize),
+    Instruction(usize, usize),
+    Last(usize, usize),
 }
 
 // The same, and where the line ends if it is of some form.
@@ -96,9 +97,9 @@ fn put_line(code: usize, s: Said, image: &mut [u16], p: Places, u: Used) -> Line
         u.operands as u16,
     );
     if code < 32 {
-        return Line::Instruction(s.count as usize);
+        return Line::Instruction(s.count as usize, s.args as usize);
     }
-    Line::Last(s.count as usize)
+    Line::Last(s.count as usize, s.args as usize)
 }
 
 // The fields behind a line's first, which ends at f: the text from there on goes to their reader, which stops at the line's LF.
@@ -111,12 +112,10 @@ fn read_rest(
     numbers: &mut [u32],
     u: Used,
 ) -> Said
-    requires { ⌜ Ordered p (length (now image)) × (code < 34) × StopAt (now text) f × (17 * (u .rows + 1) ≤ length (partSection p (now image))) × OperandRoom (u .operands + 16) (length (operandSection p (now image))) (length (now numbers)) (length (argSection p (now image))) × Few u ⌝ }
-    ensures { λ r. ⌜ FormIs code (fieldsFrom (lineIn (now (text .entry))) (f + 1)) (17 * u .rows) (u .operands) (partSection p (now (image .entry))) (partSection p (now (image .exit))) (operandsIn p (now (image .entry)) (now (numbers .entry))) (operandsIn p (now (image .exit)) (now (numbers .exit))) r × AtEnd (now (text .entry)) (r .ok) (f + r .next) × Outside (p .parts) (p .uses) (now (image .entry)) (now (image .exit)) ⌝ }
+    requires { ⌜ Ordered p (length (now image)) × (code < 34) × StopAt (now text) f × (17 * (u .rows + 1) ≤ length (partSection p (now image))) × OperandRoom (u .operands + 16) (u .args + 128) (length (operandSection p (now image))) (length (now numbers)) (length (argSection p (now image))) × Few u ⌝ }
+    ensures { λ r. ⌜ FormIs code (fieldsFrom (lineIn (now (text .entry))) (f + 1)) (17 * u .rows) (u .operands) (u .args) (partSection p (now (image .entry))) (partSection p (now (image .exit))) (operandsIn p (now (image .entry)) (now (numbers .entry))) (operandsIn p (now (image .exit)) (now (numbers .exit))) r × Carried (now (text .entry)) (r .args) × AtEnd (now (text .entry)) (r .ok) (f + r .next) × Outside (p .parts) (p .uses) (now (image .entry)) (now (image .exit)) ⌝ }
 {
-    let k = 17 * u.rows;
-    let v = u.operands;
-    crate::line::read_form(&text[f..], 0, code, image, p, k, numbers, v)
+    crate::line::read_form(&text[f..], 0, code, image, p, numbers, u)
 }
 
 fn no_line() -> LineRead

@@ -4,7 +4,8 @@ use mathlib.Core.List.{List}
 use Prim.Native.Nat.{ℕ, zero, suc, _+_, _-_, _<_, _≤_}
 use native.Mathlib.Omega.{arith}
 use native.Mathlib.Nat.{not-suc-le-zero}
-use lib.ListN.{getD}
+use lib.ListN.{length, getD, take}
+use lib.Seq.{length-take-le}
 use Rattle.tables.specs.Tables.{RowTable}
 use Rattle.types_equal.specs.pending.Pending.{room, Givens}
 use Rattle.types_equal.specs.Bounds.{Tabled, Spare}
@@ -50,31 +51,39 @@ module _ (τ : RowTable) (args : List ℕ) where
   pub few-args : {m l r : ℕ} → Tabled τ args m l r → Givens args m
   few-args k j h = few-arg j k h
 
-pub spare-low : (m l r a b x y : ℕ) → Spare m l r a b → x ≤ l → y ≤ r → Spare m x y a b
-spare-low m l r a b x y s p q = let s0 = s .0 in let s1 = s .1 in (omega arith, omega arith, s .2, s .3)
+pub spare-low : (m l r n x y : ℕ) → Spare m l r n → x ≤ l → y ≤ r → Spare m x y n
+spare-low m l r n x y s p q = let s0 = s .0 in (omega arith, s .1)
 
 -- at argument j
-pub spare-arg : (m l r a b x j : ℕ) → Spare m l r a b → j < m → x ≤ 514 → Spare 0 x r a b
-spare-arg m l r a b x j s h p = let s0 = s .0 in let k = room-of j m h in (omega arith, s .1, s .2, s .3)
+pub spare-arg : (m l r n x j : ℕ) → Spare m l r n → j < m → x ≤ 514 → Spare 0 x r n
+spare-arg m l r n x j s h p = let s0 = s .0 in let k = room-of j m h in (omega arith, s .1)
 
-pub spare-kept : (m l r a b x y : ℕ) → Spare m l r a b → x ≡ a → y ≡ b → Spare m l r x y
-spare-kept m l r a b x y s p q = let s0 = s .0 in let s1 = s .1 in let s2 = s .2 in let s3 = s .3 in (omega arith, omega arith, omega arith, omega arith)
+-- the first words
+pub length-first : (n : ℕ) (ws : List ℕ) → n ≤ length ws → length (take n ws) ≡ n
+length-first n ws h = length-take-le n ws h
 
--- the parts of the two arrays behind what is pending: x and y are left of a and b
-pub spare-own : (m l r a b n t o u x y : ℕ) → Spare m l r a b → n + t ≤ l → o + u ≤ r → x ≡ a - n → y ≡ b - o → Spare m t u x y
-spare-own m l r a b n t o u x y s p q e f = let s0 = s .0 in let s1 = s .1 in let s2 = s .2 in let s3 = s .3 in (omega arith, omega arith, omega arith, omega arith)
+pub spare-kept : (m l r n x : ℕ) → Spare m l r n → x ≡ n → Spare m l r x
+spare-kept m l r n x s p = let s0 = s .0 in let s1 = s .1 in (omega arith, omega arith)
 
-pub spare-given : (m l r a b n t o u x y : ℕ) → Spare m l r a b → 0 < m → n + t ≤ 514 + l → o + u ≤ r → x ≡ a - n → y ≡ b - o → Spare 0 t u x y
-spare-given m l r a b n t o u x y s k p q e f =
-    let g = room-of 0 m k in let s0 = s .0 in let s1 = s .1 in let s2 = s .2 in let s3 = s .3 in (omega arith, omega arith, omega arith, omega arith)
+-- e is the greater of a and b
+abbrev pub Greater : ℕ → ℕ → ℕ → Type 0
+Greater a b e = (a ≤ e) × (b ≤ e) × ((c : ℕ) → a ≤ c → b ≤ c → e ≤ c)
 
--- what is pending behind two value rows, p and q with them, fits the arrays, which are as long as they were
-pub own-room : (m : ℕ) {l r a b x y p q : ℕ} → (p ≤ l) × (q ≤ r) → Spare m l r a b → x ≡ a → y ≡ b → (p + room m < x) × (q < y) × (x ≤ 65536) × (y ≤ 65536)
-own-room m w s e f =
-    let w0 = w .0 in let w1 = w .1 in let s0 = s .0 in let s1 = s .1 in let s2 = s .2 in let s3 = s .3 in (omega arith, omega arith, omega arith, omega arith)
+-- the words behind what is pending, a entries on the left and b on the right: x of n words are left from e on
+module _ (m l r n a t b u e : ℕ) (g : Greater a b e) (s : Spare m l r n) where
+  pub own-room : (a + t ≤ l) × (b + u ≤ r) → (e < n) × (n ≤ 32768)
+  own-room w = let w0 = w .0 in let w1 = w .1 in let s0 = s .0 in let k = g .2 (l + r) (omega arith) (omega arith) in (omega arith, s .1)
 
--- the same behind a row of an argument
-pub given-room : (m l : ℕ) {r a b x y t p q : ℕ} → (0 < m) × (t < 514) × (p ≤ 514 + l) × (q ≤ r) → Spare m l r a b → x ≡ a → y ≡ b → (p < x) × (q < y) × (x ≤ 65536) × (y ≤ 65536)
-given-room m l w s e f =
-    let g = room-of 0 m (w .0) in let w2 = w .2 in let w3 = w .3 in let s0 = s .0 in let s1 = s .1 in let s2 = s .2 in let s3 = s .3 in
-    (omega arith, omega arith, omega arith, omega arith)
+  pub spare-own : (x : ℕ) → (a + t ≤ l) × (b + u ≤ r) → x ≡ n - e → Spare m t u x
+  spare-own x w f =
+      let w0 = w .0 in let w1 = w .1 in let s0 = s .0 in let s1 = s .1 in let k = g .2 ((l + r) - (t + u)) (omega arith) (omega arith) in (omega arith, omega arith)
+
+  -- the same behind a row of an argument
+  pub given-room : (0 < m) × (t < 514) × (a + t ≤ 514 + l) × (b + u ≤ r) → (e < n) × (n ≤ 32768)
+  given-room w =
+      let h = room-of 0 m (w .0) in let w2 = w .2 in let w3 = w .3 in let s0 = s .0 in let k = g .2 (514 + l + r) (omega arith) (omega arith) in (omega arith, s .1)
+
+  pub spare-given : (x : ℕ) → (0 < m) × (t < 514) × (a + t ≤ 514 + l) × (b + u ≤ r) → x ≡ n - e → Spare 0 t u x
+  spare-given x w f =
+      let h = room-of 0 m (w .0) in let w1 = w .1 in let w2 = w .2 in let w3 = w .3 in let s0 = s .0 in let s1 = s .1 in
+      let k = g .2 ((514 + l + r) - (t + u)) (omega arith) (omega arith) in (omega arith, omega arith)

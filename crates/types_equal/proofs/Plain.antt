@@ -69,8 +69,8 @@ module _ (τ : RowTable) (args : List ℕ) (n : ℕ) where
   pub tabled-plain : (x y l r : ℕ) → n ≤ 514 → x ≡ lower (n + 1) l → y ≡ lower (n + 1) r → Tabled τ args 0 x y
   tabled-plain x y l r c e f = record { top = n; few = c; left = link-few x l e; right = link-few y r f; given = λ j h. absurd (omega arith) }
 
-  pub spare-plain : (x y l r : ℕ) → n ≤ 514 → x ≡ lower (n + 1) l → y ≡ lower (n + 1) r → Spare 0 x y 516 516
-  spare-plain x y l r c e f = let a = link-few x l e in let b = link-few y r f in (omega arith, omega arith, omega arith, omega arith)
+  pub spare-plain : (x y l r : ℕ) → n ≤ 514 → x ≡ lower (n + 1) l → y ≡ lower (n + 1) r → Spare 0 x y 1543
+  spare-plain x y l r c e f = let a = link-few x l e in let b = link-few y r f in (omega arith, omega arith)
 
   pub link-type : (κ : Kind) (x l : ℕ) → x ≡ lower (n + 1) l → typeAt κ (typesOf (rowsIn τ n)) l ≡ mean τ κ x
   link-type κ x l e = let q : suc n ≡ n + 1 = omega arith in type-at τ κ n l ∙ ap (λ z. mean τ κ (lower z l)) q ∙ ap (mean τ κ) (sym e)

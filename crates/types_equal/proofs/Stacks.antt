@@ -1,31 +1,26 @@
 -- Laws of the comparison of stack rows.
 use mathlib.Core.Path.{_≡_, refl, ap, ap₂, sym, _∙_, subst}
 use mathlib.Core.Bool.{Bool, true, false, _&&_, not}
-use mathlib.Core.List.{List, [], _++_}
+use mathlib.Core.List.{List, []}
 use Prim.Native.Nat.{ℕ, _+_, _-_, _<_, _≤_}
 use native.Mathlib.Omega.{arith}
-use lib.ListN.{length, getD, set, take, drop, length-drop, List·getD-append}
-use lib.Seq.{getD-set-same, getD-take, length-take-le}
-use borrow.Rule.Slice.PartMut.{putMid, postOf}
+use lib.ListN.{length, getD, set, take, drop, length-drop}
+use lib.Seq.{getD-set-same, length-take-le}
 use Rattle.types.specs.Types.{nil, join, Arg, meets}
 use Rattle.types.specs.Equal.{same}
 use Rattle.types.proofs.Filling.{join-nil}
 use Rattle.tables.specs.Tables.{RowTable}
 use Rattle.types_rows.specs.Read.{meanS, stackUnder, argsOf}
-use Rattle.types_equal.specs.pending.Pending.{entryType, pendingType, entryMeets, pendingMeets, Low, Pends, mass}
+use Rattle.types_equal.specs.pending.Pending.{side, entryType, pendingType, entryMeets, pendingMeets, Low, Pends, mass}
 use Rattle.types_equal.proofs.pending.Meets.{and-true, no-args}
 use Rattle.types_equal.proofs.pending.Entries.{own-type, own-meets}
+use Rattle.types_equal.proofs.pending.Sides.{length-side}
 use Rattle.types_equal.proofs.pending.Lists.{Agree, mass-agree, pends-agree, type-agree, meets-agree}
 use Rattle.types_equal.specs.declared.stack_pairs.Duo.{Duo}
 use Rattle.types_equal.specs.declared.stack_pairs.Duo.the-variants.{Over, Unlike, Onward, OwnTwo, GivenTwo}
 use Rattle.types_equal.specs.stack_pairs.Fit.{fitValues, sameStacks, fitPending, DuoIs}
 
--- ---- a part lent and given back
-pub agree-mid : (n k : ℕ) (ws ys : List ℕ) → n ≤ length ws → Agree n ws (putMid n k ws ys)
-agree-mid n k ws ys h i b =
-    let q = length-take-le n ws h in
-    List·getD-append (take n ws) (ys ++ postOf n k ws) 0 i (omega arith) ∙ getD-take n ws i 0 b
-
+-- ---- a part lent
 pub length-part : (n : ℕ) (ws : List ℕ) → length (take (length ws - n) (drop n ws)) ≡ length ws - n
 length-part n ws = let a = length-drop n ws in length-take-le (length ws - n) (drop n ws) (omega arith)
 
@@ -45,15 +40,15 @@ module _ (τ : RowTable) (A : List Arg) (m by d l by₂ d₂ r : ℕ) where
     pub rights : Pends 0 r rs j
     pub fit : fitPending τ A by d by₂ d₂ ls i rs j ≡ sameStacks τ A by d l by₂ d₂ r
 
-  first-type : (B : List Arg) (b e x : ℕ) (ws : List ℕ) → x < 65537 → 0 < length ws → pendingType τ B b e (set ws 0 x) 1 ≡ stackUnder τ B b e x
+  first-type : (B : List Arg) (b e x : ℕ) (ws : List ℕ) → x < 32768 → 0 < length ws → pendingType τ B b e (set ws 0 x) 1 ≡ stackUnder τ B b e x
   unfolding pendingType
   first-type B b e x ws h k = ap (λ z. join (entryType τ B b e z) nil) (getD-set-same ws 0 x 0 k) ∙ join-nil (entryType τ B b e x) ∙ own-type τ B b e x h
 
-  first-meets : (x : ℕ) (ws : List ℕ) → x < 65537 → 0 < length ws → pendingMeets τ A d (set ws 0 x) 1 ≡ meets A d (meanS τ x)
+  first-meets : (x : ℕ) (ws : List ℕ) → x < 32768 → 0 < length ws → pendingMeets τ A d (set ws 0 x) 1 ≡ meets A d (meanS τ x)
   unfolding pendingMeets
   first-meets x ws h k = ap (λ z. entryMeets τ A d z && true) (getD-set-same ws 0 x 0 k) ∙ and-true (entryMeets τ A d x) ∙ own-meets τ A d x h
 
-  first-pends : (n x : ℕ) (ws : List ℕ) → x < 65537 → 0 < length ws → Pends n x (set ws 0 x) 1
+  first-pends : (n x : ℕ) (ws : List ℕ) → x < 32768 → 0 < length ws → Pends n x (set ws 0 x) 1
   first-pends n x ws h k i b =
       let q : i ≡ 0 = omega arith in
       subst (λ z. Low n x z (getD (set ws 0 x) z 0)) (sym q) (subst (λ z. Low n x 0 z) (sym (getD-set-same ws 0 x 0 k)) ((λ u. omega arith), (λ u. absurd (omega arith))))
@@ -66,6 +61,16 @@ module _ (τ : RowTable) (A : List Arg) (m by d l by₂ d₂ r : ℕ) where
         rights = first-pends 0 r rs (omega arith) q;
         fit = ap₂ _&&_ (ap₂ same (first-type A by d l ls (omega arith) p) (first-type [] by₂ d₂ r rs (omega arith) q)) (first-meets l ls (omega arith) p);
       }
+
+  -- the rows are stored in a list of two: ws at first, then ws₂, then ws₃
+  pub match-stored : (ws ws₂ ws₃ : List ℕ) → l ≤ 514 → r ≤ 514 → 0 < length ws → side false ws₂ ≡ set (side false ws) 0 l → side true ws₂ ≡ side true ws → side true ws₃ ≡ set (side true ws₂) 0 r → side false ws₃ ≡ side false ws₂
+      → Matching (side false ws₃) 1 (side true ws₃) 1
+  match-stored ws ws₂ ws₃ a b p e f g h =
+      let u = length-side false ws in
+      let v = length-side true ws in
+      let x : side false ws₃ ≡ set (side false ws) 0 l = h ∙ e in
+      let y : side true ws₃ ≡ set (side true ws) 0 r = g ∙ ap (λ (z : List ℕ). set z 0 r) f in
+      rw (x, y) (match-first (side false ws) (side true ws) a b (omega arith) (omega arith))
 
   module _ (ls : List ℕ) (i : ℕ) (rs : List ℕ) (j : ℕ) (g : Matching ls i rs j) (ls₂ rs₂ : List ℕ) where
     abbrev D : Duo → Type 0

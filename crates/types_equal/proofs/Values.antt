@@ -30,7 +30,7 @@ use Rattle.types_equal.specs.Bounds.{big}
 use Rattle.types_equal.proofs.pending.Meets.{and-false, and-swap, raised, no-args, meets-none, meetsV, value-meets, arg-type, fits-value}
 use Rattle.types_equal.proofs.Laws.{same-items}
 
-pub big-of : (j m : ℕ) → j < m → big m ≡ 68719476736
+pub big-of : (j m : ℕ) → j < m → big m ≡ 134217728
 big-of j zero h = absurd (not-suc-le-zero h)
 big-of j (suc m) h = refl
 

@@ -1,3 +1,4 @@
 pub mod Meets
 pub mod Entries
 pub mod Lists
+pub mod Sides

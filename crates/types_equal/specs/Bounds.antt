@@ -16,12 +16,12 @@ pub record Tabled (τ : RowTable) (args : List ℕ) (m l r : ℕ) : Type 0 where
 -- what arguments add to the sums of a side
 abbrev pub big : ℕ → ℕ
 big zero = 0
-big (suc m) = 68719476736
+big (suc m) = 134217728
 
 -- room for the sums of a side: m arguments, raised by `by` past d, at row l
 abbrev pub Room : ℕ → ℕ → ℕ → ℕ → Type 0
-Room m by d l = by + d + 65536 * l + big m ≤ 1099511627776
+Room m by d l = by + d + 65536 * l + big m ≤ 2147483648
 
--- room for what is pending: at most a row's number of entries, and more for arguments
-abbrev pub Spare : ℕ → ℕ → ℕ → ℕ → ℕ → Type 0
-Spare m l r a b = (l + room m < a) × (r < b) × (a ≤ 65536) × (b ≤ 65536)
+-- room for what is pending on both sides, in n words: at most a row's number of entries, and more for arguments
+abbrev pub Spare : ℕ → ℕ → ℕ → ℕ → Type 0
+Spare m l r n = (l + r + room m < n) × (n ≤ 32768)

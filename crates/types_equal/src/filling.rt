@@ -2,7 +2,10 @@
 // the filled type. The stack of a closed code type is seen at once to stay as it is where the arguments are the variables that they fill,
 // as where a block jumps on with its own variables.
 // Promised: that the filled type is the other (`filled` and `same` of crate types), and that no argument is of the wrong kind where it
-// fills. Asked: that there are at most 514 rows, and that a row called closed is.
+// fills. Asked: that there are at most 514 rows, that a row called closed is, and 1,543 words for what is pending.
+use crate::stack_pairs::Context;
+use crate::value_pairs::Bodies;
+use crate::value_pairs::Span;
 use types_rows::Val;
 ghost use mathlib.Core.Path.{_≡_};
 ghost use mathlib.Core.Bool.{true};
@@ -83,31 +86,35 @@ fn is_kept(
     all_themselves(rows, parts, p + 9 + (a - args.len()), args)
 }
 
-// Stack x of a code type, with a letters behind its registers at p, filled by args is stack y under b letters.
+// The stack of the left of two code types, with a letters, filled by args is that of the right one, under b letters.
 fn eq_filled(
     rows: &[u16],
     parts: &[u16],
     args: &[u16],
     closed: bool,
     a: usize,
-    x: usize,
-    p: usize,
     b: usize,
-    y: usize,
-    left: &mut [usize],
-    right: &mut [usize],
+    c: Bodies,
+    pending: &mut [u32],
 ) -> bool
-    requires { ⌜ Tabled (tab (now rows) (now parts)) (now args) (length (now args)) x y × (p ≤ 65535) × (a ≤ 65535) × (b ≤ 65535) × (a ≡ getD (now parts) (p + 8) 0) × (length (now args) ≤ a) × Spare (length (now args)) x y (length (now left)) (length (now right)) × (closed ≡ true → Wf (lettersAt (now parts) p) aStack (meanS (tab (now rows) (now parts)) x)) ⌝ }
-    ensures { λ out. ⌜ out ≡ sameStacks (tab (now (rows .entry)) (now (parts .entry))) (argsOf (tab (now (rows .entry)) (now (parts .entry))) (now (args .entry)) (length (now (args .entry)))) 0 (a - length (now (args .entry))) x 0 b y ⌝ }
+    requires { ⌜ Tabled (tab (now rows) (now parts)) (now args) (length (now args)) (c .x) (c .y) × (c .p ≤ 65535) × (a ≤ 65535) × (b ≤ 65535) × (a ≡ getD (now parts) (c .p + 8) 0) × (length (now args) ≤ a) × Spare (length (now args)) (c .x) (c .y) (length (now pending)) × (closed ≡ true → Wf (lettersAt (now parts) (c .p)) aStack (meanS (tab (now rows) (now parts)) (c .x))) ⌝ }
+    ensures { λ out. ⌜ out ≡ sameStacks (tab (now (rows .entry)) (now (parts .entry))) (argsOf (tab (now (rows .entry)) (now (parts .entry))) (now (args .entry)) (length (now (args .entry)))) 0 (a - length (now (args .entry))) (c .x) 0 b (c .y) ⌝ }
 {
-    if is_kept(rows, parts, args, closed, a, x, p, y) {
+    if is_kept(rows, parts, args, closed, a, c.x, c.p, c.y) {
         return true;
     }
     let m = args.len();
-    crate::eq_stack(rows, parts, args, m, 0, a - m, x, 0, b, y, left, right)
+    let k = Context {
+        m: m as u32,
+        by: 0,
+        d: (a - m) as u32,
+        by2: 0,
+        d2: b as u32,
+    };
+    crate::eq_stack(rows, parts, args, k, c.x, c.y, pending)
 }
 
-// The code type of row l with the stack x and its registers at p, filled by args, is that of row r with y and q.
+// The code type of row l, filled by args, is that of row r, of the given bodies.
 fn fill_code(
     rows: &[u16],
     parts: &[u16],
@@ -115,42 +122,34 @@ fn fill_code(
     closed: bool,
     l: usize,
     r: usize,
-    x: usize,
-    p: usize,
-    y: usize,
-    q: usize,
-    left: &mut [usize],
-    right: &mut [usize],
+    c: Bodies,
+    pending: &mut [u32],
 ) -> bool
-    requires { ⌜ Tabled (tab (now rows) (now parts)) (now args) (length (now args)) l r × (x < l) × (p ≤ 65535) × (y < r) × (q ≤ 65535) × Spare (length (now args)) l r (length (now left)) (length (now right)) × (closed ≡ true → Wf [] aStack (codeOf (tab (now rows) (now parts)) l x p)) ⌝ }
-    ensures { λ out. ⌜ out ≡ fillCodes (tab (now (rows .entry)) (now (parts .entry))) (now (args .entry)) l x p r y q ⌝ }
+    requires { ⌜ Tabled (tab (now rows) (now parts)) (now args) (length (now args)) l r × (c .x < l) × (c .p ≤ 65535) × (c .y < r) × (c .q ≤ 65535) × Spare (length (now args)) l r (length (now pending)) × (closed ≡ true → Wf [] aStack (codeOf (tab (now rows) (now parts)) l (c .x) (c .p))) ⌝ }
+    ensures { λ out. ⌜ out ≡ fillCodes (tab (now (rows .entry)) (now (parts .entry))) (now (args .entry)) l (c .x) (c .p) r (c .y) (c .q) ⌝ }
 {
     let m = args.len();
-    let a = types_rows::letter_count(parts, p);
-    let b = types_rows::letter_count(parts, q);
+    let a = types_rows::letter_count(parts, c.p);
+    let b = types_rows::letter_count(parts, c.q);
     if a < m {
         return false;
     }
-    if crate::value_pairs::same_letters(parts, p + 9, a - m, q + 9, b) {
-        if eq_filled(rows, parts, args, closed, a, x, p, b, y, left, right) {
-            return crate::eq_parts(
-                rows,
-                parts,
-                args,
-                m,
-                0,
-                a - m,
-                l,
-                0,
-                b,
-                r,
-                true,
-                p,
-                q,
-                8,
-                left,
-                right,
-            );
+    if crate::value_pairs::same_letters(parts, c.p + 9, a - m, c.q + 9, b) {
+        if eq_filled(rows, parts, args, closed, a, b, c, pending) {
+            let k = Context {
+                m: m as u32,
+                by: 0,
+                d: (a - m) as u32,
+                by2: 0,
+                d2: b as u32,
+            };
+            let s = Span {
+                file: true,
+                p: c.p as u32,
+                q: c.q as u32,
+                n: 8,
+            };
+            return crate::eq_parts(rows, parts, args, k, l, r, s, pending);
         }
         return false;
     }
@@ -159,7 +158,7 @@ fn fill_code(
 
 // The code type of row c, of n rows, its first variables filled by the rows args (in the order of their variables), is the type of row t.
 // False if c is no code row, if there are more arguments than letters, or if an argument of the wrong kind would fill a variable.
-// `closed`: row c is known to have no free variable.
+// `closed`: row c is known to have no free variable. The first 1,543 words of `pending` are used; what they hold does not matter.
 pub fn filled(
     rows: &[u16],
     parts: &[u16],
@@ -168,8 +167,9 @@ pub fn filled(
     closed: bool,
     args: &[u16],
     t: usize,
+    pending: &mut [u32],
 ) -> bool
-    requires { ⌜ (n ≤ 514) × (allBelow n (now args) ≡ true) × (closed ≡ true → Wf [] aStack (typeAt value (typesOf (rowsIn (tab (now rows) (now parts)) n)) c)) ⌝ }
+    requires { ⌜ (n ≤ 514) × (allBelow n (now args) ≡ true) × (closed ≡ true → Wf [] aStack (typeAt value (typesOf (rowsIn (tab (now rows) (now parts)) n)) c)) × (1543 ≤ length (now pending)) ⌝ }
     ensures { λ out. ⌜ out ≡ fillsTo (map (λ (x : ℕ). getD (typesOf (rowsIn (tab (now (rows .entry)) (now (parts .entry))) n)) x (arg value junk)) (now (args .entry))) (typeAt value (typesOf (rowsIn (tab (now (rows .entry)) (now (parts .entry))) n)) c) (typeAt value (typesOf (rowsIn (tab (now (rows .entry)) (now (parts .entry))) n)) t) ⌝ }
 {
     let l = crate::link_of(n, c);
@@ -182,20 +182,6 @@ pub fn filled(
     let Val::Code(y, q) = w else {
         return false;
     };
-    let mut left = [0usize; 1030];
-    let mut right = [0usize; 516];
-    fill_code(
-        rows,
-        parts,
-        args,
-        closed,
-        l,
-        r,
-        x,
-        p,
-        y,
-        q,
-        &mut left,
-        &mut right,
-    )
+    let b = Bodies { x, p, y, q };
+    fill_code(rows, parts, args, closed, l, r, b, &mut pending[..1543])
 }

@@ -3,16 +3,19 @@
 // value rows, filling the filled types). The left row stands in a context: some of its variables are filled by argument rows, the others
 // are raised. The right row is only raised. Value rows and stack rows are compared by rules that call each other; the row number falls. The
 // same row in the same context is seen at once to be equal. Promised: the test `same` of crate types of the two types, and that no argument
-// is of the wrong kind where it fills. Asked: that there are at most 514 rows, which bounds what is pending. Row numbers are links, as in
-// crate types_rows.
+// is of the wrong kind where it fills. Asked: that there are at most 514 rows, which bounds what is pending, and 1,543 words for what is
+// pending, whatever they hold. Row numbers are links, as in crate types_rows.
 pub mod filling;
 pub mod pending;
 pub mod stack_pairs;
 pub mod value_pairs;
 
+use crate::stack_pairs::Context;
 use crate::stack_pairs::Duo;
+use crate::value_pairs::Bodies;
 use crate::value_pairs::Heads;
 use crate::value_pairs::Pair;
+use crate::value_pairs::Span;
 ghost use mathlib.Core.Path.{_≡_};
 ghost use Prim.Native.Nat.{_+_, _*_, _≤_, _<_};
 ghost use lib.ListN.{length};
@@ -24,29 +27,24 @@ ghost use Rattle.types_rows.specs.Read.{tab, lower, argsOf};
 ghost use Rattle.types_equal.specs.Bounds.{Room, Spare, Tabled, big};
 ghost use Rattle.types_equal.specs.stack_pairs.Fit.{fitValues, fitCodes, fitParts, sameStacks};
 
-// Value row l, its first m variables past d filled by the rows args and later ones raised by `by`, equals value row r, raised by by2 past d2.
+// Value row l in its context equals value row r in its own.
 fn eq_value(
     rows: &[u16],
     parts: &[u16],
     args: &[u16],
-    m: usize,
-    by: usize,
-    d: usize,
+    k: Context,
     l: usize,
-    by2: usize,
-    d2: usize,
     r: usize,
-    left: &mut [usize],
-    right: &mut [usize],
+    pending: &mut [u32],
 ) -> bool
-    requires { ⌜ Tabled (tab (now rows) (now parts)) (now args) m l r × Room m by d l × Room 0 by2 d2 r × Spare m l r (length (now left)) (length (now right)) ⌝ }
-    ensures { λ out. ⌜ out ≡ fitValues (tab (now (rows .entry)) (now (parts .entry))) (argsOf (tab (now (rows .entry)) (now (parts .entry))) (now (args .entry)) m) by d l by2 d2 r ⌝ }
+    requires { ⌜ Tabled (tab (now rows) (now parts)) (now args) (k .m) l r × Room (k .m) (k .by) (k .d) l × Room 0 (k .by2) (k .d2) r × Spare (k .m) l r (length (now pending)) ⌝ }
+    ensures { λ out. ⌜ out ≡ fitValues (tab (now (rows .entry)) (now (parts .entry))) (argsOf (tab (now (rows .entry)) (now (parts .entry))) (now (args .entry)) (k .m)) (k .by) (k .d) l (k .by2) (k .d2) r ⌝ }
 {
-    if crate::stack_pairs::same_place(m, by, d, l, by2, d2, r) {
+    if crate::stack_pairs::same_place(k, l, r) {
         return true;
     }
-    let v = types_rows::read_value(rows, l, m, by, d);
-    let w = types_rows::read_value(rows, r, 0, by2, d2);
+    let v = types_rows::read_value(rows, l, k.m as usize, k.by as usize, k.d as usize);
+    let w = types_rows::read_value(rows, r, 0, k.by2 as usize, k.d2 as usize);
     let p = crate::value_pairs::pair_up(v, w);
     match p {
         Pair::Same => true,
@@ -56,133 +54,89 @@ fn eq_value(
             if types_rows::is_stack(rows, a) {
                 return false;
             }
-            eq_value(rows, parts, args, 0, d, 0, a + 1, by2, d2, r, left, right)
+            let g = Context {
+                m: 0,
+                by: k.d,
+                d: 0,
+                by2: k.by2,
+                d2: k.d2,
+            };
+            eq_value(rows, parts, args, g, a + 1, r, pending)
         }
-        Pair::Tuples(a, b, c) => eq_parts(
-            rows,
-            parts,
-            args,
-            m,
-            by,
-            d,
-            l,
-            by2,
-            d2,
-            r,
-            false,
-            a,
-            b,
-            c,
-            left,
-            right,
-        ),
-        Pair::Pointers(x, y) => eq_stack(rows, parts, args, m, by, d, x, by2, d2, y, left, right),
-        Pair::Codes(x, a, y, b) => eq_code(
-            rows,
-            parts,
-            args,
-            m,
-            by,
-            d,
-            l,
-            by2,
-            d2,
-            r,
-            x,
-            a,
-            y,
-            b,
-            left,
-            right,
-        ),
+        Pair::Tuples(p, q, n) => {
+            let s = Span {
+                file: false,
+                p: p as u32,
+                q: q as u32,
+                n: n as u32,
+            };
+            eq_parts(rows, parts, args, k, l, r, s, pending)
+        }
+        Pair::Pointers(x, y) => eq_stack(rows, parts, args, k, x, y, pending),
+        Pair::Codes(x, p, y, q) => {
+            let c = Bodies { x, p, y, q };
+            eq_code(rows, parts, args, k, l, r, c, pending)
+        }
     }
 }
 
-// The code type of row l with the stack x and its registers at p equals that of row r with y and q.
+// The code type of row l equals that of row r, of the given bodies.
 fn eq_code(
     rows: &[u16],
     parts: &[u16],
     args: &[u16],
-    m: usize,
-    by: usize,
-    d: usize,
+    k: Context,
     l: usize,
-    by2: usize,
-    d2: usize,
     r: usize,
-    x: usize,
-    p: usize,
-    y: usize,
-    q: usize,
-    left: &mut [usize],
-    right: &mut [usize],
+    c: Bodies,
+    pending: &mut [u32],
 ) -> bool
-    requires { ⌜ Tabled (tab (now rows) (now parts)) (now args) m l r × Room m by d l × Room 0 by2 d2 r × (x < l) × (p ≤ 65535) × (y < r) × (q ≤ 65535) × Spare m l r (length (now left)) (length (now right)) ⌝ }
-    ensures { λ out. ⌜ out ≡ fitCodes (tab (now (rows .entry)) (now (parts .entry))) (argsOf (tab (now (rows .entry)) (now (parts .entry))) (now (args .entry)) m) by d l x p by2 d2 r y q ⌝ }
+    requires { ⌜ Tabled (tab (now rows) (now parts)) (now args) (k .m) l r × Room (k .m) (k .by) (k .d) l × Room 0 (k .by2) (k .d2) r × (c .x < l) × (c .p ≤ 65535) × (c .y < r) × (c .q ≤ 65535) × Spare (k .m) l r (length (now pending)) ⌝ }
+    ensures { λ out. ⌜ out ≡ fitCodes (tab (now (rows .entry)) (now (parts .entry))) (argsOf (tab (now (rows .entry)) (now (parts .entry))) (now (args .entry)) (k .m)) (k .by) (k .d) l (c .x) (c .p) (k .by2) (k .d2) r (c .y) (c .q) ⌝ }
 {
-    let a = types_rows::letter_count(parts, p);
-    let b = types_rows::letter_count(parts, q);
-    if crate::value_pairs::same_letters(parts, p + 9, a, q + 9, b) {
-        if eq_stack(
-            rows,
-            parts,
-            args,
-            m,
-            by,
-            a + d,
-            x,
-            by2,
-            b + d2,
-            y,
-            left,
-            right,
-        ) {
-            return eq_parts(
-                rows,
-                parts,
-                args,
-                m,
-                by,
-                a + d,
-                l,
-                by2,
-                b + d2,
-                r,
-                true,
-                p,
-                q,
-                8,
-                left,
-                right,
-            );
+    let a = types_rows::letter_count(parts, c.p);
+    let b = types_rows::letter_count(parts, c.q);
+    if crate::value_pairs::same_letters(parts, c.p + 9, a, c.q + 9, b) {
+        let t = Context {
+            m: k.m,
+            by: k.by,
+            d: (a + k.d as usize) as u32,
+            by2: k.by2,
+            d2: (b + k.d2 as usize) as u32,
+        };
+        if eq_stack(rows, parts, args, t, c.x, c.y, pending) {
+            let s = Span {
+                file: true,
+                p: c.p as u32,
+                q: c.q as u32,
+                n: 8,
+            };
+            return eq_parts(rows, parts, args, t, l, r, s, pending);
         }
         return false;
     }
     false
 }
 
-// The n parts of row l at p equal those of row r at q: registers if `file`, else components.
+// The parts of row l equal those of row r, of the given span.
 pub(crate) fn eq_parts(
     rows: &[u16],
     parts: &[u16],
     args: &[u16],
-    m: usize,
-    by: usize,
-    d: usize,
+    k: Context,
     l: usize,
-    by2: usize,
-    d2: usize,
     r: usize,
-    file: bool,
-    p: usize,
-    q: usize,
-    n: usize,
-    left: &mut [usize],
-    right: &mut [usize],
+    s: Span,
+    pending: &mut [u32],
 ) -> bool
-    requires { ⌜ Tabled (tab (now rows) (now parts)) (now args) m l r × (by + d + 65536 * l + big m ≤ 1099511693312) × (by2 + d2 + 65536 * r ≤ 1099511693312) × (0 < l) × (0 < r) × (n ≤ 65535) × (p + n ≤ 131072) × (q + n ≤ 131072) × Spare m l r (length (now left)) (length (now right)) ⌝ }
-    ensures { λ out. ⌜ out ≡ fitParts (tab (now (rows .entry)) (now (parts .entry))) (argsOf (tab (now (rows .entry)) (now (parts .entry))) (now (args .entry)) m) by d file l p by2 d2 r q n ⌝ }
+    requires { ⌜ Tabled (tab (now rows) (now parts)) (now args) (k .m) l r × (k .by + k .d + 65536 * l + big (k .m) ≤ 2147549184) × (k .by2 + k .d2 + 65536 * r ≤ 2147549184) × (0 < l) × (0 < r) × (s .n ≤ 65535) × (s .p + s .n ≤ 131072) × (s .q + s .n ≤ 131072) × Spare (k .m) l r (length (now pending)) ⌝ }
+    ensures { λ out. ⌜ out ≡ fitParts (tab (now (rows .entry)) (now (parts .entry))) (argsOf (tab (now (rows .entry)) (now (parts .entry))) (now (args .entry)) (k .m)) (k .by) (k .d) (s .file) l (s .p) (k .by2) (k .d2) r (s .q) (s .n) ⌝ }
 {
+    // The loop's invariant speaks of locals, and of no parameter that is a struct.
+    let file = s.file;
+    let p = s.p as usize;
+    let q = s.q as usize;
+    let n = s.n as usize;
     let mut i = 0;
     while i < n {
         let h = crate::value_pairs::two_slots(
@@ -194,7 +148,7 @@ pub(crate) fn eq_parts(
                 return false;
             }
             Heads::Both(t, u) => {
-                if !eq_value(rows, parts, args, m, by, d, t, by2, d2, u, left, right) {
+                if !eq_value(rows, parts, args, k, t, u, pending) {
                     return false;
                 }
             }
@@ -204,33 +158,29 @@ pub(crate) fn eq_parts(
     true
 }
 
-// Stack row l in its context equals stack row r. The rows still to be read stand in `left` and `right`.
+// Stack row l in its context equals stack row r. The rows still to be read stand in `pending`; what is compared on the way uses the words
+// behind them.
 pub(crate) fn eq_stack(
     rows: &[u16],
     parts: &[u16],
     args: &[u16],
-    m: usize,
-    by: usize,
-    d: usize,
+    k: Context,
     l: usize,
-    by2: usize,
-    d2: usize,
     r: usize,
-    left: &mut [usize],
-    right: &mut [usize],
+    pending: &mut [u32],
 ) -> bool
-    requires { ⌜ Tabled (tab (now rows) (now parts)) (now args) m l r × Room m by d l × Room 0 by2 d2 r × Spare m l r (length (now left)) (length (now right)) ⌝ }
-    ensures { λ out. ⌜ out ≡ sameStacks (tab (now (rows .entry)) (now (parts .entry))) (argsOf (tab (now (rows .entry)) (now (parts .entry))) (now (args .entry)) m) by d l by2 d2 r ⌝ }
+    requires { ⌜ Tabled (tab (now rows) (now parts)) (now args) (k .m) l r × Room (k .m) (k .by) (k .d) l × Room 0 (k .by2) (k .d2) r × Spare (k .m) l r (length (now pending)) ⌝ }
+    ensures { λ out. ⌜ out ≡ sameStacks (tab (now (rows .entry)) (now (parts .entry))) (argsOf (tab (now (rows .entry)) (now (parts .entry))) (now (args .entry)) (k .m)) (k .by) (k .d) l (k .by2) (k .d2) r ⌝ }
 {
-    if crate::stack_pairs::same_stack(rows, args, m, by, d, l, by2, d2, r) {
+    if crate::stack_pairs::same_stack(rows, args, k, l, r) {
         return true;
     }
-    left[0] = l;
-    right[0] = r;
+    crate::pending::store(pending, false, 0, l);
+    crate::pending::store(pending, true, 0, r);
     let mut i = 1;
     let mut j = 1;
     loop {
-        let s = crate::stack_pairs::next_pair(rows, args, m, by, d, left, i, by2, d2, right, j);
+        let s = crate::stack_pairs::next_pair(rows, args, k, pending, i, j);
         match s {
             Duo::Over => {
                 return true;
@@ -244,20 +194,8 @@ pub(crate) fn eq_stack(
                 continue;
             }
             Duo::OwnTwo(t, a, u, b) => {
-                if !eq_value(
-                    rows,
-                    parts,
-                    args,
-                    m,
-                    by,
-                    d,
-                    t,
-                    by2,
-                    d2,
-                    u,
-                    &mut left[a..],
-                    &mut right[b..],
-                ) {
+                let e = crate::stack_pairs::greater(a, b);
+                if !eq_value(rows, parts, args, k, t, u, &mut pending[e..]) {
                     return false;
                 }
                 i = a;
@@ -265,20 +203,15 @@ pub(crate) fn eq_stack(
                 continue;
             }
             Duo::GivenTwo(t, a, u, b) => {
-                if !eq_value(
-                    rows,
-                    parts,
-                    args,
-                    0,
-                    d,
-                    0,
-                    t,
-                    by2,
-                    d2,
-                    u,
-                    &mut left[a..],
-                    &mut right[b..],
-                ) {
+                let e = crate::stack_pairs::greater(a, b);
+                let g = Context {
+                    m: 0,
+                    by: k.d,
+                    d: 0,
+                    by2: k.by2,
+                    d2: k.d2,
+                };
+                if !eq_value(rows, parts, args, g, t, u, &mut pending[e..]) {
                     return false;
                 }
                 i = a;
@@ -300,52 +233,50 @@ pub(crate) fn link_of(n: usize, x: usize) -> usize
     0
 }
 
-// The value types of rows l and r, of n rows, are equal.
-pub fn equal_values(rows: &[u16], parts: &[u16], n: usize, l: usize, r: usize) -> bool
-    requires { ⌜ n ≤ 514 ⌝ }
+// The value types of rows l and r, of n rows, are equal. The first 1,543 words of `pending` are used; what they hold does not matter.
+pub fn equal_values(
+    rows: &[u16],
+    parts: &[u16],
+    n: usize,
+    l: usize,
+    r: usize,
+    pending: &mut [u32],
+) -> bool
+    requires { ⌜ (n ≤ 514) × (1543 ≤ length (now pending)) ⌝ }
     ensures { λ out. ⌜ out ≡ same (typeAt value (typesOf (rowsIn (tab (now (rows .entry)) (now (parts .entry))) n)) l) (typeAt value (typesOf (rowsIn (tab (now (rows .entry)) (now (parts .entry))) n)) r) ⌝ }
 {
     let x = link_of(n, l);
     let y = link_of(n, r);
-    let mut left = [0usize; 516];
-    let mut right = [0usize; 516];
-    eq_value(
-        rows,
-        parts,
-        rows,
-        0,
-        0,
-        0,
-        x,
-        0,
-        0,
-        y,
-        &mut left,
-        &mut right,
-    )
+    let k = Context {
+        m: 0,
+        by: 0,
+        d: 0,
+        by2: 0,
+        d2: 0,
+    };
+    eq_value(rows, parts, rows, k, x, y, &mut pending[..1543])
 }
 
-// The stack types of rows l and r, of n rows, are equal.
-pub fn equal_stacks(rows: &[u16], parts: &[u16], n: usize, l: usize, r: usize) -> bool
-    requires { ⌜ n ≤ 514 ⌝ }
+// The stack types of rows l and r, of n rows, are equal. The first 1,543 words of `pending` are used; what they hold does not matter.
+pub fn equal_stacks(
+    rows: &[u16],
+    parts: &[u16],
+    n: usize,
+    l: usize,
+    r: usize,
+    pending: &mut [u32],
+) -> bool
+    requires { ⌜ (n ≤ 514) × (1543 ≤ length (now pending)) ⌝ }
     ensures { λ out. ⌜ out ≡ same (typeAt stack (typesOf (rowsIn (tab (now (rows .entry)) (now (parts .entry))) n)) l) (typeAt stack (typesOf (rowsIn (tab (now (rows .entry)) (now (parts .entry))) n)) r) ⌝ }
 {
     let x = link_of(n, l);
     let y = link_of(n, r);
-    let mut left = [0usize; 516];
-    let mut right = [0usize; 516];
-    eq_stack(
-        rows,
-        parts,
-        rows,
-        0,
-        0,
-        0,
-        x,
-        0,
-        0,
-        y,
-        &mut left,
-        &mut right,
-    )
+    let k = Context {
+        m: 0,
+        by: 0,
+        d: 0,
+        by2: 0,
+        d2: 0,
+    };
+    eq_stack(rows, parts, rows, k, x, y, &mut pending[..1543])
 }

@@ -1,17 +1,19 @@
 // A stack row read from the top, item by item, each row that it leads to once (crate types_rows says what a row means in its context). The
-// rows still to be read stand in a lent array, the next one on top; an argument that fills a variable is read in its place. Rows fall, so
-// one entry more than the link of the first row is enough, and 514 more if there are arguments. Promised: what is pending is the next item
-// and what is pending then (`NextIs`). Asked: that the array is as long as said.
+// rows still to be read stand in a lent array, the next one on top; an argument that fills a variable is read in its place. The array holds
+// two such lists, the left one in the low 16 bits of its words, the right one in the high 16 bits. Rows fall, so one entry more than the
+// link of the first row is enough, and 514 more if there are arguments. Promised: what is pending is the next item and what is pending then
+// (`NextIs`), and the other list stays as it is. Asked: that the array is as long as said.
 use types_rows::Stk;
 ghost use mathlib.Core.Path.{_≡_};
+ghost use mathlib.Core.Bool.{not};
 ghost use mathlib.Core.List.{List, []};
 ghost use Prim.Native.Nat.{ℕ, suc, _+_, _-_, _≤_, _<_};
-ghost use lib.ListN.{length, getD};
+ghost use lib.ListN.{length, getD, set};
 ghost use Rattle.types_rows.specs.Read.{tab, argsOf, stackAt, placeS};
-ghost use Rattle.types_equal.specs.pending.Pending.{room, Pends, Givens, argForm, givenForm, FormOf, NextIs};
+ghost use Rattle.types_equal.specs.pending.Pending.{half, side, room, Pends, Givens, argForm, givenForm, FormOf, NextIs};
 
 // Entries from here on are rows of an argument.
-const GIVEN: usize = 65537;
+const GIVEN: usize = 32768;
 
 // What an entry leads to: no items; another entry; two; a value row on top of an entry, in the context or of an argument; a variable.
 // `Misfit`: an argument of the wrong kind would fill a variable.
@@ -48,7 +50,7 @@ fn arg_form(rows: &[u16], a: usize) -> Form
 // Stack row h of an argument, raised by d.
 fn given_form(rows: &[u16], d: usize, h: usize) -> Form
     requires { ⌜ (h ≤ 65536) × (d ≤ 1099511627776) ⌝ }
-    ensures { λ out. ⌜ ((ps : List ℕ) (args : List ℕ) (m by : ℕ) → h ≤ 514 → FormOf (tab (now (rows .entry)) ps) (argsOf (tab (now (rows .entry)) ps) args m) by d m (65537 + h) out) ⌝ }
+    ensures { λ out. ⌜ ((ps : List ℕ) (args : List ℕ) (m by : ℕ) → h ≤ 514 → FormOf (tab (now (rows .entry)) ps) (argsOf (tab (now (rows .entry)) ps) args m) by d m (32768 + h) out) ⌝ }
 {
     let s = types_rows::read_stack(rows, h, 0, d, 0);
     match s {
@@ -62,7 +64,7 @@ fn given_form(rows: &[u16], d: usize, h: usize) -> Form
 
 // Stack row h in its context.
 fn own_form(rows: &[u16], args: &[u16], m: usize, by: usize, d: usize, h: usize) -> Form
-    requires { ⌜ (h ≤ 65536) × (by + d ≤ 1099511627776) × Givens (now args) m ⌝ }
+    requires { ⌜ (h ≤ 32767) × (by + d ≤ 1099511627776) × Givens (now args) m ⌝ }
     ensures { λ out. ⌜ ((ps : List ℕ) → FormOf (tab (now (rows .entry)) ps) (argsOf (tab (now (rows .entry)) ps) (now (args .entry)) m) by d m h out) ⌝ }
 {
     let s = types_rows::read_stack(rows, h, m, by, d);
@@ -80,7 +82,7 @@ fn own_form(rows: &[u16], args: &[u16], m: usize, by: usize, d: usize, h: usize)
 
 // Entry e.
 fn form_of(rows: &[u16], args: &[u16], m: usize, by: usize, d: usize, e: usize) -> Form
-    requires { ⌜ (e ≤ 66051) × (by + d ≤ 1099511627776) × Givens (now args) m ⌝ }
+    requires { ⌜ (e ≤ 33282) × (by + d ≤ 1099511627776) × Givens (now args) m ⌝ }
     ensures { λ out. ⌜ ((ps : List ℕ) → FormOf (tab (now (rows .entry)) ps) (argsOf (tab (now (rows .entry)) ps) (now (args .entry)) m) by d m e out) ⌝ }
 {
     if e < GIVEN {
@@ -89,43 +91,82 @@ fn form_of(rows: &[u16], args: &[u16], m: usize, by: usize, d: usize, e: usize) 
     given_form(rows, d, e - GIVEN)
 }
 
-// The next item of the first `top` entries pending.
+// The left half of word w, or the right one.
+fn half_of(w: u32, right: bool) -> usize
+    ensures { λ out. ⌜ out ≡ half right w ⌝ }
+{
+    if right {
+        return (w / 65536) as usize;
+    }
+    (w % 65536) as usize
+}
+
+// Entry n of the left list, or of the right one.
+fn entry(pending: &[u32], right: bool, n: usize) -> usize
+    requires { ⌜ n < length (now pending) ⌝ }
+    ensures { λ out. ⌜ out ≡ getD (side right (now (pending .entry))) n 0 ⌝ }
+{
+    half_of(pending[n], right)
+}
+
+// Word w with x for its left or right half.
+fn with_half(w: u32, right: bool, x: u32) -> u32
+    requires { ⌜ x ≤ 65535 ⌝ }
+    ensures { λ out. ⌜ (half right out ≡ x) × (half (not right) out ≡ half (not right) w) ⌝ }
+{
+    if right {
+        return w % 65536 + x * 65536;
+    }
+    w / 65536 * 65536 + x
+}
+
+// Stores x as entry n of the left list, or of the right one; the other list stays as it is.
+pub(crate) fn store(pending: &mut [u32], right: bool, n: usize, x: usize)
+    requires { ⌜ (n < length (now pending)) × (x ≤ 65535) ⌝ }
+    ensures { λ _. ⌜ (side right (now (pending .exit)) ≡ set (side right (now (pending .entry))) n x) × (side (not right) (now (pending .exit)) ≡ side (not right) (now (pending .entry))) ⌝ }
+{
+    let w = with_half(pending[n], right, x as u32);
+    pending[n] = w;
+}
+
+// The next item of the first `top` entries pending in the left list, or in the right one; the other list stays as it is.
 pub(crate) fn next_item(
     rows: &[u16],
     args: &[u16],
     m: usize,
     by: usize,
     d: usize,
-    pending: &mut [usize],
+    pending: &mut [u32],
+    right: bool,
     top: usize,
 ) -> Next
-    requires { ⌜ (by + d ≤ 1099511627776) × Givens (now args) m × (room m < length (now pending)) × (length (now pending) ≤ 65536) × Pends m (length (now pending) - suc (room m)) (now pending) top ⌝ }
-    ensures { λ out. ⌜ ((ps : List ℕ) → NextIs (tab (now (rows .entry)) ps) (argsOf (tab (now (rows .entry)) ps) (now (args .entry)) m) by d m (now (pending .entry)) top (now (pending .exit)) out) ⌝ }
+    requires { ⌜ (by + d ≤ 1099511627776) × Givens (now args) m × (room m < length (now pending)) × (length (now pending) ≤ 32768) × Pends m (length (now pending) - suc (room m)) (side right (now pending)) top ⌝ }
+    ensures { λ out. ⌜ ((ps : List ℕ) → NextIs (tab (now (rows .entry)) ps) (argsOf (tab (now (rows .entry)) ps) (now (args .entry)) m) by d m (side right (now (pending .entry))) top (side right (now (pending .exit))) out) × (side (not right) (now (pending .exit)) ≡ side (not right) (now (pending .entry))) ⌝ }
 {
     let mut n = top;
     while n > 0 {
-        let f = form_of(rows, args, m, by, d, pending[n - 1]);
+        let f = form_of(rows, args, m, by, d, entry(pending, right, n - 1));
         match f {
             Form::Skip => {
                 n -= 1;
                 continue;
             }
             Form::One(x) => {
-                pending[n - 1] = x;
+                store(pending, right, n - 1, x);
                 continue;
             }
             Form::Two(x, y) => {
-                pending[n - 1] = y;
-                pending[n] = x;
+                store(pending, right, n - 1, y);
+                store(pending, right, n, x);
                 n += 1;
                 continue;
             }
             Form::OwnTop(t, x) => {
-                pending[n - 1] = x;
+                store(pending, right, n - 1, x);
                 return Next::OwnNext(t, n);
             }
             Form::GivenTop(t, x) => {
-                pending[n - 1] = x;
+                store(pending, right, n - 1, x);
                 return Next::GivenNext(t, n);
             }
             Form::VarTop(k) => {

@@ -5,16 +5,26 @@
 use crate::pending::Next;
 use types_rows::Stk;
 ghost use mathlib.Core.Path.{_≡_};
-ghost use mathlib.Core.Bool.{true, cond};
+ghost use mathlib.Core.Bool.{true, false, cond};
 ghost use mathlib.Core.List.{List};
 ghost use Prim.Native.Nat.{ℕ, suc, _+_, _-_, _≤_, _<_};
 ghost use lib.Dec.{eqb};
 ghost use lib.ListN.{length};
 ghost use Rattle.types_rows.specs.Read.{tab, argsOf};
-ghost use Rattle.types_equal.specs.pending.Pending.{room, Pends, Givens};
+ghost use Rattle.types_equal.specs.pending.Pending.{side, room, Pends, Givens};
 ghost use Rattle.types_equal.specs.declared.stack_pairs.Duo.the-variants.{Unlike, Onward};
 ghost use Rattle.types_equal.specs.stack_pairs.Items.{endWith, ownWith, givenWith, varWith, duoOf};
 ghost use Rattle.types_equal.specs.stack_pairs.Fit.{AtSame, sameStacks, DuoIs};
+
+// The context of the two sides: the first m variables of the left row past d are filled by arguments and later ones raised by `by`; the
+// variables of the right row past d2 are raised by by2. Of 32 bits each, since comparisons nest and each level keeps a copy.
+pub struct Context {
+    pub m: u32,
+    pub by: u32,
+    pub d: u32,
+    pub by2: u32,
+    pub d2: u32,
+}
 
 // What is left to compare of two stacks: nothing, they are equal; nothing, they are not; what is pending after an equal variable; two
 // value rows, the left one in its context or of an argument, each with what is pending behind it.
@@ -100,72 +110,85 @@ fn two_items(a: Next, b: Next) -> Duo
 pub(crate) fn next_pair(
     rows: &[u16],
     args: &[u16],
-    m: usize,
-    by: usize,
-    d: usize,
-    left: &mut [usize],
+    k: Context,
+    pending: &mut [u32],
     i: usize,
-    by2: usize,
-    d2: usize,
-    right: &mut [usize],
     j: usize,
 ) -> Duo
-    requires { ⌜ (by + d ≤ 1099511627776) × (by2 + d2 ≤ 1099511627776) × Givens (now args) m ⌝ }
-    requires { ⌜ (room m < length (now left)) × (length (now left) ≤ 65536) × Pends m (length (now left) - suc (room m)) (now left) i ⌝ }
-    requires { ⌜ (0 < length (now right)) × (length (now right) ≤ 65536) × Pends 0 (length (now right) - 1) (now right) j ⌝ }
-    ensures { λ out. ⌜ ((ps : List ℕ) → DuoIs (tab (now (rows .entry)) ps) (argsOf (tab (now (rows .entry)) ps) (now (args .entry)) m) m by d by2 d2 (now (left .entry)) i (now (right .entry)) j (now (left .exit)) (now (right .exit)) out) ⌝ }
+    requires { ⌜ (k .by + k .d ≤ 1099511627776) × (k .by2 + k .d2 ≤ 1099511627776) × Givens (now args) (k .m) × (room (k .m) < length (now pending)) × (length (now pending) ≤ 32768) × Pends (k .m) (length (now pending) - suc (room (k .m))) (side false (now pending)) i × Pends 0 (length (now pending) - 1) (side true (now pending)) j ⌝ }
+    ensures { λ out. ⌜ ((ps : List ℕ) → DuoIs (tab (now (rows .entry)) ps) (argsOf (tab (now (rows .entry)) ps) (now (args .entry)) (k .m)) (k .m) (k .by) (k .d) (k .by2) (k .d2) (side false (now (pending .entry))) i (side true (now (pending .entry))) j (side false (now (pending .exit))) (side true (now (pending .exit))) out) ⌝ }
 {
-    let a = crate::pending::next_item(rows, args, m, by, d, left, i);
-    let b = crate::pending::next_item(rows, args, 0, by2, d2, right, j);
+    let a = crate::pending::next_item(
+        rows,
+        args,
+        k.m as usize,
+        k.by as usize,
+        k.d as usize,
+        pending,
+        false,
+        i,
+    );
+    let b = crate::pending::next_item(
+        rows,
+        args,
+        0,
+        k.by2 as usize,
+        k.d2 as usize,
+        pending,
+        true,
+        j,
+    );
     two_items(a, b)
 }
 
 // The same row in the same context, with no arguments.
-pub(crate) fn same_place(
-    m: usize,
-    by: usize,
-    d: usize,
-    l: usize,
-    by2: usize,
-    d2: usize,
-    r: usize,
-) -> bool
-    ensures { λ out. ⌜ (out ≡ true → AtSame m by d l by2 d2 r) ⌝ }
+pub(crate) fn same_place(k: Context, l: usize, r: usize) -> bool
+    ensures { λ out. ⌜ (out ≡ true → AtSame (k .m) (k .by) (k .d) l (k .by2) (k .d2) r) ⌝ }
 {
     if l != r {
         return false;
     }
-    if m != 0 {
+    if k.m != 0 {
         return false;
     }
-    if by != by2 {
+    if k.by != k.by2 {
         return false;
     }
-    d == d2
+    k.d == k.d2
+}
+
+// The greater of two numbers.
+pub(crate) fn greater(a: usize, b: usize) -> usize
+    ensures { λ out. ⌜ (a ≤ out) × (b ≤ out) × ((c : ℕ) → a ≤ c → b ≤ c → out ≤ c) ⌝ }
+{
+    if a < b {
+        return b;
+    }
+    a
 }
 
 // Stack rows l and r are seen at once to be equal: the same row in the same context, also where l is a variable that an argument fills.
-pub(crate) fn same_stack(
-    rows: &[u16],
-    args: &[u16],
-    m: usize,
-    by: usize,
-    d: usize,
-    l: usize,
-    by2: usize,
-    d2: usize,
-    r: usize,
-) -> bool
-    requires { ⌜ (l ≤ 65536) × (by + d ≤ 1099511627776) ⌝ }
-    ensures { λ out. ⌜ (out ≡ true → (ps : List ℕ) → true ≡ sameStacks (tab (now (rows .entry)) ps) (argsOf (tab (now (rows .entry)) ps) (now (args .entry)) m) by d l by2 d2 r) ⌝ }
+pub(crate) fn same_stack(rows: &[u16], args: &[u16], k: Context, l: usize, r: usize) -> bool
+    requires { ⌜ (l ≤ 65536) × (k .by + k .d ≤ 1099511627776) ⌝ }
+    ensures { λ out. ⌜ (out ≡ true → (ps : List ℕ) → true ≡ sameStacks (tab (now (rows .entry)) ps) (argsOf (tab (now (rows .entry)) ps) (now (args .entry)) (k .m)) (k .by) (k .d) l (k .by2) (k .d2) r) ⌝ }
 {
-    let s = types_rows::read_stack(rows, l, m, by, d);
+    let s = types_rows::read_stack(rows, l, k.m as usize, k.by as usize, k.d as usize);
     let Stk::StkFill(j) = s else {
-        return same_place(m, by, d, l, by2, d2, r);
+        return same_place(k, l, r);
     };
     let a = types_rows::at(args, j);
     if types_rows::is_stack(rows, a) {
-        return same_place(0, d, 0, a + 1, by2, d2, r);
+        return same_place(
+            Context {
+                m: 0,
+                by: k.d,
+                d: 0,
+                by2: k.by2,
+                d2: k.d2,
+            },
+            a + 1,
+            r,
+        );
     }
     false
 }

@@ -24,6 +24,22 @@ pub enum Pair {
     Codes(usize, usize, usize, usize),
 }
 
+// Two code types: the stack x and where the registers start, p, of the left one, y and q of the right one.
+pub struct Bodies {
+    pub x: usize,
+    pub p: usize,
+    pub y: usize,
+    pub q: usize,
+}
+
+// n parts from p on the left and from q on the right: registers if `file`, else components.
+pub struct Span {
+    pub file: bool,
+    pub p: u32,
+    pub q: u32,
+    pub n: u32,
+}
+
 // What is left to compare of two parts: no row and no row for two gaps.
 pub enum Heads {
     Apart,

@@ -4,7 +4,6 @@
 // fault. Every read is total: past a table's end stands 0.
 use crate::row_refs::Part;
 use crate::row_refs::any_ref;
-use crate::row_refs::cell4;
 use crate::row_refs::code_ref;
 use crate::row_refs::list_fault;
 use crate::row_refs::lower;
@@ -46,14 +45,22 @@ fn cell8(s: &[u16], i: usize, k: usize) -> usize
     0
 }
 
-// A base of kind k with the number l; kinds from 2 on are labels.
-fn label_fault(nb: usize, k: usize, l: usize) -> usize
-    ensures { λ r. ⌜ r ≡ labelLeast nb k l ⌝ }
+// Entry k of operand v.
+fn operand_entry(operands: &[u16], v: usize, k: usize) -> usize
+    requires { ⌜ (v ≤ 131070) × (k < 4) ⌝ }
+    ensures { λ r. ⌜ (r ≡ cell 4 (now (operands .entry)) v k) × (r ≤ 65535) ⌝ }
+{
+    types_rows::at(operands, 4 * v + k)
+}
+
+// The base of operand v, of kind k; kinds from 2 on are labels.
+fn label_fault(nb: usize, k: usize, numbers: &[u32], v: usize) -> usize
+    ensures { λ r. ⌜ r ≡ labelLeast nb k (getD (now (numbers .entry)) v 0) ⌝ }
 {
     if k < 2 {
         return 0;
     }
-    any_ref(nb, l)
+    any_ref(nb, number_at(numbers, v))
 }
 
 // Operand v: its label, its arguments, its resulting row.
@@ -69,13 +76,17 @@ fn operand_fault(
     requires { ⌜ v ≤ 131070 ⌝ }
     ensures { λ r. ⌜ r ≡ operandsLeast (now (rows .entry)) n nb (operandAt (operandTable (now (operands .entry)) (now (numbers .entry)) (now (args .entry))) v ∷ []) ⌝ }
 {
-    let m = cell4(operands, v, 1);
-    let f = label_fault(nb, cell4(operands, v, 0), number_at(numbers, v));
+    let m = operand_entry(operands, v, 1);
+    let f = label_fault(nb, operand_entry(operands, v, 0), numbers, v);
     if m == 0 {
         return f;
     }
-    let g = list_fault(rows, n, Part::Argument, args, 8 * v, m);
-    lower(f, lower(g, code_ref(rows, n, cell4(operands, v, 2))))
+    let at = operand_entry(operands, v, 3);
+    let g = list_fault(rows, n, Part::Argument, args, at, m);
+    lower(
+        f,
+        lower(g, code_ref(rows, n, operand_entry(operands, v, 2))),
+    )
 }
 
 // Operands v to v + m - 1.

@@ -38,7 +38,7 @@ use Rattle.valid_verdict.proofs.finding.Laws.{refuses-none}
 use Rattle.valid_verdict.specs.Answers.{low, third, Answers}
 use Rattle.valid_verdict.specs.declared.Answer.{Answer}
 use Rattle.valid_verdict.specs.declared.Answer.the-variants.{Refused}
-use Rattle.valid_check.specs.Lent.{SharedFor, enough, AnswersIn}
+use Rattle.valid_check.specs.Lent.{SharedFor, AnswersIn}
 
 -- ---- counts
 module _ (T : List Arg) (β ι : List ℕ) (ω : OperandTable) (ni nb : ℕ) where
@@ -178,48 +178,9 @@ module _ (p : Places) (l l′ : List ℕ) (o : Ordered p (length l)) (w : Outsid
   pub shared-still : (n : ℕ) (τ : RowTable) → Shared (tab (rowSection p l) (partSection p l)) τ n → Shared (tab (rowSection p l′) (partSection p l′)) τ n
   shared-still n τ s = rw (kept (p .rows) (p .blocks) (o .rows) (omega arith), kept (p .parts) (p .operands) (o .parts) (omega arith)) s
 
--- ---- working memory that is long enough
-pub short-image : (i n p w : ℕ) → i < 259998 → false ≡ enough i n p w
-unfolding enough
-short-image i n p w h = let e : leb 259998 i ≡ false = lt-leb 259998 i h in rw e refl
-
-pub short-numbers : (i n p w : ℕ) → 259998 ≤ i → n < 16400 → false ≡ enough i n p w
-unfolding enough
-short-numbers i n p w g h =
-    let e : leb 259998 i ≡ true = le-leb 259998 i g in
-    let f : leb 16400 n ≡ false = lt-leb 16400 n h in
-    rw e (rw f refl)
-
-pub short-plan : (i n p w : ℕ) → 259998 ≤ i → 16400 ≤ n → p < 8208 → false ≡ enough i n p w
-unfolding enough
-short-plan i n p w a b h =
-    let e : leb 259998 i ≡ true = le-leb 259998 i a in
-    let f : leb 16400 n ≡ true = le-leb 16400 n b in
-    let g : leb 8208 p ≡ false = lt-leb 8208 p h in
-    rw e (rw f (rw g refl))
-
-pub by-work : (i n p w : ℕ) → 259998 ≤ i → 16400 ≤ n → 8208 ≤ p → leb 4096 w ≡ enough i n p w
-unfolding enough
-by-work i n p w a b c =
-    let e : leb 259998 i ≡ true = le-leb 259998 i a in
-    let f : leb 16400 n ≡ true = le-leb 16400 n b in
-    let g : leb 8208 p ≡ true = le-leb 8208 p c in
-    rw e (rw f (rw g refl))
-
-both : (a b : Bool) → a && b ≡ true → (a ≡ true) × (b ≡ true)
-both true b e = (refl, e)
-both false b e = absurd (true≢false (sym e))
-
-pub enough-is : (i n p w : ℕ) → enough i n p w ≡ true → (259998 ≤ i) × (16400 ≤ n) × (4096 ≤ w)
-unfolding enough
-enough-is i n p w e =
-    let a = both (leb 259998 i && leb 16400 n && leb 8208 p) (leb 4096 w) e in
-    let b = both (leb 259998 i && leb 16400 n) (leb 8208 p) (a .0) in
-    let c = both (leb 259998 i) (leb 16400 n) (b .0) in
-    (leb-true 259998 i (c .0), leb-true 16400 n (c .1), leb-true 4096 w (a .1))
-
+-- ---- working memory that is lent
 -- an image of that length has room for the rows once more
-pub shared-for : (i n : ℕ) → 259998 ≤ i → n ≤ 512 → SharedFor n (placesOf i)
+pub shared-for : (i n : ℕ) → 161694 ≤ i → n ≤ 512 → SharedFor n (placesOf i)
 shared-for i n g h = rw (large-shared i g) (record { rows = omega arith; parts = omega arith })
 
 -- the answer with working memory lent, by whether it is long enough

@@ -1,5 +1,5 @@
 // Check a program's text with working memory on the stack: a text of at most 2,048 bytes is tried in a small image, one that does not fit
-// it goes to the large one, some 620 KB. Promised: the answer of check. Nothing is asked.
+// it goes to the large one, some 400 KB. Promised: the answer of check. Nothing is asked.
 use crate::Tried;
 use crate::check_in;
 use valid_verdict::Answer;
@@ -12,24 +12,24 @@ ghost use Rattle.valid_verdict.specs.Answers.{Answers};
 // With an image for small texts. No text is as long as asked first, so the call there is not reached; by it the compiler sees a function that
 // calls itself, and keeps the stack that it takes out of the calls for large texts.
 fn small(text: &[u8], hash: &mut [u32], work: &mut [u16]) -> Tried
-    requires { ⌜ 4096 ≤ length (now work) ⌝ }
+    requires { ⌜ (4096 ≤ length (now work)) × (2567 ≤ length (now hash)) ⌝ }
     ensures { λ out. ⌜ (out .fits ≡ true → Answers (now (text .entry)) (out .answer)) ⌝ }
 {
     if 9223372036854775807 < text.len() {
         return small(text, hash, work);
     }
-    let mut image = [0u16; 6764];
-    let mut numbers = [0u32; 128];
+    let mut image = [0u16; 5162];
+    let mut numbers = [0u32; 96];
     check_in(text, &mut image, &mut numbers, hash, work)
 }
 
 // With an image for every text. The last call is not reached; by it the compiler sees a function that calls itself, and keeps it, and the
 // stack that it takes, out of the calls for small texts.
 fn large(text: &[u8], hash: &mut [u32], work: &mut [u16]) -> Answer
-    requires { ⌜ 4096 ≤ length (now work) ⌝ }
+    requires { ⌜ (4096 ≤ length (now work)) × (2567 ≤ length (now hash)) ⌝ }
     ensures { λ out. ⌜ Answers (now (text .entry)) out ⌝ }
 {
-    let mut image = [0u16; 259998];
+    let mut image = [0u16; 161694];
     let mut numbers = [0u32; 16400];
     let r = check_in(text, &mut image, &mut numbers, hash, work);
     if r.fits {
@@ -38,11 +38,11 @@ fn large(text: &[u8], hash: &mut [u32], work: &mut [u16]) -> Answer
     large(text, hash, work)
 }
 
-// With the image that the text fits. Hashes and what the typing of a block needs are lent to both.
+// With the image that the text fits. Hashes, what a comparison keeps pending and what the typing of a block needs are lent to both.
 pub fn check(text: &[u8]) -> Answer
     ensures { λ out. ⌜ Answers (now (text .entry)) out ⌝ }
 {
-    let mut hash = [0u32; 1024];
+    let mut hash = [0u32; 2567];
     let mut work = [0u16; 4096];
     if 2048 < text.len() {
         return large(text, &mut hash, &mut work);

@@ -47,16 +47,24 @@ fn has_shared(p: Places, n: usize) -> bool
 }
 
 // Pass three over the tables in the image. The registers' types and those of sp stand here.
-fn third_pass(image: &[u16], numbers: &[u32], p: Places, c: Counts, work: &mut [u16]) -> Finding
-    requires { ⌜ Ordered p (length (now image)) × TablesAt p (now image) (c .rows) × (0 < c .blocks → (i : ℕ) → i < c .instrs → SmallInstr (instrIn p (now image) (now numbers) i)) × (c .instrs ≤ 1024) × (c .blocks ≤ 64) × (0 < c .blocks → cell 2 (blockSection p (now image)) 0 1 ≡ 0) × ((b : ℕ) → b < c .blocks → (cell 2 (blockSection p (now image)) b 1 ≤ endOf (blockSection p (now image)) (c .instrs) (c .blocks) b) × (endOf (blockSection p (now image)) (c .instrs) (c .blocks) b ≤ c .instrs)) × (4096 ≤ length (now work)) ⌝ }
+fn third_pass(
+    image: &[u16],
+    numbers: &[u32],
+    p: Places,
+    c: Counts,
+    work: &mut [u16],
+    pending: &mut [u32],
+) -> Finding
+    requires { ⌜ Ordered p (length (now image)) × TablesAt p (now image) (c .rows) × (0 < c .blocks → (i : ℕ) → i < c .instrs → SmallInstr (instrIn p (now image) (now numbers) i)) × (c .instrs ≤ 1024) × (c .blocks ≤ 64) × (0 < c .blocks → cell 2 (blockSection p (now image)) 0 1 ≡ 0) × ((b : ℕ) → b < c .blocks → (cell 2 (blockSection p (now image)) b 1 ≤ endOf (blockSection p (now image)) (c .instrs) (c .blocks) b) × (endOf (blockSection p (now image)) (c .instrs) (c .blocks) b ≤ c .instrs)) × (4096 ≤ length (now work)) × (1543 ≤ length (now pending)) ⌝ }
     ensures { λ out. ⌜ ((P : Program) → HoldsAt p (now (image .entry)) c P → P .blocks ≡ blocksOf (typesOf (rowsIn (rowTable p (now (image .entry))) (c .rows))) (blocksIn p (now (image .entry)) (now (numbers .entry)) c) → Refuses out (lowestLine 0 (passThree P))) ⌝ }
 {
     let mut regs = [0u16; 8];
     let mut sp = [0u16; 64];
-    valid_pass_three::pass_three(image, numbers, p, c, &mut regs, &mut sp, work)
+    valid_pass_three::pass_three(image, numbers, p, c, &mut regs, &mut sp, work, pending)
 }
 
-// Check with working memory lent: an image with the rows once more, its numbers, hashes of rows, and what the typing of a block needs.
+// Check with working memory lent: an image with the rows once more, its numbers, hashes of rows and what a comparison keeps pending, and
+// what the typing of a block needs.
 pub(crate) fn check_in(
     text: &[u8],
     image: &mut [u16],
@@ -64,7 +72,7 @@ pub(crate) fn check_in(
     hash: &mut [u32],
     work: &mut [u16],
 ) -> Tried
-    requires { ⌜ 4096 ≤ length (now work) ⌝ }
+    requires { ⌜ (4096 ≤ length (now work)) × (2567 ≤ length (now hash)) ⌝ }
     ensures { λ out. ⌜ Fitting (Roomy (now (image .entry)) (now (numbers .entry))) (out .fits) (Answers (now (text .entry)) (out .answer)) ⌝ }
 {
     let r = load::load(text, image, numbers);
@@ -94,7 +102,7 @@ pub(crate) fn check_in(
         blocks: r.blocks,
         instrs: r.instrs,
     };
-    let f = third_pass(image, numbers, p, c, work);
+    let f = third_pass(image, numbers, p, c, work, hash);
     Tried {
         fits: true,
         answer: valid_verdict::answer_by(f, r.blocks, r.instrs),

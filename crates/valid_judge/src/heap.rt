@@ -84,8 +84,9 @@ pub(crate) fn store(
     d: usize,
     i: usize,
     s: usize,
+    pending: &mut [u32],
 ) -> usize
-    requires { ⌜ Ready (now rows) (now parts) n ⌝ }
+    requires { ⌜ Ready (now rows) (now parts) n × (1543 ≤ length (now pending)) ⌝ }
     ensures { λ out. ⌜ ((Δ : List Kind) → InRegs (now (rows .entry)) (now (parts .entry)) n Δ (now (regs .entry)) (now (regs .entry)) out (st d i s)) ⌝ }
 {
     let c = valid_typing::component(rows, parts, n, regs, d, i);
@@ -94,21 +95,21 @@ pub(crate) fn store(
     if f != 0 {
         return f;
     }
-    if same_link(rows, parts, n, u, c.row) {
+    if same_link(rows, parts, n, u, c.row, pending) {
         return 0;
     }
     10
 }
 
 // The type of link u, 0 aside, is that of row t.
-fn same_link(rows: &[u16], parts: &[u16], n: usize, u: usize, t: usize) -> bool
-    requires { ⌜ Ready (now rows) (now parts) n ⌝ }
+fn same_link(rows: &[u16], parts: &[u16], n: usize, u: usize, t: usize, pending: &mut [u32]) -> bool
+    requires { ⌜ Ready (now rows) (now parts) n × (1543 ≤ length (now pending)) ⌝ }
     ensures { λ out. ⌜ out ≡ same (typeAt value (typesIn (now (rows .entry)) (now (parts .entry)) n) (u - 1)) (typeAt value (typesIn (now (rows .entry)) (now (parts .entry)) n) t) ⌝ }
 {
     if u == 0 {
-        return valid_typing::same_rows(rows, parts, n, 0, t);
+        return valid_typing::same_rows(rows, parts, n, 0, t, pending);
     }
-    valid_typing::same_rows(rows, parts, n, u - 1, t)
+    valid_typing::same_rows(rows, parts, n, u - 1, t, pending)
 }
 
 // halt t, under the letters w
@@ -119,8 +120,9 @@ pub(crate) fn stop(
     regs: &[u16],
     t: usize,
     w: BlockLetters,
+    pending: &mut [u32],
 ) -> usize
-    requires { ⌜ Ordered p (length (now image)) × ReadyAt p (now image) n × ScopedAt p (now image) n ⌝ }
+    requires { ⌜ Ordered p (length (now image)) × ReadyAt p (now image) n × ScopedAt p (now image) n × (1543 ≤ length (now pending)) ⌝ }
     ensures { λ out. ⌜ InRegsAt p (now (image .entry)) n (lettersIn p (now (image .entry)) w) (now (regs .entry)) (now (regs .entry)) out (halt t) ⌝ }
 {
     let shared = p.shared;
@@ -133,7 +135,7 @@ pub(crate) fn stop(
         return f;
     }
     let r = valid_typing::given_row(n, t);
-    if same_link(&image[shared..slots], &image[slots..end], n, u, r) {
+    if same_link(&image[shared..slots], &image[slots..end], n, u, r, pending) {
         return 0;
     }
     10

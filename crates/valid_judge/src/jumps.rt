@@ -34,12 +34,12 @@ pub(crate) fn jump(
     regs: &[u16],
     sp: &[u16],
     d: usize,
-    back: &mut [u16],
+    pending: &mut [u32],
 ) -> Fitted
-    requires { ⌜ Ordered p (length (now image)) × ReadyAt p (now image) (c .rows) × ScopedAt p (now image) (c .rows) × Short (operandIn p (now image) (now literals) v) × (v ≤ 131072) × (8 ≤ length (now back)) ⌝ }
+    requires { ⌜ Ordered p (length (now image)) × ReadyAt p (now image) (c .rows) × ScopedAt p (now image) (c .rows) × Short (operandIn p (now image) (now literals) v) × (v ≤ 131072) × (1543 ≤ length (now pending)) ⌝ }
     ensures { λ out. ⌜ ((P : Program) → HoldsAt p (now (image .entry)) c P → Answered (judge P (lettersIn p (now (image .entry)) w) (contextOf (typesAt p (now (image .entry)) (c .rows)) (now (regs .entry)) (now (sp .entry)) d) (jmp (operandIn p (now (image .entry)) (now (literals .entry)) v))) (out .fault) (contextOf (typesAt p (now (image .entry)) (c .rows)) (now (regs .entry)) (now (sp .entry)) d) (out .item)) ⌝ }
 {
-    valid_typing::target::target(image, literals, p, c, v, w, regs, sp, d, back)
+    valid_typing::target::target(image, literals, p, c, v, w, regs, sp, d, pending)
 }
 
 // A branch x, under the letters w, with the d items of sp
@@ -53,9 +53,9 @@ pub(crate) fn branch(
     regs: &[u16],
     sp: &[u16],
     d: usize,
-    back: &mut [u16],
+    pending: &mut [u32],
 ) -> Fitted
-    requires { ⌜ Ordered p (length (now image)) × ReadyAt p (now image) (c .rows) × ScopedAt p (now image) (c .rows) × Short (operandIn p (now image) (now literals) (x .operand)) × (x .operand ≤ 131072) × (8 ≤ length (now back)) ⌝ }
+    requires { ⌜ Ordered p (length (now image)) × ReadyAt p (now image) (c .rows) × ScopedAt p (now image) (c .rows) × Short (operandIn p (now image) (now literals) (x .operand)) × (x .operand ≤ 131072) × (1543 ≤ length (now pending)) ⌝ }
     ensures { λ out. ⌜ ((P : Program) (o : Branch) → HoldsAt p (now (image .entry)) c P → Answered (judge P (lettersIn p (now (image .entry)) w) (contextOf (typesAt p (now (image .entry)) (c .rows)) (now (regs .entry)) (now (sp .entry)) d) (bop o (x .register) (operandIn p (now (image .entry)) (now (literals .entry)) (x .operand)))) (out .fault) (contextOf (typesAt p (now (image .entry)) (c .rows)) (now (regs .entry)) (now (sp .entry)) d) (out .item)) ⌝ }
 {
     let shared = p.shared;
@@ -68,7 +68,7 @@ pub(crate) fn branch(
         regs,
         x.register,
     );
-    let t = valid_typing::target::target(image, literals, p, c, x.operand, w, regs, sp, d, back);
+    let t = valid_typing::target::target(image, literals, p, c, x.operand, w, regs, sp, d, pending);
     if f != 0 {
         return Fitted {
             fault: valid_context::least(f, t.fault),

@@ -1,10 +1,10 @@
 // Pass three's judgement of one instruction of the table (document 01, "Typing"), by its code (modules codes, plain_forms, operand_forms).
 // A function for each form stands in the modules by what it works on: tuples and `halt` (heap), sp (stack), through a pointer (through),
 // operands (values), targets (jumps). Of an instruction is told its least fault, and the types known after it. The types known before it,
-// of the registers and of sp, stand in two of the checker's arrays (crate valid_context), and are changed there; a third, `work`, is lent
-// for what a line needs by the way. Promised: the least fault that `judge` of crate valid gives the instruction, 0 if it has none, and then
-// the types after it, sp within 64 items; for fault 10 at a branch or jump one of the items that do not fit, and 100 for none. The tables
-// are sections of one image (crate image).
+// of the registers and of sp, stand in two of the checker's arrays (crate valid_context), and are changed there; two more are lent: `work`
+// for the items behind a pointer, `pending` for what a comparison keeps pending. Promised: the least fault that `judge` of crate valid gives
+// the instruction, 0 if it has none, and then the types after it, sp within 64 items; for fault 10 at a branch or jump one of the items
+// that do not fit, and 100 for none. The tables are sections of one image (crate image).
 pub mod codes;
 pub mod heap;
 pub mod jumps;
@@ -41,6 +41,12 @@ ghost use Rattle.valid_judge.specs.Image.{FlatAt};
 pub struct InstrForm {
     pub at: usize,
     pub code: usize,
+}
+
+// Where a block is: an instruction of the table, and how many items sp has before it.
+pub struct Reached {
+    pub instr: usize,
+    pub depth: usize,
 }
 
 // The least fault, 0 if there is none; the item that does not fit, 100 if there is none; how many items sp has after the line.
@@ -86,16 +92,16 @@ fn operand_form(
     w: BlockLetters,
     regs: &mut [u16],
     sp: &[u16],
-    work: &mut [u16],
+    pending: &mut [u32],
     m: usize,
 ) -> Fitted
-    requires { ⌜ Ordered p (length (now image)) × ReadyAt p (now image) (c .rows) × ScopedAt p (now image) (c .rows) × SmallInstr (instrIn p (now image) (now literals) (x .at)) × (8 ≤ length (now regs)) × (8 ≤ length (now work)) × (x .code ≡ cell 8 (instrSection p (now image)) (x .at) 0) × ((x .code < 10) ⊎ ((x .code ≡ 12) ⊎ (x .code ≡ 21))) ⌝ }
+    requires { ⌜ Ordered p (length (now image)) × ReadyAt p (now image) (c .rows) × ScopedAt p (now image) (c .rows) × SmallInstr (instrIn p (now image) (now literals) (x .at)) × (8 ≤ length (now regs)) × (1543 ≤ length (now pending)) × (x .code ≡ cell 8 (instrSection p (now image)) (x .at) 0) × ((x .code < 10) ⊎ ((x .code ≡ 12) ⊎ (x .code ≡ 21))) ⌝ }
     ensures { λ out. ⌜ ((P : Program) → HoldsAt p (now (image .entry)) c P → Answered (judge P (lettersIn p (now (image .entry)) w) (contextOf (typesAt p (now (image .entry)) (c .rows)) (now (regs .entry)) (now (sp .entry)) m) (instrIn p (now (image .entry)) (now (literals .entry)) (x .at))) (out .fault) (contextOf (typesAt p (now (image .entry)) (c .rows)) (now (regs .exit)) (now (sp .entry)) m) (out .item)) ⌝ }
 {
     if has_target(x.code) {
-        return crate::operand_forms::jump_form(image, literals, p, c, x, w, regs, sp, m, work);
+        return crate::operand_forms::jump_form(image, literals, p, c, x, w, regs, sp, m, pending);
     }
-    let f = crate::operand_forms::value_form(image, literals, p, c, x, w, regs, work);
+    let f = crate::operand_forms::value_form(image, literals, p, c, x, w, regs, pending);
     Fitted {
         fault: f,
         item: 100,
@@ -113,12 +119,13 @@ fn plain_form(
     sp: &mut [u16],
     work: &mut [u16],
     m: usize,
+    pending: &mut [u32],
 ) -> Judgement
-    requires { ⌜ Ordered p (length (now image)) × ReadyAt p (now image) n × ScopedAt p (now image) n × FlatAt p (now image) n × (8 ≤ length (now regs)) × (64 ≤ length (now sp)) × (4096 ≤ length (now work)) × (m ≤ 64) × (x .code ≡ cell 8 (instrSection p (now image)) (x .at) 0) × (10 ≤ x .code) × (x .code ≡ 12 → ⊥) × (x .code ≡ 21 → ⊥) ⌝ }
+    requires { ⌜ Ordered p (length (now image)) × ReadyAt p (now image) n × ScopedAt p (now image) n × FlatAt p (now image) n × (8 ≤ length (now regs)) × (64 ≤ length (now sp)) × (4096 ≤ length (now work)) × (m ≤ 64) × (x .code ≡ cell 8 (instrSection p (now image)) (x .at) 0) × (10 ≤ x .code) × (x .code ≡ 12 → ⊥) × (x .code ≡ 21 → ⊥) × (1543 ≤ length (now pending)) ⌝ }
     ensures { λ out. ⌜ ((P : Program) (ω : OperandTable) → P .types ≡ typesOf (rowsIn (rowTable p (now (image .entry))) n) → Answered (judge P (lettersIn p (now (image .entry)) w) (contextOf (typesAt p (now (image .entry)) n) (now (regs .entry)) (now (sp .entry)) m) (instrAt (instrSection p (now (image .entry))) ω (x .at))) (out .fault) (contextOf (typesAt p (now (image .entry)) n) (now (regs .exit)) (now (sp .exit)) (out .depth)) (out .item)) × (out .depth ≤ 64) ⌝ }
 {
     if x.code < 13 {
-        let f = crate::plain_forms::heap_form(image, p, n, x, w, regs);
+        let f = crate::plain_forms::heap_form(image, p, n, x, w, regs, pending);
         return Judgement {
             fault: f,
             item: 100,
@@ -126,7 +133,7 @@ fn plain_form(
         };
     }
     if x.code < 17 {
-        let s = crate::plain_forms::sp_form(image, p, n, x, w, regs, sp, m);
+        let s = crate::plain_forms::sp_form(image, p, n, x, w, regs, sp, m, pending);
         return Judgement {
             fault: s.fault,
             item: 100,
@@ -134,14 +141,14 @@ fn plain_form(
         };
     }
     if x.code < 21 {
-        let f = crate::plain_forms::item_form(image, p, n, x, w, regs, sp, work, m);
+        let f = crate::plain_forms::item_form(image, p, n, x, w, regs, sp, work, m, pending);
         return Judgement {
             fault: f,
             item: 100,
             depth: m,
         };
     }
-    let f = crate::plain_forms::heap_form(image, p, n, x, w, regs);
+    let f = crate::plain_forms::heap_form(image, p, n, x, w, regs, pending);
     Judgement {
         fault: f,
         item: 100,
@@ -149,33 +156,37 @@ fn plain_form(
     }
 }
 
-// Instruction j, under the letters w, with m items of sp
+// The instruction that is reached at y, under the letters w
 pub fn judge(
     image: &[u16],
     literals: &[u32],
     p: Places,
     c: Counts,
-    j: usize,
+    y: Reached,
     w: BlockLetters,
     regs: &mut [u16],
     sp: &mut [u16],
     work: &mut [u16],
-    m: usize,
+    pending: &mut [u32],
 ) -> Judgement
-    requires { ⌜ Ordered p (length (now image)) × ReadyAt p (now image) (c .rows) × ScopedAt p (now image) (c .rows) × ((r : ℕ) → r < c .rows → SmallRow (rowAt (rowTable p (now image)) r)) × ((x : ℕ) → x ≤ c .rows → items (meanS (rowTable p (now image)) x) ≤ 4096) × SmallInstr (instrIn p (now image) (now literals) j) × (8 ≤ length (now regs)) × (64 ≤ length (now sp)) × (4096 ≤ length (now work)) × (m ≤ 64) ⌝ }
-    ensures { λ out. ⌜ ((P : Program) → HoldsAt p (now (image .entry)) c P → Answered (judge P (lettersIn p (now (image .entry)) w) (contextOf (typesAt p (now (image .entry)) (c .rows)) (now (regs .entry)) (now (sp .entry)) m) (instrIn p (now (image .entry)) (now (literals .entry)) j)) (out .fault) (contextOf (typesAt p (now (image .entry)) (c .rows)) (now (regs .exit)) (now (sp .exit)) (out .depth)) (out .item)) × (out .depth ≤ 64) ⌝ }
+    requires { ⌜ Ordered p (length (now image)) × ReadyAt p (now image) (c .rows) × ScopedAt p (now image) (c .rows) × ((r : ℕ) → r < c .rows → SmallRow (rowAt (rowTable p (now image)) r)) × ((x : ℕ) → x ≤ c .rows → items (meanS (rowTable p (now image)) x) ≤ 4096) × SmallInstr (instrIn p (now image) (now literals) (y .instr)) × (8 ≤ length (now regs)) × (64 ≤ length (now sp)) × (4096 ≤ length (now work)) × (y .depth ≤ 64) × (1543 ≤ length (now pending)) ⌝ }
+    ensures { λ out. ⌜ ((P : Program) → HoldsAt p (now (image .entry)) c P → Answered (judge P (lettersIn p (now (image .entry)) w) (contextOf (typesAt p (now (image .entry)) (c .rows)) (now (regs .entry)) (now (sp .entry)) (y .depth)) (instrIn p (now (image .entry)) (now (literals .entry)) (y .instr))) (out .fault) (contextOf (typesAt p (now (image .entry)) (c .rows)) (now (regs .exit)) (now (sp .exit)) (out .depth)) (out .item)) × (out .depth ≤ 64) ⌝ }
 {
     let from = p.instrs;
     let to = p.parts;
-    let k = crate::codes::entry(&image[from..to], j, 0);
-    let x = InstrForm { at: j, code: k };
+    let k = crate::codes::entry(&image[from..to], y.instr, 0);
+    let x = InstrForm {
+        at: y.instr,
+        code: k,
+    };
+    let m = y.depth;
     if has_operands(k) {
-        let f = operand_form(image, literals, p, c, x, w, regs, sp, work, m);
+        let f = operand_form(image, literals, p, c, x, w, regs, sp, pending, m);
         return Judgement {
             fault: f.fault,
             item: f.item,
             depth: m,
         };
     }
-    plain_form(image, p, c.rows, x, w, regs, sp, work, m)
+    plain_form(image, p, c.rows, x, w, regs, sp, work, m, pending)
 }

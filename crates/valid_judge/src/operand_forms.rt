@@ -31,9 +31,9 @@ pub(crate) fn value_form(
     x: InstrForm,
     w: BlockLetters,
     regs: &mut [u16],
-    work: &mut [u16],
+    pending: &mut [u32],
 ) -> usize
-    requires { ⌜ Ordered p (length (now image)) × ReadyAt p (now image) (c .rows) × ScopedAt p (now image) (c .rows) × SmallInstr (instrIn p (now image) (now literals) (x .at)) × (8 ≤ length (now regs)) × (8 ≤ length (now work)) × (x .code ≡ cell 8 (instrSection p (now image)) (x .at) 0) × (3 ≤ x .code → 9 ≤ x .code) × (10 ≤ x .code → x .code ≡ 12) ⌝ }
+    requires { ⌜ Ordered p (length (now image)) × ReadyAt p (now image) (c .rows) × ScopedAt p (now image) (c .rows) × SmallInstr (instrIn p (now image) (now literals) (x .at)) × (8 ≤ length (now regs)) × (1543 ≤ length (now pending)) × (x .code ≡ cell 8 (instrSection p (now image)) (x .at) 0) × (3 ≤ x .code → 9 ≤ x .code) × (10 ≤ x .code → x .code ≡ 12) ⌝ }
     ensures { λ out. ⌜ InFileAt p (now (image .entry)) c (lettersIn p (now (image .entry)) w) (now (regs .entry)) (now (regs .exit)) out (instrIn p (now (image .entry)) (now (literals .entry)) (x .at)) ⌝ }
 {
     let from = p.instrs;
@@ -43,14 +43,14 @@ pub(crate) fn value_form(
     let b = entry(instrs, x.at, 2);
     let v = entry(instrs, x.at, 5);
     if x.code < 3 {
-        return crate::values::compute(image, literals, p, c, v, w, regs, work, a, b);
+        return crate::values::compute(image, literals, p, c, v, w, regs, pending, a, b);
     }
     if x.code == 9 {
-        return crate::values::move_to(image, literals, p, c, v, w, regs, work, a);
+        return crate::values::move_to(image, literals, p, c, v, w, regs, pending, a);
     }
     let k = entry(instrs, x.at, 6);
     let o = Listed { first: v, count: k };
-    crate::values::make_tuple(image, literals, p, c, o, w, regs, work, a, b)
+    crate::values::make_tuple(image, literals, p, c, o, w, regs, pending, a, b)
 }
 
 // branches 3 to 8, jmp 21
@@ -64,9 +64,9 @@ pub(crate) fn jump_form(
     regs: &[u16],
     sp: &[u16],
     m: usize,
-    work: &mut [u16],
+    pending: &mut [u32],
 ) -> Fitted
-    requires { ⌜ Ordered p (length (now image)) × ReadyAt p (now image) (c .rows) × ScopedAt p (now image) (c .rows) × SmallInstr (instrIn p (now image) (now literals) (x .at)) × (8 ≤ length (now work)) × (x .code ≡ cell 8 (instrSection p (now image)) (x .at) 0) × (3 ≤ x .code) × (9 ≤ x .code → x .code ≡ 21) ⌝ }
+    requires { ⌜ Ordered p (length (now image)) × ReadyAt p (now image) (c .rows) × ScopedAt p (now image) (c .rows) × SmallInstr (instrIn p (now image) (now literals) (x .at)) × (1543 ≤ length (now pending)) × (x .code ≡ cell 8 (instrSection p (now image)) (x .at) 0) × (3 ≤ x .code) × (9 ≤ x .code → x .code ≡ 21) ⌝ }
     ensures { λ out. ⌜ ((P : Program) → HoldsAt p (now (image .entry)) c P → Answered (judge P (lettersIn p (now (image .entry)) w) (contextOf (typesAt p (now (image .entry)) (c .rows)) (now (regs .entry)) (now (sp .entry)) m) (instrIn p (now (image .entry)) (now (literals .entry)) (x .at))) (out .fault) (contextOf (typesAt p (now (image .entry)) (c .rows)) (now (regs .entry)) (now (sp .entry)) m) (out .item)) ⌝ }
 {
     let from = p.instrs;
@@ -74,12 +74,12 @@ pub(crate) fn jump_form(
     let instrs = &image[from..to];
     let v = entry(instrs, x.at, 5);
     if x.code == 21 {
-        return crate::jumps::jump(image, literals, p, c, v, w, regs, sp, m, work);
+        return crate::jumps::jump(image, literals, p, c, v, w, regs, sp, m, pending);
     }
     let r = entry(instrs, x.at, 1);
     let b = Tested {
         register: r,
         operand: v,
     };
-    crate::jumps::branch(image, literals, p, c, b, w, regs, sp, m, work)
+    crate::jumps::branch(image, literals, p, c, b, w, regs, sp, m, pending)
 }

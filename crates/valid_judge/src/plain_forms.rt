@@ -23,8 +23,9 @@ pub(crate) fn heap_form(
     x: InstrForm,
     w: BlockLetters,
     regs: &mut [u16],
+    pending: &mut [u32],
 ) -> usize
-    requires { ⌜ Ordered p (length (now image)) × ReadyAt p (now image) n × ScopedAt p (now image) n × (8 ≤ length (now regs)) × (x .code ≡ cell 8 (instrSection p (now image)) (x .at) 0) × (12 ≤ x .code → 22 ≤ x .code) × (10 ≤ x .code) ⌝ }
+    requires { ⌜ Ordered p (length (now image)) × ReadyAt p (now image) n × ScopedAt p (now image) n × (8 ≤ length (now regs)) × (x .code ≡ cell 8 (instrSection p (now image)) (x .at) 0) × (12 ≤ x .code → 22 ≤ x .code) × (10 ≤ x .code) × (1543 ≤ length (now pending)) ⌝ }
     ensures { λ out. ⌜ ((ω : OperandTable) → InRegsAt p (now (image .entry)) n (lettersIn p (now (image .entry)) w) (now (regs .entry)) (now (regs .exit)) out (instrAt (instrSection p (now (image .entry))) ω (x .at))) ⌝ }
 {
     let from = p.instrs;
@@ -42,9 +43,9 @@ pub(crate) fn heap_form(
         return crate::heap::load(rows, parts, n, regs, a, b, c);
     }
     if x.code == 11 {
-        return crate::heap::store(rows, parts, n, regs, a, b, c);
+        return crate::heap::store(rows, parts, n, regs, a, b, c, pending);
     }
-    crate::heap::stop(image, p, n, regs, a, w)
+    crate::heap::stop(image, p, n, regs, a, w, pending)
 }
 
 // getsp 13, setsp 14, salloc 15, sfree 16
@@ -57,8 +58,9 @@ pub(crate) fn sp_form(
     regs: &mut [u16],
     sp: &mut [u16],
     depth: usize,
+    pending: &mut [u32],
 ) -> Moved
-    requires { ⌜ Ordered p (length (now image)) × ReadyAt p (now image) n × ScopedAt p (now image) n × (8 ≤ length (now regs)) × (64 ≤ length (now sp)) × (depth ≤ 64) × (x .code ≡ cell 8 (instrSection p (now image)) (x .at) 0) × (13 ≤ x .code) × (x .code ≤ 16) ⌝ }
+    requires { ⌜ Ordered p (length (now image)) × ReadyAt p (now image) n × ScopedAt p (now image) n × (8 ≤ length (now regs)) × (64 ≤ length (now sp)) × (depth ≤ 64) × (x .code ≡ cell 8 (instrSection p (now image)) (x .at) 0) × (13 ≤ x .code) × (x .code ≤ 16) × (1543 ≤ length (now pending)) ⌝ }
     ensures { λ out. ⌜ ((ω : OperandTable) → InStackAt p (now (image .entry)) n (lettersIn p (now (image .entry)) w) (now (regs .entry)) (now (sp .entry)) depth (now (regs .exit)) (now (sp .exit)) (out .depth) (out .fault) (instrAt (instrSection p (now (image .entry))) ω (x .at))) × (out .depth ≤ 64) ⌝ }
 {
     let from = p.instrs;
@@ -70,12 +72,12 @@ pub(crate) fn sp_form(
     let a = entry(instrs, x.at, 1);
     let b = entry(instrs, x.at, 2);
     if x.code == 13 {
-        let f = crate::stack::get_sp(image, p, n, w, regs, sp, depth, a, b);
+        let f = crate::stack::get_sp(image, p, n, w, regs, sp, depth, a, b, pending);
         return Moved { fault: f, depth };
     }
     if x.code == 14 {
         let rows = &image[shared..slots];
-        return crate::stack::set_sp(rows, &image[slots..end], n, regs, sp, depth, a);
+        return crate::stack::set_sp(rows, &image[slots..end], n, regs, sp, depth, a, pending);
     }
     if x.code == 15 {
         return crate::stack::allocate(n, sp, depth, a);
@@ -94,8 +96,9 @@ pub(crate) fn item_form(
     sp: &mut [u16],
     work: &mut [u16],
     m: usize,
+    pending: &mut [u32],
 ) -> usize
-    requires { ⌜ Ordered p (length (now image)) × ReadyAt p (now image) n × ScopedAt p (now image) n × FlatAt p (now image) n × (8 ≤ length (now regs)) × (m ≤ length (now sp)) × (4096 ≤ length (now work)) × (x .code ≡ cell 8 (instrSection p (now image)) (x .at) 0) × (17 ≤ x .code) × (x .code ≤ 20) ⌝ }
+    requires { ⌜ Ordered p (length (now image)) × ReadyAt p (now image) n × ScopedAt p (now image) n × FlatAt p (now image) n × (8 ≤ length (now regs)) × (m ≤ length (now sp)) × (4096 ≤ length (now work)) × (x .code ≡ cell 8 (instrSection p (now image)) (x .at) 0) × (17 ≤ x .code) × (x .code ≤ 20) × (1543 ≤ length (now pending)) ⌝ }
     ensures { λ out. ⌜ ((ω : OperandTable) → InStackAt p (now (image .entry)) n (lettersIn p (now (image .entry)) w) (now (regs .entry)) (now (sp .entry)) m (now (regs .exit)) (now (sp .exit)) m out (instrAt (instrSection p (now (image .entry))) ω (x .at))) ⌝ }
 {
     let from = p.instrs;
@@ -116,7 +119,7 @@ pub(crate) fn item_form(
     if x.code == 19 {
         let rows = &image[shared..slots];
         let parts = &image[slots..end];
-        return crate::through::load_through(rows, parts, n, regs, sp, m, a, b, c);
+        return crate::through::load_through(rows, parts, n, regs, sp, m, a, b, c, pending);
     }
     let t = entry(instrs, x.at, 4);
     let y = PointerStore {
@@ -125,5 +128,5 @@ pub(crate) fn item_form(
         source: c,
         row: t,
     };
-    crate::through::store_through(image, p, n, regs, sp, work, m, y, w)
+    crate::through::store_through(image, p, n, regs, sp, work, m, y, w, pending)
 }

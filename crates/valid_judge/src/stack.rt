@@ -41,15 +41,23 @@ pub(crate) fn if_not(k: usize, b: bool) -> usize
 }
 
 // Row t points to the m lowest items of sp.
-pub(crate) fn points(rows: &[u16], parts: &[u16], n: usize, sp: &[u16], m: usize, t: usize) -> bool
-    requires { ⌜ Ready (now rows) (now parts) n × (t ≤ 65535) ⌝ }
+pub(crate) fn points(
+    rows: &[u16],
+    parts: &[u16],
+    n: usize,
+    sp: &[u16],
+    m: usize,
+    t: usize,
+    pending: &mut [u32],
+) -> bool
+    requires { ⌜ Ready (now rows) (now parts) n × (t ≤ 65535) × (1543 ≤ length (now pending)) ⌝ }
     ensures { λ out. ⌜ out ≡ same (typeAt value (typesIn (now (rows .entry)) (now (parts .entry)) n) t) (pointer (spOf (typesIn (now (rows .entry)) (now (parts .entry)) n) (now (sp .entry)) m)) ⌝ }
 {
     let v = types_rows::read_value(rows, types_rows::link(n + 3, t), 0, 0, 0);
     let Val::Pointer(x) = v else {
         return false;
     };
-    valid_typing::same_items(rows, parts, n, sp, m, x)
+    valid_typing::same_items(rows, parts, n, sp, m, x, pending)
 }
 
 // getsp d t, under the letters w
@@ -63,8 +71,9 @@ pub(crate) fn get_sp(
     depth: usize,
     d: usize,
     t: usize,
+    pending: &mut [u32],
 ) -> usize
-    requires { ⌜ Ordered p (length (now image)) × ReadyAt p (now image) n × ScopedAt p (now image) n × (8 ≤ length (now regs)) ⌝ }
+    requires { ⌜ Ordered p (length (now image)) × ReadyAt p (now image) n × ScopedAt p (now image) n × (8 ≤ length (now regs)) × (1543 ≤ length (now pending)) ⌝ }
     ensures { λ out. ⌜ InStackAt p (now (image .entry)) n (lettersIn p (now (image .entry)) w) (now (regs .entry)) (now (sp .entry)) depth (now (regs .exit)) (now (sp .entry)) depth out (getsp d t) ⌝ }
 {
     let shared = p.shared;
@@ -73,7 +82,7 @@ pub(crate) fn get_sp(
     let rows = &image[shared..slots];
     let parts = &image[slots..end];
     let r = valid_typing::given_row(n, t);
-    let g = if_not(10, points(rows, parts, n, sp, depth, r));
+    let g = if_not(10, points(rows, parts, n, sp, depth, r, pending));
     let h = valid_typing::formed_row(image, p, n, t, w);
     let f = valid_context::least(h, g);
     if f != 0 {
@@ -91,8 +100,9 @@ pub(crate) fn set_sp(
     sp: &[u16],
     depth: usize,
     s: usize,
+    pending: &mut [u32],
 ) -> Moved
-    requires { ⌜ Ready (now rows) (now parts) n ⌝ }
+    requires { ⌜ Ready (now rows) (now parts) n × (1543 ≤ length (now pending)) ⌝ }
     ensures { λ out. ⌜ ((Δ : List Kind) → InStack (now (rows .entry)) (now (parts .entry)) n Δ (now (regs .entry)) (now (sp .entry)) depth (now (regs .entry)) (now (sp .entry)) (out .depth) (out .fault) (setsp s)) × (out .depth ≤ depth) ⌝ }
 {
     let p = valid_typing::pointer(rows, parts, n, regs, s);
@@ -102,7 +112,7 @@ pub(crate) fn set_sp(
             depth,
         };
     }
-    if valid_typing::is_tail(rows, parts, n, sp, depth, p.row) {
+    if valid_typing::is_tail(rows, parts, n, sp, depth, p.row, pending) {
         return Moved {
             fault: 0,
             depth: types_rows::item_count(rows, p.row),

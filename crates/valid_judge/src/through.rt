@@ -27,6 +27,14 @@ ghost use Rattle.image.specs.Sections.{Ordered};
 ghost use Rattle.valid_typing.specs.Image.{ReadyAt, ScopedAt, lettersIn};
 ghost use Rattle.valid_judge.specs.Image.{FlatAt, InStackAt};
 
+// ssp d i s t: the pointer's register, the item, the register that is stored, and the row that is given.
+pub struct PointerStore {
+    pub pointer: usize,
+    pub item: usize,
+    pub source: usize,
+    pub row: usize,
+}
+
 // slp d s i
 pub(crate) fn load_through(
     rows: &[u16],
@@ -38,15 +46,19 @@ pub(crate) fn load_through(
     d: usize,
     s: usize,
     i: usize,
+    pending: &mut [u32],
 ) -> usize
-    requires { ⌜ Ready (now rows) (now parts) n × (8 ≤ length (now regs)) ⌝ }
+    requires { ⌜ Ready (now rows) (now parts) n × (8 ≤ length (now regs)) × (1543 ≤ length (now pending)) ⌝ }
     ensures { λ out. ⌜ ((Δ : List Kind) → InStack (now (rows .entry)) (now (parts .entry)) n Δ (now (regs .entry)) (now (sp .entry)) depth (now (regs .exit)) (now (sp .entry)) depth out (slp d s i)) ⌝ }
 {
     let p = valid_typing::pointer(rows, parts, n, regs, s);
     if p.fault != 0 {
         return p.fault;
     }
-    let a = crate::stack::if_not(12, valid_typing::is_tail(rows, parts, n, sp, depth, p.row));
+    let a = crate::stack::if_not(
+        12,
+        valid_typing::is_tail(rows, parts, n, sp, depth, p.row, pending),
+    );
     let u = valid_typing::row_item(rows, parts, n, p.row, i);
     let f = valid_context::least(a, crate::heap::if_none(11, u));
     if f != 0 {
@@ -65,8 +77,9 @@ fn new_tail(
     u: usize,
     i: usize,
     t: usize,
+    pending: &mut [u32],
 ) -> usize
-    requires { ⌜ Ready (now rows) (now parts) n × (x ≤ n + 2) × (u ≤ n + 2) × (items (meanS (tab (now rows) (now parts)) x) ≤ length (now work)) × SmallVars (meanS (tab (now rows) (now parts)) x) ⌝ }
+    requires { ⌜ Ready (now rows) (now parts) n × (x ≤ n + 2) × (u ≤ n + 2) × (items (meanS (tab (now rows) (now parts)) x) ≤ length (now work)) × SmallVars (meanS (tab (now rows) (now parts)) x) × (1543 ≤ length (now pending)) ⌝ }
     ensures { λ out. ⌜ ((P : Program) (Δ : List Kind) (Γ : Context) (s : ℕ) → P .types ≡ typesOf (rowsIn (tab (now (rows .entry)) (now (parts .entry))) n) → itemAt (Γ .regs) s ≡ linked (typesIn (now (rows .entry)) (now (parts .entry)) n) u → toldOf (newTail P Δ Γ (meanS (tab (now (rows .entry)) (now (parts .entry))) x) i s t) ≡ answer out (spOf (typesIn (now (rows .entry)) (now (parts .entry)) n) (now (work .exit)) (items (meanS (tab (now (rows .entry)) (now (parts .entry))) x)))) × (out ≡ 0 → Replaced (typesIn (now (rows .entry)) (now (parts .entry)) n) (meanS (tab (now (rows .entry)) (now (parts .entry))) x) i u (givenRow n t) (spOf (typesIn (now (rows .entry)) (now (parts .entry)) n) (now (work .exit)) (items (meanS (tab (now (rows .entry)) (now (parts .entry))) x)))) ⌝ }
 {
     let y = valid_typing::row_item(rows, parts, n, x, i);
@@ -77,13 +90,21 @@ fn new_tail(
     valid_typing::flatten(rows, parts, n, work, x);
     let m = types_rows::item_count(rows, x);
     valid_context::set_item(work, m, i, u - 1);
-    if crate::stack::points(rows, parts, n, work, m, valid_typing::given_row(n, t)) {
+    if crate::stack::points(
+        rows,
+        parts,
+        n,
+        work,
+        m,
+        valid_typing::given_row(n, t),
+        pending,
+    ) {
         return 0;
     }
     10
 }
 
-// The pointer's stack, which b answers, is a tail of sp, and has a new tail as above.
+// The pointer's stack, which b answers, is a tail of sp, and has a new tail as above, with the item and the row of x.
 fn pass_through(
     rows: &[u16],
     parts: &[u16],
@@ -93,25 +114,23 @@ fn pass_through(
     work: &mut [u16],
     b: Typed,
     u: usize,
-    i: usize,
-    t: usize,
+    x: PointerStore,
+    pending: &mut [u32],
 ) -> usize
-    requires { ⌜ Ready (now rows) (now parts) n × (b .row ≤ n + 2) × (u ≤ n + 2) × (items (meanS (tab (now rows) (now parts)) (b .row)) ≤ length (now work)) × SmallVars (meanS (tab (now rows) (now parts)) (b .row)) ⌝ }
-    ensures { λ out. ⌜ ((P : Program) (Δ : List Kind) (regs : List ℕ) (d s : ℕ) → P .types ≡ typesOf (rowsIn (tab (now (rows .entry)) (now (parts .entry))) n) → toldOf (pointerAt P Δ (regsOf (typesIn (now (rows .entry)) (now (parts .entry)) n) regs) d) ≡ answer (b .fault) (meanS (tab (now (rows .entry)) (now (parts .entry))) (b .row)) → itemAt (regsOf (typesIn (now (rows .entry)) (now (parts .entry)) n) regs) s ≡ linked (typesIn (now (rows .entry)) (now (parts .entry)) n) u → toldOf (through P Δ (contextOf (typesIn (now (rows .entry)) (now (parts .entry)) n) regs (now (sp .entry)) depth) d i s t) ≡ answer out (spAbove (typesIn (now (rows .entry)) (now (parts .entry)) n) (now (sp .entry)) (items (meanS (tab (now (rows .entry)) (now (parts .entry))) (b .row))) (depth - items (meanS (tab (now (rows .entry)) (now (parts .entry))) (b .row))), spOf (typesIn (now (rows .entry)) (now (parts .entry)) n) (now (work .exit)) (items (meanS (tab (now (rows .entry)) (now (parts .entry))) (b .row))))) × (out ≡ 0 → IsTail (typesIn (now (rows .entry)) (now (parts .entry)) n) (now (sp .entry)) depth (meanS (tab (now (rows .entry)) (now (parts .entry))) (b .row)) × Replaced (typesIn (now (rows .entry)) (now (parts .entry)) n) (meanS (tab (now (rows .entry)) (now (parts .entry))) (b .row)) i u (givenRow n t) (spOf (typesIn (now (rows .entry)) (now (parts .entry)) n) (now (work .exit)) (items (meanS (tab (now (rows .entry)) (now (parts .entry))) (b .row))))) ⌝ }
+    requires { ⌜ Ready (now rows) (now parts) n × (b .row ≤ n + 2) × (u ≤ n + 2) × (items (meanS (tab (now rows) (now parts)) (b .row)) ≤ length (now work)) × SmallVars (meanS (tab (now rows) (now parts)) (b .row)) × (1543 ≤ length (now pending)) ⌝ }
+    ensures { λ out. ⌜ ((P : Program) (Δ : List Kind) (regs : List ℕ) (d s : ℕ) → P .types ≡ typesOf (rowsIn (tab (now (rows .entry)) (now (parts .entry))) n) → toldOf (pointerAt P Δ (regsOf (typesIn (now (rows .entry)) (now (parts .entry)) n) regs) d) ≡ answer (b .fault) (meanS (tab (now (rows .entry)) (now (parts .entry))) (b .row)) → itemAt (regsOf (typesIn (now (rows .entry)) (now (parts .entry)) n) regs) s ≡ linked (typesIn (now (rows .entry)) (now (parts .entry)) n) u → toldOf (through P Δ (contextOf (typesIn (now (rows .entry)) (now (parts .entry)) n) regs (now (sp .entry)) depth) d (x .item) s (x .row)) ≡ answer out (spAbove (typesIn (now (rows .entry)) (now (parts .entry)) n) (now (sp .entry)) (items (meanS (tab (now (rows .entry)) (now (parts .entry))) (b .row))) (depth - items (meanS (tab (now (rows .entry)) (now (parts .entry))) (b .row))), spOf (typesIn (now (rows .entry)) (now (parts .entry)) n) (now (work .exit)) (items (meanS (tab (now (rows .entry)) (now (parts .entry))) (b .row))))) × (out ≡ 0 → IsTail (typesIn (now (rows .entry)) (now (parts .entry)) n) (now (sp .entry)) depth (meanS (tab (now (rows .entry)) (now (parts .entry))) (b .row)) × Replaced (typesIn (now (rows .entry)) (now (parts .entry)) n) (meanS (tab (now (rows .entry)) (now (parts .entry))) (b .row)) (x .item) u (givenRow n (x .row)) (spOf (typesIn (now (rows .entry)) (now (parts .entry)) n) (now (work .exit)) (items (meanS (tab (now (rows .entry)) (now (parts .entry))) (b .row))))) ⌝ }
 {
     if b.fault != 0 {
         return b.fault;
     }
-    let a = crate::stack::if_not(12, valid_typing::is_tail(rows, parts, n, sp, depth, b.row));
-    valid_context::least(a, new_tail(rows, parts, n, work, b.row, u, i, t))
-}
-
-// ssp d i s t: the pointer's register, the item, the register that is stored, and the row that is given.
-pub struct PointerStore {
-    pub pointer: usize,
-    pub item: usize,
-    pub source: usize,
-    pub row: usize,
+    let a = crate::stack::if_not(
+        12,
+        valid_typing::is_tail(rows, parts, n, sp, depth, b.row, pending),
+    );
+    valid_context::least(
+        a,
+        new_tail(rows, parts, n, work, b.row, u, x.item, x.row, pending),
+    )
 }
 
 // ssp, under the letters w
@@ -125,8 +144,9 @@ pub(crate) fn store_through(
     depth: usize,
     x: PointerStore,
     w: BlockLetters,
+    pending: &mut [u32],
 ) -> usize
-    requires { ⌜ Ordered p (length (now image)) × ReadyAt p (now image) n × ScopedAt p (now image) n × FlatAt p (now image) n × (8 ≤ length (now regs)) × (depth ≤ length (now sp)) × (4096 ≤ length (now work)) ⌝ }
+    requires { ⌜ Ordered p (length (now image)) × ReadyAt p (now image) n × ScopedAt p (now image) n × FlatAt p (now image) n × (8 ≤ length (now regs)) × (depth ≤ length (now sp)) × (4096 ≤ length (now work)) × (1543 ≤ length (now pending)) ⌝ }
     ensures { λ out. ⌜ InStackAt p (now (image .entry)) n (lettersIn p (now (image .entry)) w) (now (regs .entry)) (now (sp .entry)) depth (now (regs .exit)) (now (sp .exit)) depth out (ssp (x .pointer) (x .item) (x .source) (x .row)) ⌝ }
 {
     let shared = p.shared;
@@ -136,7 +156,7 @@ pub(crate) fn store_through(
     let parts = &image[slots..end];
     let u = crate::heap::link_at(n, regs, x.source);
     let b = valid_typing::pointer(rows, parts, n, regs, x.pointer);
-    let h = pass_through(rows, parts, n, sp, depth, work, b, u, x.item, x.row);
+    let h = pass_through(rows, parts, n, sp, depth, work, b, u, x, pending);
     let g = valid_context::least(crate::heap::if_none(9, u), h);
     let e = valid_typing::formed_row(image, p, n, x.row, w);
     let f = valid_context::least(e, g);

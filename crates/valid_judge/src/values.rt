@@ -1,6 +1,5 @@
 // One instruction of pass three that takes operands and gives a register its type: arithmetic, `mov`, `malloc`. The types known before it
-// stand in the checker's arrays (crate valid_context), and are there changed to those known after it. `back` is lent for the arguments of
-// an operand.
+// stand in the checker's arrays (crate valid_context), and are there changed to those known after it. `pending` is lent for comparisons.
 // Promised of each: the least fault that `judge` of crate valid gives the instruction, 0 if it has none, and then the types after it.
 use image::Counts;
 use image::Places;
@@ -40,11 +39,11 @@ pub(crate) fn compute(
     v: usize,
     w: BlockLetters,
     regs: &mut [u16],
-    back: &mut [u16],
+    pending: &mut [u32],
     d: usize,
     s: usize,
 ) -> usize
-    requires { ⌜ Ordered p (length (now image)) × ReadyAt p (now image) (c .rows) × ScopedAt p (now image) (c .rows) × Short (operandIn p (now image) (now literals) v) × (v ≤ 131072) × (8 ≤ length (now regs)) × (8 ≤ length (now back)) ⌝ }
+    requires { ⌜ Ordered p (length (now image)) × ReadyAt p (now image) (c .rows) × ScopedAt p (now image) (c .rows) × Short (operandIn p (now image) (now literals) v) × (v ≤ 131072) × (8 ≤ length (now regs)) × (1543 ≤ length (now pending)) ⌝ }
     ensures { λ out. ⌜ ((o : Arith) → InFileAt p (now (image .entry)) c (lettersIn p (now (image .entry)) w) (now (regs .entry)) (now (regs .exit)) out (aop o d s (operandIn p (now (image .entry)) (now (literals .entry)) v))) ⌝ }
 {
     let shared = p.shared;
@@ -53,7 +52,7 @@ pub(crate) fn compute(
     let rows = &image[shared..slots];
     let parts = &image[slots..end];
     let n = c.rows;
-    let t = valid_typing::operands::operand(image, literals, p, c, v, w, regs, back);
+    let t = valid_typing::operands::operand(image, literals, p, c, v, w, regs, pending);
     let g = int_fault(rows, parts, n, t.fault, t.row);
     let f = valid_context::least(valid_typing::integer(rows, parts, n, regs, s), g);
     if f != 0 {
@@ -71,13 +70,13 @@ pub(crate) fn move_to(
     v: usize,
     w: BlockLetters,
     regs: &mut [u16],
-    back: &mut [u16],
+    pending: &mut [u32],
     d: usize,
 ) -> usize
-    requires { ⌜ Ordered p (length (now image)) × ReadyAt p (now image) (c .rows) × ScopedAt p (now image) (c .rows) × Short (operandIn p (now image) (now literals) v) × (v ≤ 131072) × (8 ≤ length (now regs)) × (8 ≤ length (now back)) ⌝ }
+    requires { ⌜ Ordered p (length (now image)) × ReadyAt p (now image) (c .rows) × ScopedAt p (now image) (c .rows) × Short (operandIn p (now image) (now literals) v) × (v ≤ 131072) × (8 ≤ length (now regs)) × (1543 ≤ length (now pending)) ⌝ }
     ensures { λ out. ⌜ InFileAt p (now (image .entry)) c (lettersIn p (now (image .entry)) w) (now (regs .entry)) (now (regs .exit)) out (mov d (operandIn p (now (image .entry)) (now (literals .entry)) v)) ⌝ }
 {
-    let t = valid_typing::operands::operand(image, literals, p, c, v, w, regs, back);
+    let t = valid_typing::operands::operand(image, literals, p, c, v, w, regs, pending);
     if t.fault != 0 {
         return t.fault;
     }
@@ -93,11 +92,11 @@ fn make_listed(
     o: Listed,
     w: BlockLetters,
     regs: &mut [u16],
-    back: &mut [u16],
+    pending: &mut [u32],
     d: usize,
     t: usize,
 ) -> usize
-    requires { ⌜ Ordered p (length (now image)) × ReadyAt p (now image) (c .rows) × ScopedAt p (now image) (c .rows) × AllShort (listedIn p (now image) (now literals) o) × (o .first + o .count ≤ 131072) × (o .count ≤ 16) × (8 ≤ length (now regs)) × (8 ≤ length (now back)) ⌝ }
+    requires { ⌜ Ordered p (length (now image)) × ReadyAt p (now image) (c .rows) × ScopedAt p (now image) (c .rows) × AllShort (listedIn p (now image) (now literals) o) × (o .first + o .count ≤ 131072) × (o .count ≤ 16) × (8 ≤ length (now regs)) × (1543 ≤ length (now pending)) ⌝ }
     ensures { λ out. ⌜ InFileAt p (now (image .entry)) c (lettersIn p (now (image .entry)) w) (now (regs .entry)) (now (regs .exit)) out (malloc d t (listedIn p (now (image .entry)) (now (literals .entry)) o)) ⌝ }
 {
     let shared = p.shared;
@@ -113,7 +112,7 @@ fn make_listed(
         o,
         w,
         regs,
-        back,
+        pending,
         &mut found,
     );
     let f = valid_context::least(valid_typing::formed_row(image, p, n, t, w), g);
@@ -122,7 +121,15 @@ fn make_listed(
     }
     let r = valid_typing::given_row(n, t);
     let rows = &image[shared..slots];
-    if valid_typing::components::same_tuple(rows, &image[slots..end], n, r, &found, o.count) {
+    if valid_typing::components::same_tuple(
+        rows,
+        &image[slots..end],
+        n,
+        r,
+        &found,
+        o.count,
+        pending,
+    ) {
         return crate::heap::set_register(regs, d, r);
     }
     10
@@ -137,16 +144,16 @@ pub(crate) fn make_tuple(
     o: Listed,
     w: BlockLetters,
     regs: &mut [u16],
-    back: &mut [u16],
+    pending: &mut [u32],
     d: usize,
     t: usize,
 ) -> usize
-    requires { ⌜ Ordered p (length (now image)) × ReadyAt p (now image) (c .rows) × ScopedAt p (now image) (c .rows) × AllShort (listedIn p (now image) (now literals) o) × (o .first + o .count ≤ 131072) × (o .count ≤ 16) × (8 ≤ length (now regs)) × (8 ≤ length (now back)) ⌝ }
+    requires { ⌜ Ordered p (length (now image)) × ReadyAt p (now image) (c .rows) × ScopedAt p (now image) (c .rows) × AllShort (listedIn p (now image) (now literals) o) × (o .first + o .count ≤ 131072) × (o .count ≤ 16) × (8 ≤ length (now regs)) × (1543 ≤ length (now pending)) ⌝ }
     ensures { λ out. ⌜ InFileAt p (now (image .entry)) c (lettersIn p (now (image .entry)) w) (now (regs .entry)) (now (regs .exit)) out (malloc d t (listedIn p (now (image .entry)) (now (literals .entry)) o)) ⌝ }
 {
     let r = valid_typing::given_row(c.rows, t);
     if !valid_typing::plain_components::plain_tuple(image, literals, p, c, o, regs, r) {
-        return make_listed(image, literals, p, c, o, w, regs, back, d, t);
+        return make_listed(image, literals, p, c, o, w, regs, pending, d, t);
     }
     let f = valid_typing::formed_row(image, p, c.rows, t, w);
     if f != 0 {

@@ -6,6 +6,7 @@
 use image::Counts;
 use image::Places;
 use types_rows::Slot;
+use valid_judge::Reached;
 use valid_typing::BlockLetters;
 use valid_verdict::finding::Finding;
 ghost use mathlib.Core.Path.{_≡_};
@@ -41,11 +42,12 @@ pub struct CodeBlock {
     pub base: usize,
 }
 
-// Its instructions alone, one after the other.
+// Its instructions alone, one after the other, and how many items sp has before the first.
 pub struct BodyLines {
     pub first: usize,
     pub end: usize,
     pub base: usize,
+    pub depth: usize,
 }
 
 // The link of a register that a code row names.
@@ -72,8 +74,8 @@ fn enter(rows: &[u16], parts: &[u16], n: usize, h: usize, p: usize, regs: &mut [
     }
 }
 
-// The instructions of a block from i = first to end - 1, under its letters, with the types before them in the arrays and d items of sp;
-// instruction i stands on line base + i.
+// The instructions of a block from i = first to end - 1, under its letters, with the types before them in the arrays; instruction i stands
+// on line base + i.
 fn body(
     image: &[u16],
     literals: &[u32],
@@ -84,10 +86,10 @@ fn body(
     regs: &mut [u16],
     sp: &mut [u16],
     work: &mut [u16],
-    d: usize,
+    pending: &mut [u32],
 ) -> Finding
-    requires { ⌜ Ordered p (length (now image)) × TablesAt p (now image) (c .rows) × ((i : ℕ) → x .first ≤ i → i < x .end → SmallInstr (instrIn p (now image) (now literals) i)) × (x .end ≤ 65535) × (x .base ≤ 262144) × (8 ≤ length (now regs)) × (64 ≤ length (now sp)) × (4096 ≤ length (now work)) × (d ≤ 64) ⌝ }
-    ensures { λ out. ⌜ ((P : Program) → HoldsAt p (now (image .entry)) c P → Refuses out (lowestLine (x .base + x .first) (bodyFaults P (lettersIn p (now (image .entry)) w) (holds (contextOf (typesAt p (now (image .entry)) (c .rows)) (now (regs .entry)) (now (sp .entry)) d)) (instrsIn p (now (image .entry)) (now (literals .entry)) (x .first) (x .end - x .first))))) ⌝ }
+    requires { ⌜ Ordered p (length (now image)) × TablesAt p (now image) (c .rows) × ((i : ℕ) → x .first ≤ i → i < x .end → SmallInstr (instrIn p (now image) (now literals) i)) × (x .end ≤ 65535) × (x .base ≤ 262144) × (8 ≤ length (now regs)) × (64 ≤ length (now sp)) × (4096 ≤ length (now work)) × (x .depth ≤ 64) × (1543 ≤ length (now pending)) ⌝ }
+    ensures { λ out. ⌜ ((P : Program) → HoldsAt p (now (image .entry)) c P → Refuses out (lowestLine (x .base + x .first) (bodyFaults P (lettersIn p (now (image .entry)) w) (holds (contextOf (typesAt p (now (image .entry)) (c .rows)) (now (regs .entry)) (now (sp .entry)) (x .depth))) (instrsIn p (now (image .entry)) (now (literals .entry)) (x .first) (x .end - x .first))))) ⌝ }
 {
     // The loop's invariant speaks of locals, and of no parameter that is a struct.
     let t = p;
@@ -95,9 +97,10 @@ fn body(
     let y = x;
     let u = w;
     let mut i = y.first;
-    let mut depth = d;
+    let mut depth = y.depth;
     while i < y.end {
-        let v = valid_judge::judge(image, literals, t, k, i, u, regs, sp, work, depth);
+        let at = Reached { instr: i, depth };
+        let v = valid_judge::judge(image, literals, t, k, at, u, regs, sp, work, pending);
         let number = v.fault;
         if number != 0 {
             let line = y.base + i;
@@ -120,8 +123,9 @@ pub(crate) fn code_block(
     regs: &mut [u16],
     sp: &mut [u16],
     work: &mut [u16],
+    pending: &mut [u32],
 ) -> Finding
-    requires { ⌜ Ordered p (length (now image)) × TablesAt p (now image) (c .rows) × ((i : ℕ) → x .first ≤ i → i < x .end → SmallInstr (instrIn p (now image) (now literals) i)) × (x .end ≤ 65535) × (x .base ≤ 262144) × (8 ≤ length (now regs)) × (64 ≤ length (now sp)) × (4096 ≤ length (now work)) ⌝ }
+    requires { ⌜ Ordered p (length (now image)) × TablesAt p (now image) (c .rows) × ((i : ℕ) → x .first ≤ i → i < x .end → SmallInstr (instrIn p (now image) (now literals) i)) × (x .end ≤ 65535) × (x .base ≤ 262144) × (8 ≤ length (now regs)) × (64 ≤ length (now sp)) × (4096 ≤ length (now work)) × (1543 ≤ length (now pending)) ⌝ }
     requires { ⌜ (0 < x .link) × (x .link ≤ c .rows + 1) × (x .stack < x .link) × (x .start ≤ 65535) × (items (meanS (rowTable p (now image)) (x .stack)) ≤ 64) ⌝ }
     ensures { λ out. ⌜ ((P : Program) → HoldsAt p (now (image .entry)) c P → Refuses out (lowestLine (x .base + x .first) (bodyFaults P (lettersAt (slotSection p (now (image .entry))) (x .start)) (holds (atStart (blockAt (rowTable p (now (image .entry))) (x .link) (x .stack) (x .start) (instrsIn p (now (image .entry)) (now (literals .entry)) (x .first) (x .end - x .first))))) (instrsIn p (now (image .entry)) (now (literals .entry)) (x .first) (x .end - x .first))))) ⌝ }
 {
@@ -134,7 +138,7 @@ pub(crate) fn code_block(
     enter(rows, parts, n, x.link, x.start, regs);
     valid_typing::flatten(rows, parts, n, sp, x.stack);
     let count = types_rows::letter_count(parts, x.start);
-    let d = types_rows::item_count(rows, x.stack);
+    let depth = types_rows::item_count(rows, x.stack);
     let w = BlockLetters {
         count,
         start: x.start + 9,
@@ -143,6 +147,7 @@ pub(crate) fn code_block(
         first: x.first,
         end: x.end,
         base: x.base,
+        depth,
     };
-    body(image, literals, p, c, y, w, regs, sp, work, d)
+    body(image, literals, p, c, y, w, regs, sp, work, pending)
 }

@@ -72,8 +72,9 @@ fn block(
     regs: &mut [u16],
     sp: &mut [u16],
     work: &mut [u16],
+    pending: &mut [u32],
 ) -> Finding
-    requires { ⌜ Ordered p (length (now image)) × TablesAt p (now image) (c .rows) × ((i : ℕ) → i < c .instrs → SmallInstr (instrIn p (now image) (now literals) i)) × (c .instrs ≤ 1024) × (b ≤ 64) × (endOf (blockSection p (now image)) (c .instrs) (c .blocks) b ≤ c .instrs) × (8 ≤ length (now regs)) × (64 ≤ length (now sp)) × (4096 ≤ length (now work)) ⌝ }
+    requires { ⌜ Ordered p (length (now image)) × TablesAt p (now image) (c .rows) × ((i : ℕ) → i < c .instrs → SmallInstr (instrIn p (now image) (now literals) i)) × (c .instrs ≤ 1024) × (b ≤ 64) × (endOf (blockSection p (now image)) (c .instrs) (c .blocks) b ≤ c .instrs) × (8 ≤ length (now regs)) × (64 ≤ length (now sp)) × (4096 ≤ length (now work)) × (1543 ≤ length (now pending)) ⌝ }
     ensures { λ out. ⌜ ((P : Program) → HoldsAt p (now (image .entry)) c P → Refuses out (lowestLine (c .rows + b + cell 2 (blockSection p (now (image .entry))) b 1 + 1) (blockPass P (eqb b 0) (blockIn p (now (image .entry)) (now (literals .entry)) c b)))) ⌝ }
 {
     let blocks = p.blocks;
@@ -104,7 +105,7 @@ fn block(
         end,
         base,
     };
-    crate::body::code_block(image, literals, p, c, x, regs, sp, work)
+    crate::body::code_block(image, literals, p, c, x, regs, sp, work, pending)
 }
 
 // The lowest line with a fault, of the rows, blocks and instructions that c counts.
@@ -116,8 +117,9 @@ pub fn pass_three(
     regs: &mut [u16],
     sp: &mut [u16],
     work: &mut [u16],
+    pending: &mut [u32],
 ) -> Finding
-    requires { ⌜ Ordered p (length (now image)) × TablesAt p (now image) (c .rows) × (0 < c .blocks → (i : ℕ) → i < c .instrs → SmallInstr (instrIn p (now image) (now literals) i)) × (c .instrs ≤ 1024) × (c .blocks ≤ 64) × (0 < c .blocks → cell 2 (blockSection p (now image)) 0 1 ≡ 0) × ((b : ℕ) → b < c .blocks → (cell 2 (blockSection p (now image)) b 1 ≤ endOf (blockSection p (now image)) (c .instrs) (c .blocks) b) × (endOf (blockSection p (now image)) (c .instrs) (c .blocks) b ≤ c .instrs)) × (8 ≤ length (now regs)) × (64 ≤ length (now sp)) × (4096 ≤ length (now work)) ⌝ }
+    requires { ⌜ Ordered p (length (now image)) × TablesAt p (now image) (c .rows) × (0 < c .blocks → (i : ℕ) → i < c .instrs → SmallInstr (instrIn p (now image) (now literals) i)) × (c .instrs ≤ 1024) × (c .blocks ≤ 64) × (0 < c .blocks → cell 2 (blockSection p (now image)) 0 1 ≡ 0) × ((b : ℕ) → b < c .blocks → (cell 2 (blockSection p (now image)) b 1 ≤ endOf (blockSection p (now image)) (c .instrs) (c .blocks) b) × (endOf (blockSection p (now image)) (c .instrs) (c .blocks) b ≤ c .instrs)) × (8 ≤ length (now regs)) × (64 ≤ length (now sp)) × (4096 ≤ length (now work)) × (1543 ≤ length (now pending)) ⌝ }
     ensures { λ out. ⌜ ((P : Program) → HoldsAt p (now (image .entry)) c P → P .blocks ≡ blocksOf (typesOf (rowsIn (rowTable p (now (image .entry))) (c .rows))) (blocksIn p (now (image .entry)) (now (literals .entry)) c) → Refuses out (lowestLine 0 (passThree P))) ⌝ }
 {
     if c.blocks == 0 {
@@ -128,7 +130,7 @@ pub fn pass_three(
     let k = c;
     let mut b = 0;
     while b < k.blocks {
-        let f = block(image, literals, t, k, b, regs, sp, work);
+        let f = block(image, literals, t, k, b, regs, sp, work, pending);
         let number = f.number;
         if number != 0 {
             return f;

@@ -25,21 +25,21 @@ ghost use Rattle.valid_share.specs.Shared.{Firsts, Alike, Lower, Shared}
 use image::Places;
 
 // Rows c and r, of m rows, are of the same type.
-fn same_type(rows: &[u16], parts: &[u16], m: usize, c: usize, r: usize) -> bool
-    requires { ⌜ (m ≤ 514) × (c < m) × (r < m) ⌝ }
+fn same_type(rows: &[u16], parts: &[u16], m: usize, c: usize, r: usize, pending: &mut [u32]) -> bool
+    requires { ⌜ (m ≤ 514) × (c < m) × (r < m) × (1543 ≤ length (now pending)) ⌝ }
     ensures { λ out. ⌜ (out ≡ true → getD (typesOf (rowsIn (tab (now (rows .entry)) (now (parts .entry))) m)) c (arg value junk) ≡ getD (typesOf (rowsIn (tab (now (rows .entry)) (now (parts .entry))) m)) r (arg value junk)) ⌝ }
 {
     let s = types_rows::is_stack(rows, r);
     if types_rows::is_stack(rows, c) {
         if s {
-            return types_equal::equal_stacks(rows, parts, m, c, r);
+            return types_equal::equal_stacks(rows, parts, m, c, r, pending);
         }
         return false;
     }
     if s {
         return false;
     }
-    types_equal::equal_values(rows, parts, m, c, r)
+    types_equal::equal_values(rows, parts, m, c, r, pending)
 }
 
 // The first c parts of two rows of the kind k, with the numbers a and b and with x and y, are the same in the new table.
@@ -131,17 +131,17 @@ fn alike(rows: &[u16], parts: &[u16], m: usize, first: &[u16], c: usize, r: usiz
     )
 }
 
-// Row c stands for row r: it stands for itself, their hashes are equal, and their types.
+// Row c stands for row r: it stands for itself, their hashes are equal, and their types. What is pending stands behind the hashes in `work`.
 fn stands_for(
     rows: &[u16],
     parts: &[u16],
     m: usize,
     first: &[u16],
-    work: &[u32],
+    work: &mut [u32],
     c: usize,
     r: usize,
 ) -> bool
-    requires { ⌜ (m ≤ 514) × Counted (tab (now rows) (now parts)) m × (c ≤ r) × (r < m) × Firsts (tab (now rows) (now parts)) m (now first) r × Lower (tab (now rows) (now parts)) (r + 1) ⌝ }
+    requires { ⌜ (m ≤ 514) × Counted (tab (now rows) (now parts)) m × (c ≤ r) × (r < m) × Firsts (tab (now rows) (now parts)) m (now first) r × Lower (tab (now rows) (now parts)) (r + 1) × (2567 ≤ length (now work)) ⌝ }
     ensures { λ out. ⌜ (out ≡ true → getD (typesOf (rowsIn (tab (now (rows .entry)) (now (parts .entry))) m)) c (arg value junk) ≡ getD (typesOf (rowsIn (tab (now (rows .entry)) (now (parts .entry))) m)) r (arg value junk)) ⌝ }
 {
     if crate::row_hash::get(work, 2 * c) != crate::row_hash::get(work, 2 * r) {
@@ -153,7 +153,7 @@ fn stands_for(
     if alike(rows, parts, m, first, c, r) {
         return true;
     }
-    same_type(rows, parts, m, c, r)
+    same_type(rows, parts, m, c, r, &mut work[1024..])
 }
 
 // A row that is found to have the type of row r.
@@ -162,11 +162,11 @@ fn first_like(
     parts: &[u16],
     m: usize,
     first: &[u16],
-    work: &[u32],
+    work: &mut [u32],
     chains: &[u16],
     r: usize,
 ) -> usize
-    requires { ⌜ (m ≤ 514) × Counted (tab (now rows) (now parts)) m × (r < m) × Firsts (tab (now rows) (now parts)) m (now first) r × Lower (tab (now rows) (now parts)) (r + 1) ⌝ }
+    requires { ⌜ (m ≤ 514) × Counted (tab (now rows) (now parts)) m × (r < m) × Firsts (tab (now rows) (now parts)) m (now first) r × Lower (tab (now rows) (now parts)) (r + 1) × (2567 ≤ length (now work)) ⌝ }
     ensures { λ out. ⌜ (getD (typesOf (rowsIn (tab (now (rows .entry)) (now (parts .entry))) m)) out (arg value junk) ≡ getD (typesOf (rowsIn (tab (now (rows .entry)) (now (parts .entry))) m)) r (arg value junk)) × (out ≤ r) ⌝ }
 {
     let h = crate::row_hash::chain_of(work, r);
@@ -188,7 +188,7 @@ fn find_first(
     work: &mut [u32],
     chains: &mut [u16],
 )
-    requires { ⌜ (n ≤ 512) × Counted (tab (now rows) (now parts)) (n + 2) × (n ≤ length (now first)) × Lower (tab (now rows) (now parts)) n ⌝ }
+    requires { ⌜ (n ≤ 512) × Counted (tab (now rows) (now parts)) (n + 2) × (n ≤ length (now first)) × Lower (tab (now rows) (now parts)) n × (2567 ≤ length (now work)) ⌝ }
     ensures { λ _. ⌜ Firsts (tab (now (rows .entry)) (now (parts .entry))) (n + 2) (now (first .exit)) n ⌝ }
 {
     let mut r = 0;
@@ -201,9 +201,10 @@ fn find_first(
     }
 }
 
-// Rows n and n + 1 are `I` and `N`. `first` and `work` are written too; in `work` two entries a row serve, fewer cost time only.
+// Rows n and n + 1 are `I` and `N`. `first` and `work` are written too: `work` holds the hashes, two a row, and from entry 1,024 on what a
+// comparison keeps pending.
 pub fn share(image: &mut [u16], p: Places, n: usize, first: &mut [u16], work: &mut [u32])
-    requires { ⌜ Ordered p (length (now image)) × (n ≤ 512) × (4 * n + 8 ≤ p .slots - p .shared) × (17 * n ≤ p .end - p .slots) × (n ≤ length (now first)) ⌝ }
+    requires { ⌜ Ordered p (length (now image)) × (n ≤ 512) × (4 * n + 8 ≤ p .slots - p .shared) × (17 * n ≤ p .end - p .slots) × (n ≤ length (now first)) × (2567 ≤ length (now work)) ⌝ }
     requires { ⌜ Counted (tab (rowSection p (now image)) (partSection p (now image))) (n + 2) × (cell 4 (rowSection p (now image)) n 0 ≡ 0) × (cell 4 (rowSection p (now image)) (n + 1) 0 ≡ 1) ⌝ }
     requires { ⌜ Clear (rowsFaults [] [] (rowsIn (tab (rowSection p (now image)) (partSection p (now image))) n)) × ((r : ℕ) → r < n → SmallRow (rowAt (tab (rowSection p (now image)) (partSection p (now image))) r)) ⌝ }
     ensures { λ _. ⌜ Shared (tab (rowSection p (now (image .entry))) (partSection p (now (image .entry)))) (tab (sharedSection p (now (image .exit))) (slotSection p (now (image .exit)))) n × Outside (p .shared) (p .end) (now (image .entry)) (now (image .exit)) ⌝ }

@@ -33,10 +33,10 @@ pub fn operand_list(
     o: Listed,
     w: BlockLetters,
     regs: &[u16],
-    back: &mut [u16],
+    pending: &mut [u32],
     found: &mut [u16],
 ) -> usize
-    requires { ⌜ Ordered p (length (now image)) × ReadyAt p (now image) (c .rows) × ScopedAt p (now image) (c .rows) × AllShort (listedIn p (now image) (now literals) o) × (o .first + o .count ≤ 131072) × (8 ≤ length (now back)) × (o .count ≤ length (now found)) ⌝ }
+    requires { ⌜ Ordered p (length (now image)) × ReadyAt p (now image) (c .rows) × ScopedAt p (now image) (c .rows) × AllShort (listedIn p (now image) (now literals) o) × (o .first + o .count ≤ 131072) × (1543 ≤ length (now pending)) × (o .count ≤ length (now found)) ⌝ }
     ensures { λ out. ⌜ ((P : Program) → HoldsAt p (now (image .entry)) c P → toldOf (components P (lettersIn p (now (image .entry)) w) (regsOf (typesAt p (now (image .entry)) (c .rows)) (now (regs .entry))) (listedIn p (now (image .entry)) (now (literals .entry)) o)) ≡ answer out (typesFrom (typesAt p (now (image .entry)) (c .rows)) (now (found .exit)) 0 (o .count))) ⌝ }
 {
     // The loop's invariant speaks of locals, and of no parameter that is a struct.
@@ -47,7 +47,7 @@ pub fn operand_list(
     let mut f = 0;
     let mut i = o.count;
     while i > 0 {
-        let r = crate::operands::operand(image, literals, t, k, v + i - 1, u, regs, back);
+        let r = crate::operands::operand(image, literals, t, k, v + i - 1, u, regs, pending);
         found[i - 1] = r.row as u16;
         f = valid_context::least(r.fault, f);
         i -= 1;
@@ -64,14 +64,15 @@ fn same_parts(
     p: usize,
     c: usize,
     found: &[u16],
+    pending: &mut [u32],
 ) -> bool
-    requires { ⌜ Ready (now rows) (now parts) n × (0 < h) × (h ≤ n + 2) × (p ≤ 65535) × (c ≤ 65535) ⌝ }
+    requires { ⌜ Ready (now rows) (now parts) n × (0 < h) × (h ≤ n + 2) × (p ≤ 65535) × (c ≤ 65535) × (1543 ≤ length (now pending)) ⌝ }
     ensures { λ out. ⌜ out ≡ same (partsOf (meanV (tab (now (rows .entry)) (now (parts .entry)))) (now (parts .entry)) false h p c) (typesFrom (typesIn (now (rows .entry)) (now (parts .entry)) n) (now (found .entry)) 0 c) ⌝ }
 {
     let mut i = 0;
     while i < c {
         let t = crate::row_of(n, types_rows::link(h, types_rows::at(parts, p + i)));
-        if !crate::same_rows(rows, parts, n, t, types_rows::at(found, i)) {
+        if !crate::same_rows(rows, parts, n, t, types_rows::at(found, i), pending) {
             return false;
         }
         i += 1;
@@ -80,8 +81,16 @@ fn same_parts(
 }
 
 // Row t is the tuple of the c rows in `found`.
-pub fn same_tuple(rows: &[u16], parts: &[u16], n: usize, t: usize, found: &[u16], c: usize) -> bool
-    requires { ⌜ Ready (now rows) (now parts) n × (t ≤ 65535) ⌝ }
+pub fn same_tuple(
+    rows: &[u16],
+    parts: &[u16],
+    n: usize,
+    t: usize,
+    found: &[u16],
+    c: usize,
+    pending: &mut [u32],
+) -> bool
+    requires { ⌜ Ready (now rows) (now parts) n × (t ≤ 65535) × (1543 ≤ length (now pending)) ⌝ }
     ensures { λ out. ⌜ out ≡ same (typeAt value (typesIn (now (rows .entry)) (now (parts .entry)) n) t) (tuple (typesFrom (typesIn (now (rows .entry)) (now (parts .entry)) n) (now (found .entry)) 0 c)) ⌝ }
 {
     let h = types_rows::link(n + 3, t);
@@ -92,5 +101,5 @@ pub fn same_tuple(rows: &[u16], parts: &[u16], n: usize, t: usize, found: &[u16]
     if k != c {
         return false;
     }
-    same_parts(rows, parts, n, h, p, c, found)
+    same_parts(rows, parts, n, h, p, c, found, pending)
 }

@@ -4,7 +4,8 @@
 // program's own, so that each type that the checker holds is the type of a row. Promised of each: its premise's least fault, 0 if it holds,
 // and what the premise gives, as an equation with the definition. Above these stand operands (modules bases, operands), the components of a
 // tuple (components, plain_components) and targets (target). A function that reads more tables than the rows' is lent the image that they
-// are sections of (crate image), and reads the rows as the checker shares them.
+// are sections of (crate image), and reads the rows as the checker shares them. One that compares rows is lent `pending`, where crate
+// types_equal keeps what is still to be compared.
 pub mod bases;
 pub mod components;
 pub mod operands;
@@ -182,8 +183,15 @@ fn both_int(rows: &[u16], parts: &[u16], n: usize, l: usize, r: usize) -> bool
 }
 
 // The value types of rows l and r are equal.
-pub fn same_rows(rows: &[u16], parts: &[u16], n: usize, l: usize, r: usize) -> bool
-    requires { ⌜ Ready (now rows) (now parts) n ⌝ }
+pub fn same_rows(
+    rows: &[u16],
+    parts: &[u16],
+    n: usize,
+    l: usize,
+    r: usize,
+    pending: &mut [u32],
+) -> bool
+    requires { ⌜ Ready (now rows) (now parts) n × (1543 ≤ length (now pending)) ⌝ }
     ensures { λ out. ⌜ out ≡ same (typeAt value (typesIn (now (rows .entry)) (now (parts .entry)) n) l) (typeAt value (typesIn (now (rows .entry)) (now (parts .entry)) n) r) ⌝ }
 {
     if l == r {
@@ -192,20 +200,20 @@ pub fn same_rows(rows: &[u16], parts: &[u16], n: usize, l: usize, r: usize) -> b
     if both_int(rows, parts, n, l, r) {
         return true;
     }
-    types_equal::equal_values(rows, parts, n + 2, l, r)
+    types_equal::equal_values(rows, parts, n + 2, l, r, pending)
 }
 
 // ---- items
 // An item of a stack row is the one that entry y of sp stands for.
-fn same_item(rows: &[u16], parts: &[u16], n: usize, it: Item, y: usize) -> bool
-    requires { ⌜ Ready (now rows) (now parts) n × LowItem (n + 2) it ⌝ }
+fn same_item(rows: &[u16], parts: &[u16], n: usize, it: Item, y: usize, pending: &mut [u32]) -> bool
+    requires { ⌜ Ready (now rows) (now parts) n × LowItem (n + 2) it × (1543 ≤ length (now pending)) ⌝ }
     ensures { λ out. ⌜ out ≡ itemIs (now (rows .entry)) (now (parts .entry)) n it y ⌝ }
 {
     match it {
         Item::NoItem => false,
         Item::ValItem(t) => {
             if y < 1024 {
-                return same_rows(rows, parts, n, row_of(n, t), y);
+                return same_rows(rows, parts, n, row_of(n, t), y, pending);
             }
             false
         }
@@ -284,8 +292,16 @@ fn seen_items(rows: &[u16], parts: &[u16], n: usize, sp: &[u16], m: usize, x: us
 }
 
 // The stack row of link x has the m lowest items of sp, each found by its position.
-fn same_each(rows: &[u16], parts: &[u16], n: usize, sp: &[u16], m: usize, x: usize) -> bool
-    requires { ⌜ Ready (now rows) (now parts) n × (x ≤ n + 2) ⌝ }
+fn same_each(
+    rows: &[u16],
+    parts: &[u16],
+    n: usize,
+    sp: &[u16],
+    m: usize,
+    x: usize,
+    pending: &mut [u32],
+) -> bool
+    requires { ⌜ Ready (now rows) (now parts) n × (x ≤ n + 2) × (1543 ≤ length (now pending)) ⌝ }
     ensures { λ out. ⌜ out ≡ same (meanS (tab (now (rows .entry)) (now (parts .entry))) x) (spOf (typesIn (now (rows .entry)) (now (parts .entry)) n) (now (sp .entry)) m) ⌝ }
 {
     if types_rows::item_count(rows, x) != m {
@@ -294,7 +310,7 @@ fn same_each(rows: &[u16], parts: &[u16], n: usize, sp: &[u16], m: usize, x: usi
     let mut i = 0;
     while i < m {
         let it = types_rows::item_at(rows, parts, 0, 0, x, i);
-        if !same_item(rows, parts, n, it, types_rows::at(sp, m - i - 1)) {
+        if !same_item(rows, parts, n, it, types_rows::at(sp, m - i - 1), pending) {
             return false;
         }
         i += 1;
@@ -303,26 +319,42 @@ fn same_each(rows: &[u16], parts: &[u16], n: usize, sp: &[u16], m: usize, x: usi
 }
 
 // The stack row of link x has the m lowest items of sp.
-pub fn same_items(rows: &[u16], parts: &[u16], n: usize, sp: &[u16], m: usize, x: usize) -> bool
-    requires { ⌜ Ready (now rows) (now parts) n × (x ≤ n + 2) ⌝ }
+pub fn same_items(
+    rows: &[u16],
+    parts: &[u16],
+    n: usize,
+    sp: &[u16],
+    m: usize,
+    x: usize,
+    pending: &mut [u32],
+) -> bool
+    requires { ⌜ Ready (now rows) (now parts) n × (x ≤ n + 2) × (1543 ≤ length (now pending)) ⌝ }
     ensures { λ out. ⌜ out ≡ same (meanS (tab (now (rows .entry)) (now (parts .entry))) x) (spOf (typesIn (now (rows .entry)) (now (parts .entry)) n) (now (sp .entry)) m) ⌝ }
 {
     if seen_items(rows, parts, n, sp, m, x) {
         return true;
     }
-    same_each(rows, parts, n, sp, m, x)
+    same_each(rows, parts, n, sp, m, x, pending)
 }
 
 // The items of the stack row of link x are a tail of sp's.
-pub fn is_tail(rows: &[u16], parts: &[u16], n: usize, sp: &[u16], d: usize, x: usize) -> bool
-    requires { ⌜ Ready (now rows) (now parts) n × (x ≤ n + 2) ⌝ }
+pub fn is_tail(
+    rows: &[u16],
+    parts: &[u16],
+    n: usize,
+    sp: &[u16],
+    d: usize,
+    x: usize,
+    pending: &mut [u32],
+) -> bool
+    requires { ⌜ Ready (now rows) (now parts) n × (x ≤ n + 2) × (1543 ≤ length (now pending)) ⌝ }
     ensures { λ out. ⌜ above (meanS (tab (now (rows .entry)) (now (parts .entry))) x) (spOf (typesIn (now (rows .entry)) (now (parts .entry)) n) (now (sp .entry)) d) ≡ when out (spAbove (typesIn (now (rows .entry)) (now (parts .entry)) n) (now (sp .entry)) (items (meanS (tab (now (rows .entry)) (now (parts .entry))) x)) (d - items (meanS (tab (now (rows .entry)) (now (parts .entry))) x))) ⌝ }
 {
     let m = types_rows::item_count(rows, x);
     if d < m {
         return false;
     }
-    same_items(rows, parts, n, sp, m, x)
+    same_items(rows, parts, n, sp, m, x, pending)
 }
 
 // The link of an item that is a value type, else 0.

@@ -61,8 +61,16 @@ fn is_closed(image: &[u16], p: Places, n: usize, t: usize) -> bool
 }
 
 // The least fault of a base that carries the arguments `args` (rows, in the order of their variables) and names the resulting row.
-fn fill_fault(image: &[u16], p: Places, c: Counts, regs: &[u16], o: BaseArgs, args: &[u16]) -> usize
-    requires { ⌜ Ordered p (length (now image)) × ReadyAt p (now image) (c .rows) × (o .number ≤ 4294967295) × (allBelow (c .rows + 2) (now args) ≡ true) × ScopedAt p (now image) (c .rows) ⌝ }
+fn fill_fault(
+    image: &[u16],
+    p: Places,
+    c: Counts,
+    regs: &[u16],
+    o: BaseArgs,
+    args: &[u16],
+    pending: &mut [u32],
+) -> usize
+    requires { ⌜ Ordered p (length (now image)) × ReadyAt p (now image) (c .rows) × (o .number ≤ 4294967295) × (allBelow (c .rows + 2) (now args) ≡ true) × ScopedAt p (now image) (c .rows) × (1543 ≤ length (now pending)) ⌝ }
     ensures { λ out. ⌜ ((P : Program) (Δ : List Kind) (f : Fault) → HoldsAt p (now (image .entry)) c P → numberOf f ≡ 10 → toldOf (applied P Δ f (regsOf (typesAt p (now (image .entry)) (c .rows)) (now (regs .entry))) (baseOf (o .kind) (o .number)) (map (λ (x : ℕ). getD (typesAt p (now (image .entry)) (c .rows)) x (arg value junk)) (now (args .entry))) (o .row)) ≡ answer out tt) ⌝ }
 {
     let shared = p.shared;
@@ -84,7 +92,7 @@ fn fill_fault(image: &[u16], p: Places, c: Counts, regs: &[u16], o: BaseArgs, ar
     }
     let closed = is_closed(image, p, n, b.row);
     let r = crate::given_row(n, o.row);
-    if types_equal::filling::filled(rows, parts, n + 2, b.row, closed, args, r) {
+    if types_equal::filling::filled(rows, parts, n + 2, b.row, closed, args, r, pending) {
         return 0;
     }
     10
@@ -98,17 +106,18 @@ fn instance(
     regs: &[u16],
     o: BaseArgs,
     w: BlockLetters,
-    back: &mut [u16],
+    pending: &mut [u32],
 ) -> usize
-    requires { ⌜ Ordered p (length (now image)) × ReadyAt p (now image) (c .rows) × ScopedAt p (now image) (c .rows) × (o .number ≤ 4294967295) × (o .count ≤ 8) × (8 ≤ length (now back)) × (o .first ≤ 1048576) ⌝ }
+    requires { ⌜ Ordered p (length (now image)) × ReadyAt p (now image) (c .rows) × ScopedAt p (now image) (c .rows) × (o .number ≤ 4294967295) × (o .count ≤ 8) × (o .first ≤ 1048576) × (1543 ≤ length (now pending)) ⌝ }
     ensures { λ out. ⌜ ((P : Program) (f : Fault) → HoldsAt p (now (image .entry)) c P → numberOf f ≡ 10 → toldOf (operand P (lettersIn p (now (image .entry)) w) f (regsOf (typesAt p (now (image .entry)) (c .rows)) (now (regs .entry))) (inst (baseOf (o .kind) (o .number)) (span (argSection p (now (image .entry))) (o .first) (o .count)) (o .row))) ≡ answer out (typeAt value (typesAt p (now (image .entry)) (c .rows)) (givenRow (c .rows) (o .row)))) ⌝ }
 {
     let args = p.args;
     let uses = p.uses;
     let n = c.rows;
     let k = o.count;
-    crate::reversed(&image[args..uses], o.first, k, n, back);
-    let h = fill_fault(image, p, c, regs, o, &back[..k]);
+    let mut back = [0u16; 8];
+    crate::reversed(&image[args..uses], o.first, k, n, &mut back);
+    let h = fill_fault(image, p, c, regs, o, &back[..k], pending);
     let g = crate::formed_row(image, p, n, o.row, w);
     if crate::formed_args(image, p, n, o.first, k, w) {
         return valid_context::least(g, h);
@@ -125,9 +134,9 @@ pub fn operand(
     v: usize,
     w: BlockLetters,
     regs: &[u16],
-    back: &mut [u16],
+    pending: &mut [u32],
 ) -> Typed
-    requires { ⌜ Ordered p (length (now image)) × ReadyAt p (now image) (c .rows) × ScopedAt p (now image) (c .rows) × Short (operandIn p (now image) (now literals) v) × (v ≤ 131072) × (8 ≤ length (now back)) ⌝ }
+    requires { ⌜ Ordered p (length (now image)) × ReadyAt p (now image) (c .rows) × ScopedAt p (now image) (c .rows) × Short (operandIn p (now image) (now literals) v) × (v ≤ 131072) × (1543 ≤ length (now pending)) ⌝ }
     ensures { λ out. ⌜ ((P : Program) (f : Fault) → HoldsAt p (now (image .entry)) c P → numberOf f ≡ 10 → toldOf (operand P (lettersIn p (now (image .entry)) w) f (regsOf (typesAt p (now (image .entry)) (c .rows)) (now (regs .entry))) (operandIn p (now (image .entry)) (now (literals .entry)) v)) ≡ answer (out .fault) (typeAt value (typesAt p (now (image .entry)) (c .rows)) (out .row))) × (out .row ≤ c .rows + 1) ⌝ }
 {
     let operands = p.operands;
@@ -140,7 +149,7 @@ pub fn operand(
         return crate::bases::base_type(image, p, c, regs, kind, number);
     }
     let row = crate::bases::entry(table, v, 2);
-    let first = 8 * v;
+    let first = crate::bases::entry(table, v, 3);
     let o = BaseArgs {
         kind,
         number,
@@ -148,7 +157,7 @@ pub fn operand(
         count,
         row,
     };
-    let f = instance(image, p, c, regs, o, w, back);
+    let f = instance(image, p, c, regs, o, w, pending);
     Typed {
         fault: f,
         row: crate::given_row(c.rows, row),

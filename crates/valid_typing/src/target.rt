@@ -32,8 +32,16 @@ pub struct Fitted {
 }
 
 // A register of link u fits what the code row of link h says of it: x is 0 for nothing, else one more than a row.
-fn register_fits(rows: &[u16], parts: &[u16], n: usize, h: usize, x: usize, u: usize) -> bool
-    requires { ⌜ Ready (now rows) (now parts) n × (h ≤ n + 2) × (x ≤ 65535) ⌝ }
+fn register_fits(
+    rows: &[u16],
+    parts: &[u16],
+    n: usize,
+    h: usize,
+    x: usize,
+    u: usize,
+    pending: &mut [u32],
+) -> bool
+    requires { ⌜ Ready (now rows) (now parts) n × (h ≤ n + 2) × (x ≤ 65535) × (1543 ≤ length (now pending)) ⌝ }
     ensures { λ out. ⌜ out ≡ slotFits (meanV (tab (now (rows .entry)) (now (parts .entry)))) (typesIn (now (rows .entry)) (now (parts .entry)) n) (slotAt true h x) u ⌝ }
 {
     if x == 0 {
@@ -48,12 +56,21 @@ fn register_fits(rows: &[u16], parts: &[u16], n: usize, h: usize, x: usize, u: u
         n,
         crate::row_of(n, types_rows::link(h, x - 1)),
         u - 1,
+        pending,
     )
 }
 
 // The first register, counted from 1, that does not fit the code row of link h, whose registers start at p; 0 if all fit.
-fn unfit_register(rows: &[u16], parts: &[u16], n: usize, h: usize, p: usize, regs: &[u16]) -> usize
-    requires { ⌜ Ready (now rows) (now parts) n × (h ≤ n + 2) × (p ≤ 65535) ⌝ }
+fn unfit_register(
+    rows: &[u16],
+    parts: &[u16],
+    n: usize,
+    h: usize,
+    p: usize,
+    regs: &[u16],
+    pending: &mut [u32],
+) -> usize
+    requires { ⌜ Ready (now rows) (now parts) n × (h ≤ n + 2) × (p ≤ 65535) × (1543 ≤ length (now pending)) ⌝ }
     ensures { λ out. ⌜ ((P : Program) (Δ : List Kind) → out ≡ firstItem (unfits P Δ 1 (partsOf (meanV (tab (now (rows .entry)) (now (parts .entry)))) (now (parts .entry)) true h p 8) (regsOf (typesIn (now (rows .entry)) (now (parts .entry)) n) (now (regs .entry))))) ⌝ }
 {
     let mut i = 0;
@@ -65,6 +82,7 @@ fn unfit_register(rows: &[u16], parts: &[u16], n: usize, h: usize, p: usize, reg
             h,
             types_rows::at(parts, p + i),
             types_rows::at(regs, i),
+            pending,
         ) {
             return i + 1;
         }
@@ -82,8 +100,9 @@ fn aimed(
     regs: &[u16],
     sp: &[u16],
     d: usize,
+    pending: &mut [u32],
 ) -> Fitted
-    requires { ⌜ Ready (now rows) (now parts) n × (t ≤ n + 1) ⌝ }
+    requires { ⌜ Ready (now rows) (now parts) n × (t ≤ n + 1) × (1543 ≤ length (now pending)) ⌝ }
     ensures { λ out. ⌜ ((P : Program) (Δ : List Kind) (v : Operand) (k : ℕ) → k ≡ 0 → toldOf (operand P Δ (unfit 99) (regsOf (typesIn (now (rows .entry)) (now (parts .entry)) n) (now (regs .entry))) v) ≡ answer k (typeAt value (typesIn (now (rows .entry)) (now (parts .entry)) n) t) → Answered (targetOf P Δ (contextOf (typesIn (now (rows .entry)) (now (parts .entry)) n) (now (regs .entry)) (now (sp .entry)) d) v) (out .fault) tt (out .item)) ⌝ }
 {
     let c = crate::code(rows, parts, n, t);
@@ -99,10 +118,10 @@ fn aimed(
             item: 100,
         };
     }
-    if !crate::same_items(rows, parts, n, sp, d, c.stack) {
+    if !crate::same_items(rows, parts, n, sp, d, c.stack, pending) {
         return Fitted { fault: 10, item: 0 };
     }
-    let i = unfit_register(rows, parts, n, c.link, c.start, regs);
+    let i = unfit_register(rows, parts, n, c.link, c.start, regs, pending);
     if i != 0 {
         return Fitted { fault: 10, item: i };
     }
@@ -123,12 +142,12 @@ pub fn target(
     regs: &[u16],
     sp: &[u16],
     d: usize,
-    back: &mut [u16],
+    pending: &mut [u32],
 ) -> Fitted
-    requires { ⌜ Ordered p (length (now image)) × ReadyAt p (now image) (c .rows) × ScopedAt p (now image) (c .rows) × Short (operandIn p (now image) (now literals) v) × (v ≤ 131072) × (8 ≤ length (now back)) ⌝ }
+    requires { ⌜ Ordered p (length (now image)) × ReadyAt p (now image) (c .rows) × ScopedAt p (now image) (c .rows) × Short (operandIn p (now image) (now literals) v) × (v ≤ 131072) × (1543 ≤ length (now pending)) ⌝ }
     ensures { λ out. ⌜ ((P : Program) → HoldsAt p (now (image .entry)) c P → Answered (targetOf P (lettersIn p (now (image .entry)) w) (contextOf (typesAt p (now (image .entry)) (c .rows)) (now (regs .entry)) (now (sp .entry)) d) (operandIn p (now (image .entry)) (now (literals .entry)) v)) (out .fault) tt (out .item)) ⌝ }
 {
-    let r = crate::operands::operand(image, literals, p, c, v, w, regs, back);
+    let r = crate::operands::operand(image, literals, p, c, v, w, regs, pending);
     if r.fault == 10 {
         return Fitted {
             fault: 10,
@@ -145,5 +164,14 @@ pub fn target(
     let slots = p.slots;
     let end = p.end;
     let rows = &image[shared..slots];
-    aimed(rows, &image[slots..end], c.rows, r.row, regs, sp, d)
+    aimed(
+        rows,
+        &image[slots..end],
+        c.rows,
+        r.row,
+        regs,
+        sp,
+        d,
+        pending,
+    )
 }

@@ -53,7 +53,7 @@ module _ (R : Memory) where
 module _ (R : Memory) where
   pub word-of : (os bs : List ℕ) (v : ℕ) → wordOf R (operandAt (operandTable os bs) v) ≡ baseWord R (baseOf (cell 4 os v 0) (getD bs v 0))
   unfolding operandAt wordOf operandOf
-  word-of os bs v = go (span [] (8 * v) (cell 4 os v 1))
+  word-of os bs v = go (span [] (cell 4 os v 3) (cell 4 os v 1))
     where
       go : (ts : List ℕ) → wordOf R (operandOf (baseOf (cell 4 os v 0) (getD bs v 0)) ts (cell 4 os v 2)) ≡ baseWord R (baseOf (cell 4 os v 0) (getD bs v 0))
       go [] = refl

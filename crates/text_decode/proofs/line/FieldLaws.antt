@@ -112,6 +112,16 @@ slots-are line at ks k l m n x y z w t u v is a b c d e f g =
     ∙ four-slots line at k l m n (x .ok) (y .ok) (z .ok) (w .ok) (x .value) (y .value) (z .value) (w .value) (x .next + 1) (y .next + 1) (z .next + 1) (w .next + 1) a b c d
     ∙ ap (λ (l : List ℕ). readSlots l (fieldsFrom line at)) (sym is)
 
+-- a form with no third and no fourth field
+and-true : (t : Bool) → t ≡ (t && true)
+and-true true = refl
+and-true false = refl
+
+pub two-slots : (line : List ℕ) (at k l m n : ℕ) (x y : Slot) (t : Bool) → slotOf line x ≡ readSlot k (fieldsFrom line at) → slotOf line y ≡ readSlot l (fieldsFrom line (x .next + 1)) → t ≡ (x .ok && y .ok) → m ≡ 0 → n ≡ 0 → when t (x .value ∷ y .value ∷ 0 ∷ 0 ∷ [], fieldsFrom line (y .next + 1)) ≡ readSlots (k ∷ l ∷ m ∷ n ∷ []) (fieldsFrom line at)
+two-slots line at k l m n x y t a b e p q =
+    let z : Slot = record { ok = true; value = 0; next = y .next } in
+    slots-are line at (k ∷ l ∷ m ∷ n ∷ []) k l m n x y z z t true t refl a b (slot-zero line (y .next + 1) m p) (slot-zero line (y .next + 1) n q) e refl (and-true t)
+
 -- a form that was read
 pub form-slots : (code : ℕ) (f : Form) (fs : List (List ℕ)) → f ≡ formOf code → readSlots (f .a ∷ f .b ∷ f .c ∷ f .d ∷ []) fs ≡ readSlots (kindsOf code) fs
 form-slots code f fs e = ap (λ (g : Form). readSlots (g .a ∷ g .b ∷ g .c ∷ g .d ∷ []) fs) e

@@ -71,34 +71,34 @@ unfolding operandsAt
 operands-length ω v zero = refl
 operands-length ω v (suc n) = ap suc (operands-length ω (suc v) n)
 
-same-refl : (n : ℕ) (ω : OperandTable) → SameOperands n ω ω
-same-refl n ω = record { kinds = refl; numbers = refl; args = refl }
+same-refl : (n k : ℕ) (ω : OperandTable) → SameOperands n k ω ω
+same-refl n k ω = record { kinds = refl; numbers = refl; args = refl }
 
-module _ (code : ℕ) (line : List ℕ) (at v : ℕ) (lt : code < 34) (u : code ≡ 3 → ⊥) (c : code ≡ 5 → ⊥) (before : OperandTable) (x : Slots) (is : slotsOf line x ≡ readSlots (kindsOf code) (fieldsFrom line at)) where
+module _ (code : ℕ) (line : List ℕ) (at v a : ℕ) (lt : code < 34) (u : code ≡ 3 → ⊥) (c : code ≡ 5 → ⊥) (before : OperandTable) (x : Slots) (is : slotsOf line x ≡ readSlots (kindsOf code) (fieldsFrom line at)) where
   abbrev After : List ℕ → List ℕ × List (List ℕ) → Option Entry
   After parts r = bind (atMost (formCell code 4) operand (r .1)) (λ vs. when (leb (fewest (formCell code 4)) (length vs)) (entryBy code parts (r .0) vs))
 
   whole : (parts : List ℕ) → formAt forms code (fieldsFrom line at) ≡ bind (slotsOf line x) (After parts)
   whole parts = plain-form parts code (fieldsFrom line at) lt u c ∙ ap (λ (o : Option (List ℕ × List (List ℕ))). bind o (After parts)) (sym is)
 
-  pub plain-no-slots : (s : Said) → s ≡ noEntry → x .ok ≡ false → PlainIs code (fieldsFrom line at) v before before s
+  pub plain-no-slots : (s : Said) → s ≡ noEntry → x .ok ≡ false → PlainIs code (fieldsFrom line at) v a before before s
   plain-no-slots s z e = rw z (record {
-    kept = same-refl v before;
+    kept = same-refl v a before;
     few = zero-le;
     enough = λ y. absurd (true≢false (sym y));
     says = λ parts ω t. sym (whole parts ∙ simp e);
   })
 
-  module _ (h : x .ok ≡ true) (m : ℕ) (em : m ≡ formCell code 4) (after : OperandTable) (n : Count) (read : OperandsRead (fieldsFrom line (x .next + 1)) m v before after n) where
-    r : OperandsRead (fieldsFrom line (x .next + 1)) (formCell code 4) v before after n
+  module _ (h : x .ok ≡ true) (m : ℕ) (em : m ≡ formCell code 4) (after : OperandTable) (n : Count) (read : OperandsRead (fieldsFrom line (x .next + 1)) m v a before after n) where
+    r : OperandsRead (fieldsFrom line (x .next + 1)) (formCell code 4) v a before after n
     r = rw em at read
 
     behind : (parts : List ℕ) → formAt forms code (fieldsFrom line at) ≡ After parts (x .a ∷ x .b ∷ x .c ∷ x .d ∷ [], fieldsFrom line (x .next + 1))
     behind parts = whole parts ∙ simp h
 
-    pub plain-no-operands : (s : Said) → s ≡ noEntry → n .ok ≡ false → PlainIs code (fieldsFrom line at) v before after s
+    pub plain-no-operands : (s : Said) → s ≡ noEntry → n .ok ≡ false → PlainIs code (fieldsFrom line at) v a before after s
     plain-no-operands s z e =
-        let q : atMost (formCell code 4) operand (fieldsFrom line (x .next + 1)) ≡ none = sym (r .says after (same-refl (v + n .count) after)) ∙ simp e in
+        let q : atMost (formCell code 4) operand (fieldsFrom line (x .next + 1)) ≡ none = sym (r .says after (same-refl (v + n .count) (a + n .args) after)) ∙ simp e in
         rw z (record {
           kept = r .kept;
           few = zero-le;
@@ -107,22 +107,22 @@ module _ (code : ℕ) (line : List ℕ) (at v : ℕ) (lt : code < 34) (u : code 
         })
 
     module _ (k : n .ok ≡ true) where
-      with-operands : (parts : List ℕ) (ω : OperandTable) → SameOperands (v + n .count) ω after → formAt forms code (fieldsFrom line at) ≡ when (leb (fewest (formCell code 4)) (n .count)) (entryWith code (x .a) (x .b) (x .c) (x .d) parts (operandsAt ω v (n .count)))
+      with-operands : (parts : List ℕ) (ω : OperandTable) → SameOperands (v + n .count) (a + n .args) ω after → formAt forms code (fieldsFrom line at) ≡ when (leb (fewest (formCell code 4)) (n .count)) (entryWith code (x .a) (x .b) (x .c) (x .d) parts (operandsAt ω v (n .count)))
       with-operands parts ω s =
           let q : atMost (formCell code 4) operand (fieldsFrom line (x .next + 1)) ≡ some (operandsAt ω v (n .count)) = sym (r .says ω s) ∙ simp k in
           behind parts ∙ simp (q, operands-length)
 
-      pub plain-too-few : (s : Said) → s ≡ noEntry → (k : ℕ) → k ≡ fewest m → n .count < k → PlainIs code (fieldsFrom line at) v before after s
+      pub plain-too-few : (s : Said) → s ≡ noEntry → (k : ℕ) → k ≡ fewest m → n .count < k → PlainIs code (fieldsFrom line at) v a before after s
       plain-too-few s z k w l =
           let e : n .count < fewest (formCell code 4) = omega (arith, w ∙ ap fewest em) in
           rw z (record {
             kept = r .kept;
             few = zero-le;
             enough = λ y. absurd (true≢false (sym y));
-            says = λ parts ω t. sym (with-operands parts after (same-refl (v + n .count) after) ∙ simp (lt-leb (fewest (formCell code 4)) (n .count) e));
+            says = λ parts ω t. sym (with-operands parts after (same-refl (v + n .count) (a + n .args) after) ∙ simp (lt-leb (fewest (formCell code 4)) (n .count) e));
           })
 
-      pub plain-is : (k : ℕ) → k ≡ fewest m → k ≤ n .count → PlainIs code (fieldsFrom line at) v before after (record { ok = true; a = x .a; b = x .b; c = x .c; d = x .d; count = n .count; next = n .next })
+      pub plain-is : (k : ℕ) → k ≡ fewest m → k ≤ n .count → PlainIs code (fieldsFrom line at) v a before after (record { ok = true; a = x .a; b = x .b; c = x .c; d = x .d; count = n .count; args = n .args; next = n .next })
       plain-is k w l =
           let e : fewest (formCell code 4) ≤ n .count = omega (arith, w ∙ ap fewest em) in
           let f : n .count ≤ 16 = omega (arith, most-few code, r .few) in
@@ -147,15 +147,17 @@ module _ (line : List ℕ) (at p : ℕ) (before after : List ℕ) (n : Count) (r
   tuple-bad s z e = rw z (record {
     kept = r .kept;
     none-follow = refl;
+    none-carried = refl;
     enough = tuple-enough;
     says = λ parts vs t. sym (tuple-says ∙ simp e);
   })
 
-  pub tuple-is : n .ok ≡ true → RowIs 3 (fieldsFrom line at) p before after (record { ok = true; a = p; b = n .count; c = 0; d = 0; count = 0; next = n .next })
+  pub tuple-is : n .ok ≡ true → RowIs 3 (fieldsFrom line at) p before after (record { ok = true; a = p; b = n .count; c = 0; d = 0; count = 0; args = 0; next = n .next })
   unfolding entryWith rowFrom
   tuple-is e = record {
     kept = r .kept;
     none-follow = refl;
+    none-carried = refl;
     enough = tuple-enough;
     says = λ parts vs s. let q : p + n .count ≤ p + 17 = let f = r .few in omega arith in sym (tuple-says ∙ simp e (ap (λ (ts : List ℕ). some (row (rowU ts))) (sym (span-same (p + 17) parts after p (n .count) q s))));
   }
@@ -229,6 +231,7 @@ module _ (line : List ℕ) (at p : ℕ) (before : List ℕ) where
   code-past s z h = rw z (record {
     kept = refl;
     none-follow = refl;
+    none-carried = refl;
     enough = code-enough;
     says = λ parts vs t. sym (ap (formAt forms 5) (fields-past line at h) ∙ code-none);
   })
@@ -251,6 +254,7 @@ module _ (line : List ℕ) (at p : ℕ) (before : List ℕ) where
     code-no-slot s z h = rw z (record {
       kept = refl;
       none-follow = refl;
+      none-carried = refl;
       enough = code-enough;
       says = λ parts vs t. sym (code-whole ∙ simp h (never (letters (take (e - at) (drop at line)))));
     })
@@ -265,6 +269,7 @@ module _ (line : List ℕ) (at p : ℕ) (before : List ℕ) where
       code-no-regs s z k = rw z (record {
         kept = r .kept;
         none-follow = refl;
+        none-carried = refl;
         enough = code-enough;
         says = λ parts vs t. sym (regs-read ∙ simp k (never (letters (take (e - at) (drop at line)))));
       })
@@ -276,6 +281,7 @@ module _ (line : List ℕ) (at p : ℕ) (before : List ℕ) where
             rw z (record {
               kept = r .kept;
               none-follow = refl;
+              none-carried = refl;
               enough = code-enough;
               says = λ parts vs t. sym (regs-read ∙ simp (k, span-length, q) (never (letters (take (e - at) (drop at line)))));
             })
@@ -296,11 +302,12 @@ module _ (line : List ℕ) (at p : ℕ) (before : List ℕ) where
               rw z (record {
                 kept = kept′;
                 none-follow = refl;
+                none-carried = refl;
                 enough = code-enough;
                 says = λ parts vs t. sym (letters-read ∙ simp q);
               })
 
-          pub code-is : (v : ℕ) → y ≡ Value v → p + 17 ≤ length after → RowIs 5 (fieldsFrom line at) p before (set after′ (p + 8) v) (record { ok = true; a = x .value; b = p; c = 0; d = 0; count = 0; next = n .next })
+          pub code-is : (v : ℕ) → y ≡ Value v → p + 17 ≤ length after → RowIs 5 (fieldsFrom line at) p before (set after′ (p + 8) v) (record { ok = true; a = x .value; b = p; c = 0; d = 0; count = 0; args = 0; next = n .next })
           unfolding entryWith rowFrom
           code-is v b room =
               let f : List ℕ = take (e - at) (drop at line) in
@@ -311,22 +318,23 @@ module _ (line : List ℕ) (at p : ℕ) (before : List ℕ) where
               record {
                 kept = take-set-le p after′ (p + 8) v (omega arith) ∙ kept′;
                 none-follow = refl;
+                none-carried = refl;
                 enough = code-enough;
                 says = λ parts vs s. ap (λ (t : Row). some (row t)) (code-there after p (x .value) q (letters-few f q w) room parts (s ∙ ap (take (p + 17)) there)) ∙ sym (letters-read ∙ simp w);
               }
 
 -- ---- any line
-module _ (code : ℕ) (fs : List (List ℕ)) (p v : ℕ) (parts parts′ : List ℕ) (before after : OperandTable) (s : Said) where
-  pub row-form : (k : ℕ) → code ≡ k → RowIs k fs p parts parts′ s → FormIs code fs p v parts parts′ before before s
+module _ (code : ℕ) (fs : List (List ℕ)) (p v a : ℕ) (parts parts′ : List ℕ) (before after : OperandTable) (s : Said) where
+  pub row-form : (k : ℕ) → code ≡ k → RowIs k fs p parts parts′ s → FormIs code fs p v a parts parts′ before before s
   row-form k e r = record {
     kept-parts = r .kept;
-    kept-operands = same-refl v before;
+    kept-operands = same-refl v a before;
     few = let z = r .none-follow in omega arith;
     enough = λ y. let z = r .enough in omega (arith, ap (λ (j : ℕ). fewest (formCell j 4)) e);
     says = λ ps ω t u. rw e (r .says ps (operandsAt ω v (s .count)) t);
   }
 
-  pub plain-line : PlainIs code fs v before after s → FormIs code fs p v parts parts before after s
+  pub plain-line : PlainIs code fs v a before after s → FormIs code fs p v a parts parts before after s
   plain-line r = record {
     kept-parts = refl;
     kept-operands = r .kept;

@@ -27,16 +27,16 @@ ordered-as p l l′ e o = subst (Ordered p) (sym e) o
 pub kinds-same : (p : Places) (l : List ℕ) → Ordered p (length l) → (y : List ℕ) → length y ≡ length (argSection p l) → length (operandSection p (putMid (p .args) (p .uses - p .args) l y)) ≡ length (operandSection p l)
 kinds-same p l o y e = ap length (args-back p l o y e .kinds)
 
-module _ (rest : List ℕ) (at most v : ℕ) (p : Places) (l₀ ns₀ l ns : List ℕ) (o : Ordered p (length l)) (i n : ℕ) (g : OperandsGo rest at most v (operandsIn p l₀ ns₀) (operandsIn p l ns) i n) where
-  module _ (h : i ≤ length rest) (e : ℕ) (is : e ≡ i + length (firstPart 44 (drop i rest))) (r : OperandRead) (y : List ℕ) (ey : length y ≡ length (argSection p l)) (is′ : OperandIs (operand (take (e - i) (drop i rest))) (argSection p l) (8 * (v + n)) r y) where
+module _ (rest : List ℕ) (at most v a : ℕ) (p : Places) (l₀ ns₀ l ns : List ℕ) (o : Ordered p (length l)) (i n m : ℕ) (g : OperandsGo rest at most v a (operandsIn p l₀ ns₀) (operandsIn p l ns) i n m) where
+  module _ (h : i ≤ length rest) (e : ℕ) (is : e ≡ i + length (firstPart 44 (drop i rest))) (r : OperandRead) (y : List ℕ) (ey : length y ≡ length (argSection p l)) (is′ : OperandIs (operand (take (e - i) (drop i rest))) (argSection p l) (a + m) r y) where
     -- the image with the arguments that came back
     abbrev l₁ : List ℕ
     l₁ = putMid (p .args) (p .uses - p .args) l y
 
-    pub bad-in : 3 ≤ r .kind → (z : ℕ) → OperandsRead (fieldsFrom rest at) most v (operandsIn p l₀ ns₀) (operandsIn p l₁ ns) (record { ok = false; count = n; next = z })
+    pub bad-in : 3 ≤ r .kind → (z : ℕ) → OperandsRead (fieldsFrom rest at) most v a (operandsIn p l₀ ns₀) (operandsIn p l₁ ns) (record { ok = false; count = n; args = m; next = z })
     bad-in k z =
         let b = args-back p l o y ey in
-        rw (b .kinds, b .args) (operands-bad rest at most v (operandsIn p l₀ ns₀) (operandsIn p l ns) i n g h e is r y is′ k z)
+        rw (b .kinds, b .args) (operands-bad rest at most v a (operandsIn p l₀ ns₀) (operandsIn p l ns) i n m g h e is r y is′ k z)
 
     pub bad-outside : Outside (p .operands) (p .uses) l₀ l → Outside (p .operands) (p .uses) l₀ l₁
     bad-outside w = then w (args-back p l o y ey .outside)
@@ -49,10 +49,10 @@ module _ (rest : List ℕ) (at most v : ℕ) (p : Places) (l₀ ns₀ l ns : Lis
       back₂ : KindsBack p l₁ (ordered-as p l l₁ (args-back p l o y ey .size) o) z l₂
       back₂ = kinds-back p l₁ (ordered-as p l l₁ (args-back p l o y ey .size) o) z ez
 
-      pub on-in : n < most → OperandRoom (v + most) (length (operandSection p l₀)) (length ns₀) (length (argSection p l₀)) → r .kind < 3 → z ≡ withOperand (operandSection p l₁) (v + n) r → (ns′ : List ℕ) → ns′ ≡ set ns (v + n) (r .number) → OperandsGo rest at most v (operandsIn p l₀ ns₀) (operandsIn p l₂ ns′) (e + 1) (n + 1)
-      on-in m room k a ns′ c =
+      pub on-in : n < most → OperandRoom (v + most) (a + 8 * most) (length (operandSection p l₀)) (length ns₀) (length (argSection p l₀)) → r .kind < 3 → z ≡ withOperand (operandSection p l₁) (v + n) r (a + m) → (ns′ : List ℕ) → ns′ ≡ set ns (v + n) (r .number) → OperandsGo rest at most v a (operandsIn p l₀ ns₀) (operandsIn p l₂ ns′) (e + 1) (n + 1) (m + r .count)
+      on-in d room k z′ ns′ c =
           let b = args-back p l o y ey in
-          rw (back₂ .kinds, back₂ .args, b .args) (operands-on rest at most v (operandsIn p l₀ ns₀) (operandsIn p l ns) i n g h e is m room r z ns′ y is′ k (a ∙ ap (λ (x : List ℕ). withOperand x (v + n) r) (b .kinds)) c)
+          rw (back₂ .kinds, back₂ .args, b .args) (operands-on rest at most v a (operandsIn p l₀ ns₀) (operandsIn p l ns) i n m g h e is d room r z ns′ y is′ k (z′ ∙ ap (λ (x : List ℕ). withOperand x (v + n) r (a + m)) (b .kinds)) c)
 
       pub on-outside : Outside (p .operands) (p .uses) l₀ l → Outside (p .operands) (p .uses) l₀ l₂
       on-outside w = then (bad-outside w) (back₂ .outside)

@@ -31,7 +31,7 @@ module _ (rest : List ℕ) (at : ℕ) (known : Bool) (most : ℕ) (before : List
   parts-start = record { few = zero-le; as-long = refl; kept = refl; walked = walk-start (partNumber known) (fieldsFrom rest at) }
 
   module _ (parts : List ℕ) (i n : ℕ) (g : PartsGo rest at known most before p parts i n) where
-    pub parts-end : length rest < i → (z : ℕ) → PartsRead (fieldsFrom rest at) known most p before parts (record { ok = true; count = n; next = z })
+    pub parts-end : length rest < i → (z : ℕ) → PartsRead (fieldsFrom rest at) known most p before parts (record { ok = true; count = n; args = 0; next = z })
     parts-end h z = record {
       kept = g .kept;
       few = g .few;
@@ -42,7 +42,7 @@ module _ (rest : List ℕ) (at : ℕ) (known : Bool) (most : ℕ) (before : List
       next : Walked (partNumber known) (fieldsFrom rest at) (take (e - i) (drop i rest) ∷ fieldsFrom rest (e + 1)) n (span parts p n)
       next = rw (fields-next rest i e is l) at (g .walked)
 
-      pub parts-bad : partNumber known (take (e - i) (drop i rest)) ≡ none → (z : ℕ) → PartsRead (fieldsFrom rest at) known most p before parts (record { ok = false; count = n; next = z })
+      pub parts-bad : partNumber known (take (e - i) (drop i rest)) ≡ none → (z : ℕ) → PartsRead (fieldsFrom rest at) known most p before parts (record { ok = false; count = n; args = 0; next = z })
       parts-bad b z = record {
         kept = g .kept;
         few = g .few;
@@ -59,7 +59,7 @@ module _ (rest : List ℕ) (at : ℕ) (known : Bool) (most : ℕ) (before : List
             walked = rw here (walk-on (partNumber known) (fieldsFrom rest at) (fieldsFrom rest (e + 1)) n (span parts p n) (take (e - i) (drop i rest)) v next b);
           }
 
-    pub parts-many : i ≤ length rest → n ≡ most → (z : ℕ) → PartsRead (fieldsFrom rest at) known most p before parts (record { ok = false; count = n; next = z })
+    pub parts-many : i ≤ length rest → n ≡ most → (z : ℕ) → PartsRead (fieldsFrom rest at) known most p before parts (record { ok = false; count = n; args = 0; next = z })
     parts-many l m z = record {
       kept = g .kept;
       few = g .few;

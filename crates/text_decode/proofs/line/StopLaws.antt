@@ -4,7 +4,7 @@ use mathlib.Core.Path.{_≡_, refl, ap, sym, _∙_}
 use mathlib.Core.Bool.{Bool, true, false, cond, false≢true}
 use mathlib.Core.List.{List, [], _∷_}
 use mathlib.Core.Option.{Option, none, some}
-use Prim.Native.Nat.{ℕ, zero, suc, _+_, _-_, _<_, _≤_}
+use Prim.Native.Nat.{ℕ, zero, suc, _+_, _-_, _<_, _≤_, zero-le}
 use native.Mathlib.Omega.{arith}
 use native.Mathlib.Numerals.{add-one}
 use lib.Dec.{eqb}
@@ -24,7 +24,7 @@ use Rattle.text_fields.proofs.numbers.Scans.{scan-some}
 use Rattle.text_fields.specs.plain_operands.Answers.{OperandIs}
 use Rattle.text_fields.specs.declared.plain_operands.OperandRead.{OperandRead}
 use Rattle.text_decode.specs.line.Fields.{fieldsFrom, plainField, mostOf, readSlot, keptAs, partNumber}
-use Rattle.text_decode.specs.line.Answers.{noSlot, SlotIs, AtEnd, noEntry}
+use Rattle.text_decode.specs.line.Answers.{Carried, noSlot, SlotIs, AtEnd, noEntry}
 use Rattle.text_decode.specs.declared.line.Slot.{Slot}
 use Rattle.text_decode.specs.declared.line.Said.{Said}
 use Rattle.text_decode.proofs.line.FieldLaws.{plain-small, part-small, slot-zero, slot-past, slot-bad, slot-is}
@@ -179,6 +179,13 @@ no-end s n e = absurd (false≢true e)
 
 pub entry-end : (s : List ℕ) (r : Said) → r ≡ noEntry → AtEnd s (r .ok) (r .next)
 entry-end s r e = rw e (no-end s 0)
+
+-- and carries no arguments
+pub entry-carried : (s : List ℕ) (r : Said) → r ≡ noEntry → Carried s (r .args)
+entry-carried s r e = rw e (zero-le, zero-le)
+
+pub none-carried : (s : List ℕ) (m : ℕ) → m ≡ 0 → Carried s m
+none-carried s m e = rw e (zero-le, zero-le)
 
 -- an operand as the walk over a line has it
 pub operand-here : (s : List ℕ) (at e : ℕ) → e ≡ at + length (fieldIn s at) → (l : List ℕ) (to : ℕ) (r : OperandRead) (after : List ℕ) → OperandIs (operand (fieldIn s at)) l to r after → OperandIs (operand (take (e - at) (drop at (lineIn s)))) l to r after

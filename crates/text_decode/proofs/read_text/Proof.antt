@@ -14,24 +14,27 @@ use Rattle.text_decode.specs.declared.store.Used.{Used}
 use Rattle.text_decode.specs.Decoded.{ReadIs}
 use Rattle.text_decode.specs.declared.state.Read.{Read}
 use Rattle.text_decode.proofs.AnswerLaws.{fits, fits-not, last-fits}
-use Rattle.text_decode.proofs.LoopLaws.{Going, started, read-long, at-end, at-unended, at-fault, turned, lineEnd, line-part, end-before, end-inside, line-as, ends-there, open-end, no-room}
+use Rattle.text_decode.proofs.LoopLaws.{line-short, Going, started, read-long, at-end, at-unended, at-fault, turned, lineEnd, line-part, end-before, end-inside, line-as, ends-there, open-end, no-room}
 use Rattle.text_decode.proofs.TextImage.{ordered-in, stored-as, as-long-in, as-long-still}
 use borrow.Author.Needs.{needs}
 use Rattle.text_decode.proofs.read_text.Statement.{statement}
 use Rattle.text_decode.proofs.read_text.Tie as tie
 
 abbrev Inv-loop : tie.InvT-loop
-Inv-loop text image₀ numbers₀ p end u₀ at₀ line₀ place₀ image numbers u at line place =
+Inv-loop text image₀ numbers₀ p plenty end u₀ at₀ line₀ place₀ image numbers u at line place =
     Going text at line place u (storeIn p image numbers) × (length image ≡ length image₀) × (length numbers ≡ length numbers₀) × (at ≤ end)
 
 abbrev μ-loop : tie.MeasureT-loop
-μ-loop text image₀ numbers₀ p end u₀ at₀ line₀ place₀ image numbers u at line place = length text - at
+μ-loop text image₀ numbers₀ p plenty end u₀ at₀ line₀ place₀ image numbers u at line place = length text - at
 
 abbrev Start : Type 0
 Start = tie.Start Inv-loop μ-loop
 
 abbrev After-lay-out : Type 0
 After-lay-out = tie.After-lay-out Inv-loop μ-loop
+
+abbrev After-has-plenty : Type 0
+After-has-plenty = tie.After-has-plenty Inv-loop μ-loop
 
 abbrev After-last-end : Type 0
 After-last-end = tie.After-last-end Inv-loop μ-loop
@@ -51,6 +54,9 @@ start-of g = search
 
 abbrev places-of : At-loop → After-lay-out
 places-of g = search
+
+abbrev plenty-of : At-loop → After-has-plenty
+plenty-of g = search
 
 abbrev end-of : At-loop → After-last-end
 end-of g = search
@@ -98,10 +104,16 @@ loop-holds c =
     let u : tie.After-unused Inv-loop μ-loop = search in
     (started (s .args .text .now) (storeIn (p .lay-out .result) (s .args .image .now) (s .args .numbers .now)) (search) (u .unused .result) (u .unused .ensures), refl, refl, zero-le)
 
+has-plenty-requires : tie.Need-has-plenty-requires Inv-loop μ-loop
+has-plenty-requires c κs =
+    let s : Start = search in
+    let p : After-lay-out = search in
+    (length (s .args .image .now), ordered-in (p .lay-out .result) (s .args .image .now) (s .args .image .now) (p .lay-out .ensures) refl)
+
 has-room-requires : tie.Need-has-room-requires Inv-loop μ-loop
 has-room-requires c κs =
     let g : At-loop = search in
-    ((length (g .loop .image), order-of g), g .loop .inv .0 .few)
+    ((length (g .loop .image), order-of g), g .loop .inv .0 .few, λ w l ns o e. plenty-of g .has-plenty .ensures w l ns o (e ∙ g .loop .inv .2))
 
 returns-2 : tie.Need-returns-2 Inv-loop μ-loop
 returns-2 c =
@@ -186,7 +198,9 @@ returns-3 c =
 used-after-requires : tie.Need-used-after-requires Inv-loop μ-loop
 used-after-requires c κs =
     let t : After-read-line = search in
-    (loop-of t .loop .inv .0 .few, t .read-line .ensures .0 .few)
+    let g = loop-of t in
+    let q = line-short (start-of g .args .text .now) (g .loop .at) in
+    (g .loop .inv .0 .few, t .read-line .ensures .0 .few, omega (arith, t .read-line .ensures .0 .carried, g .loop .inv .0 .short))
 
 add-at : tie.Need-add-at Inv-loop μ-loop
 add-at c =
@@ -250,6 +264,7 @@ read-text-spec =
     (λ c κs. search needs)
     returns
     (λ c κs. search needs)
+    has-plenty-requires
     (λ c κs. search needs)
     (λ c κs. search needs)
     loop-holds

@@ -5,7 +5,7 @@ use mathlib.Core.Bool.{Bool, true, false, not, cond, true≢false}
 use Prim.Native.Nat.{ℕ, _≤_}
 use lib.Dec.{leb}
 use borrow.Author.Tests.{leb-true, le-leb, eq-eqb, ne-eqb, not-true, not-false}
-use Rattle.text_decode.specs.store.Lines.{operandCount, usedAfter}
+use Rattle.text_decode.specs.store.Lines.{operandCount, argCount, usedAfter}
 use Rattle.text_decode.specs.declared.store.Used.{Used}
 use Rattle.text_decode.specs.declared.store.Line.{Line}
 use Rattle.text_decode.specs.state.State.{faultyRead, goodRead, lastRead, faultOf, lineFault}
@@ -40,6 +40,9 @@ used-as u e h = h ∙ ap (usedAfter u) (sym e)
 
 pub count-as : {l m : Line} → l ≡ m → operandCount l ≤ 16 → operandCount m ≤ 16
 count-as {l} {m} e h = rw (← e) h
+
+pub args-as : {l m : Line} → l ≡ m → argCount l ≤ 65536 → argCount m ≤ 65536
+args-as {l} {m} e h = rw (← e) h
 
 pub end-inside : (p n : ℕ) (u : Used) (r : Read) → p ≡ 1 → r ≡ faultyRead 2 n → r ≡ lastRead p n u
 end-inside p n u r e h = h ∙ ap (λ (b : Bool). cond b (faultyRead 2 n) (goodRead u)) (sym (eq-eqb p 1 e))

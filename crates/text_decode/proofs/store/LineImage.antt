@@ -52,16 +52,16 @@ module _ (p : Places) (l l′ : List ℕ) (o : Ordered p (length l)) (w : Outsid
 
 -- ---- a line, read into an image
 module _ (line : List ℕ) (u : Used) (p : Places) (l ns : List ℕ) (o : Ordered p (length l)) (code : ℕ) (fs : List (List ℕ)) (is : entryOf (fieldsOf line) ≡ formAt forms code fs) where
-  module _ (l₁ ns₁ : List ℕ) (w : Outside (p .parts) (p .uses) l l₁) (s : Said) (form : FormIs code fs (17 * u .rows) (u .operands) (partSection p l) (partSection p l₁) (operandsIn p l ns) (operandsIn p l₁ ns₁) s) where
+  module _ (l₁ ns₁ : List ℕ) (w : Outside (p .parts) (p .uses) l l₁) (s : Said) (form : FormIs code fs (17 * u .rows) (u .operands) (u .args) (partSection p l) (partSection p l₁) (operandsIn p l ns) (operandsIn p l₁ ns₁) s) where
     pub bad-in : s .ok ≡ false → LineIs line u (storeIn p l ns) (storeIn p l₁ ns₁) NoForm
     bad-in e =
         rw (rows-kept p l l₁ o w, instrs-kept p l l₁ o w, blocks-kept p l l₁ o w) (line-bad line u (storeIn p l ns) code fs is (partSection p l₁) (operandSection p l₁) ns₁ (argSection p l₁) s form e)
 
     module _ (o₁ : Ordered p (length l₁)) (l₂ : List ℕ) (w₂ : Outside (p .rows) (p .parts) l₁ l₂) (r : Line) where
-      pub good-in : s .ok ≡ true → RoomFor u (storeIn p l ns) → code < 34 → Stored code s u (rowSection p l₁) (instrSection p l₁) (blockSection p l₁) (rowSection p l₂) (instrSection p l₂) (blockSection p l₂) r → LineIs line u (storeIn p l ns) (storeIn p l₂ ns₁) r
-      good-in ok room k t =
+      pub good-in : s .ok ≡ true → 2 * s .args ≤ length line → RoomFor u (storeIn p l ns) → code < 34 → Stored code s u (rowSection p l₁) (instrSection p l₁) (blockSection p l₁) (rowSection p l₂) (instrSection p l₂) (blockSection p l₂) r → LineIs line u (storeIn p l ns) (storeIn p l₂ ns₁) r
+      good-in ok two room k t =
           let t′ : Stored code s u (rowSection p l) (instrSection p l) (blockSection p l) (rowSection p l₂) (instrSection p l₂) (blockSection p l₂) r = rw (rows-kept p l l₁ o w, instrs-kept p l l₁ o w, blocks-kept p l l₁ o w) at t in
-          rw (parts-kept p l₁ l₂ o₁ w₂, operands-kept p l₁ l₂ o₁ w₂, args-kept p l₁ l₂ o₁ w₂) (line-good line u (storeIn p l ns) code fs is (partSection p l₁) (operandSection p l₁) ns₁ (argSection p l₁) s form ok room (rowSection p l₂) (instrSection p l₂) (blockSection p l₂) r k t′)
+          rw (parts-kept p l₁ l₂ o₁ w₂, operands-kept p l₁ l₂ o₁ w₂, args-kept p l₁ l₂ o₁ w₂) (line-good line u (storeIn p l ns) code fs is (partSection p l₁) (operandSection p l₁) ns₁ (argSection p l₁) s form ok two room (rowSection p l₂) (instrSection p l₂) (blockSection p l₂) r k t′)
 
       pub good-outside : Outside (p .rows) (p .uses) l l₂
       good-outside = then (fields-outside p l l₁ o w) (line-outside p l₁ l₂ o₁ w₂)

@@ -8,7 +8,7 @@ use Prim.Native.Nat.{ℕ, _+_, _-_, _*_, _<_, _≤_, zero-le}
 use native.Mathlib.Omega.{arith}
 use native.Mathlib.Nat.{le-refl}
 use lib.Dec.{eqb, ltb, leb, lit<}
-use lib.ListN.{getD, take}
+use lib.ListN.{length, getD, take}
 use lib.Seq.{sets}
 use borrow.Author.Tests.{lt-ltb, le-ltb, ltb-true, ltb-false, eq-eqb, ne-eqb, eqb-true, eqb-false, le-leb, lt-leb}
 use Rattle.syntax.specs.Syntax
@@ -46,18 +46,19 @@ room-for u σ r f = record {
   operands = record {
     kinds = omega (arith, r .operands, f .operands, f .instrs);
     bases = omega (arith, r .numbers, f .operands, f .instrs);
-    rows = omega (arith, r .args, f .operands, f .instrs);
+    rows = omega (arith, r .args, f .args);
+    small = omega (arith, f .args);
   };
   instrs = omega (arith, r .instrs, f .instrs);
   blocks = omega (arith, r .blocks, f .blocks);
 }
 
 -- a store that changes what is past those in use
-grown-instr : (u : Used) (n : ℕ) (σ π : Store) → Same (usedAfter u (Instruction n)) σ π → Same u σ π
-grown-instr u n σ π s = record {
+grown-instr : (u : Used) (n m : ℕ) (σ π : Store) → Same (usedAfter u (Instruction n m)) σ π → Same u σ π
+grown-instr u n m σ π s = record {
   rows = s .rows;
   parts = s .parts;
-  operands = same-fewer (operandsOf σ) (operandsOf π) (u .operands) (u .operands + n) (omega arith) (s .operands);
+  operands = same-fewer (operandsOf σ) (operandsOf π) (u .operands) (u .operands + n) (u .args) (u .args + m) (omega arith) (omega arith) (s .operands);
   instrs = same-less (8 * u .instrs) (8 * (u .instrs + 1)) (σ .instrs) (π .instrs) (omega arith) (s .instrs);
   blocks = s .blocks;
 }
@@ -78,8 +79,8 @@ grown u Block σ π s = record {
   instrs = s .instrs;
   blocks = same-less (2 * u .blocks) (2 * (u .blocks + 1)) (σ .blocks) (π .blocks) (omega arith) (s .blocks);
 }
-grown u (Instruction n) σ π s = grown-instr u n σ π s
-grown u (Last n) σ π s = grown-instr u n σ π s
+grown u (Instruction n m) σ π s = grown-instr u n m σ π s
+grown u (Last n m) σ π s = grown-instr u n m σ π s
 
 -- ---- the entry of a form, by its place
 module _ (code a b c d : ℕ) (ps : List ℕ) (vs : List Operand) where
@@ -107,6 +108,7 @@ module _ (line : List ℕ) (u : Used) (σ : Store) (code : ℕ) (fs : List (List
       record {
         kept = k;
         few = zero-le;
+        carried = zero-le;
         said = λ ρ s. sym q;
         last = sym (ap endsBlock q);
         starts = λ w. let z : _≡_ {A = ℕ} 0 1 = cc in absurd (omega arith);
@@ -116,8 +118,8 @@ module _ (line : List ℕ) (u : Used) (σ : Store) (code : ℕ) (fs : List (List
   pub line-unnamed : 34 ≤ code → LineIs line u σ σ NoForm
   line-unnamed h = line-none σ (same-refl u σ) (unnamed code fs h)
 
-  module _ (parts′ operands′ numbers′ args′ : List ℕ) (s : Said) (form : FormIs code fs (17 * u .rows) (u .operands) (σ .parts) parts′ (operandsOf σ) (operandTable operands′ numbers′ args′) s) where
-    same-operands : SameOperands (u .operands + s .count) (operandTable operands′ numbers′ args′) (operandTable operands′ numbers′ args′)
+  module _ (parts′ operands′ numbers′ args′ : List ℕ) (s : Said) (form : FormIs code fs (17 * u .rows) (u .operands) (u .args) (σ .parts) parts′ (operandsOf σ) (operandTable operands′ numbers′ args′) s) where
+    same-operands : SameOperands (u .operands + s .count) (u .args + s .args) (operandTable operands′ numbers′ args′) (operandTable operands′ numbers′ args′)
     same-operands = record { kinds = refl; numbers = refl; args = refl }
 
     pub line-bad : s .ok ≡ false → LineIs line u σ (store (σ .rows) parts′ operands′ numbers′ args′ (σ .instrs) (σ .blocks)) NoForm
@@ -126,9 +128,9 @@ module _ (line : List ℕ) (u : Used) (σ : Store) (code : ℕ) (fs : List (List
         (record { rows = refl; parts = form .kept-parts; operands = form .kept-operands; instrs = refl; blocks = refl })
         (sym (form .says parts′ (operandTable operands′ numbers′ args′) refl same-operands) ∙ simp e)
 
-    module _ (ok : s .ok ≡ true) (room : RoomFor u σ) where
+    module _ (ok : s .ok ≡ true) (two : 2 * s .args ≤ length line) (room : RoomFor u σ) where
       -- the entry, whatever the parts and operands past those in use
-      entry-by : (ps : List ℕ) (ω : OperandTable) → take (17 * u .rows + 17) ps ≡ take (17 * u .rows + 17) parts′ → SameOperands (u .operands + s .count) ω (operandTable operands′ numbers′ args′) → some (entryWith code (s .a) (s .b) (s .c) (s .d) ps (operandsAt ω (u .operands) (s .count))) ≡ entryOf (fieldsOf line)
+      entry-by : (ps : List ℕ) (ω : OperandTable) → take (17 * u .rows + 17) ps ≡ take (17 * u .rows + 17) parts′ → SameOperands (u .operands + s .count) (u .args + s .args) ω (operandTable operands′ numbers′ args′) → some (entryWith code (s .a) (s .b) (s .c) (s .d) ps (operandsAt ω (u .operands) (s .count))) ≡ entryOf (fieldsOf line)
       entry-by ps ω p o = simp ok at (form .says ps ω p o) ∙ sym is
 
       good-row : code < 10 → LineIs line u σ (store (sets (σ .rows) (4 * u .rows) (code ∷ s .a ∷ s .b ∷ [])) parts′ operands′ numbers′ args′ (σ .instrs) (σ .blocks)) Row
@@ -142,6 +144,7 @@ module _ (line : List ℕ) (u : Used) (σ : Store) (code : ℕ) (fs : List (List
           blocks = refl;
         };
         few = zero-le;
+        carried = zero-le;
         said = row-said;
         last = ap endsBlock (row-said σ′ (same-refl (usedAfter u Row) σ′));
         starts = λ w. let z : _≡_ {A = ℕ} 0 1 = cc in absurd (omega arith);
@@ -174,6 +177,7 @@ module _ (line : List ℕ) (u : Used) (σ : Store) (code : ℕ) (fs : List (List
           blocks = same-sets (2 * u .blocks) (σ .blocks) (2 * u .blocks) (s .a ∷ u .instrs ∷ []) (le-refl (2 * u .blocks));
         };
         few = zero-le;
+        carried = zero-le;
         said = block-said;
         last = ap endsBlock (block-said σ′ (same-refl (usedAfter u Block) σ′));
         starts = λ w. sets-at (σ .blocks) (2 * u .blocks) (s .a ∷ u .instrs ∷ []) 1 (omega (arith, room .blocks)) (lit< tt);
@@ -194,12 +198,12 @@ module _ (line : List ℕ) (u : Used) (σ : Store) (code : ℕ) (fs : List (List
         abbrev with-instr : Store
         with-instr = store (σ .rows) parts′ operands′ numbers′ args′ (sets (σ .instrs) (8 * u .instrs) ((code - 11) ∷ s .a ∷ s .b ∷ s .c ∷ s .d ∷ u .operands ∷ s .count ∷ [])) (σ .blocks)
 
-        instr-cells : (ρ : Store) → Same (usedAfter u (Instruction (s .count))) ρ with-instr → (i : ℕ) → i < 7 → cell 8 (ρ .instrs) (u .instrs) i ≡ getD ((code - 11) ∷ s .a ∷ s .b ∷ s .c ∷ s .d ∷ u .operands ∷ s .count ∷ []) i 0
+        instr-cells : (ρ : Store) → Same (usedAfter u (Instruction (s .count) (s .args))) ρ with-instr → (i : ℕ) → i < 7 → cell 8 (ρ .instrs) (u .instrs) i ≡ getD ((code - 11) ∷ s .a ∷ s .b ∷ s .c ∷ s .d ∷ u .operands ∷ s .count ∷ []) i 0
         instr-cells ρ t i l =
             same-at (8 * (u .instrs + 1)) (ρ .instrs) (with-instr .instrs) (8 * u .instrs + i) (omega arith) (t .instrs)
             ∙ sets-at (σ .instrs) (8 * u .instrs) ((code - 11) ∷ s .a ∷ s .b ∷ s .c ∷ s .d ∷ u .operands ∷ s .count ∷ []) i (omega (arith, room .instrs)) l
 
-        instr-said : (ρ : Store) → Same (usedAfter u (Instruction (s .count))) ρ with-instr → some (instr (instrAt (ρ .instrs) (operandsOf ρ) (u .instrs))) ≡ entryOf (fieldsOf line)
+        instr-said : (ρ : Store) → Same (usedAfter u (Instruction (s .count) (s .args))) ρ with-instr → some (instr (instrAt (ρ .instrs) (operandsOf ρ) (u .instrs))) ≡ entryOf (fieldsOf line)
         unfolding instrAt
         instr-said ρ t =
             let back : (code - 11) + 11 ≡ code = omega arith in
@@ -226,25 +230,27 @@ module _ (line : List ℕ) (u : Used) (σ : Store) (code : ℕ) (fs : List (List
           blocks = refl;
         }
 
-        instr-listed : Listed u with-instr (Instruction (s .count))
+        instr-listed : Listed u with-instr (Instruction (s .count) (s .args))
         instr-listed =
-            let at : (i : ℕ) → i < 7 → cell 8 (with-instr .instrs) (u .instrs) i ≡ getD ((code - 11) ∷ s .a ∷ s .b ∷ s .c ∷ s .d ∷ u .operands ∷ s .count ∷ []) i 0 = instr-cells with-instr (same-refl (usedAfter u (Instruction (s .count))) with-instr) in
+            let at : (i : ℕ) → i < 7 → cell 8 (with-instr .instrs) (u .instrs) i ≡ getD ((code - 11) ∷ s .a ∷ s .b ∷ s .c ∷ s .d ∷ u .operands ∷ s .count ∷ []) i 0 = instr-cells with-instr (same-refl (usedAfter u (Instruction (s .count) (s .args))) with-instr) in
             ap₂ (λ (a b : ℕ). a + b) (at 5 (lit< tt)) (at 6 (lit< tt))
 
-        good-inside : code < 32 → LineIs line u σ with-instr (Instruction (s .count))
+        good-inside : code < 32 → LineIs line u σ with-instr (Instruction (s .count) (s .args))
         good-inside m = record {
           kept = instr-kept;
           few = form .few;
+          carried = two;
           said = instr-said;
           last = sym (last-flag ∙ lt-leb 21 (code - 11) (omega arith));
           starts = λ w. let z : _≡_ {A = ℕ} 0 1 = cc in absurd (omega arith);
           listed = instr-listed;
         }
 
-        good-last : 32 ≤ code → LineIs line u σ with-instr (Last (s .count))
+        good-last : 32 ≤ code → LineIs line u σ with-instr (Last (s .count) (s .args))
         good-last m = record {
           kept = instr-kept;
           few = form .few;
+          carried = two;
           said = instr-said;
           last = sym (last-flag ∙ le-leb 21 (code - 11) (omega arith));
           starts = λ w. let z : _≡_ {A = ℕ} 0 1 = cc in absurd (omega arith);
@@ -254,7 +260,7 @@ module _ (line : List ℕ) (u : Used) (σ : Store) (code : ℕ) (fs : List (List
       pub line-good : (rows′ instrs′ blocks′ : List ℕ) (l : Line) → code < 34 → Stored code s u (σ .rows) (σ .instrs) (σ .blocks) rows′ instrs′ blocks′ l → LineIs line u σ (store rows′ parts′ operands′ numbers′ args′ instrs′ blocks′) l
       line-good rows′ instrs′ blocks′ l k t = go (ltb code 10) (eqb code 10) (ltb code 32) refl refl refl
         where
-          inside : (h : 10 < code) (z : Bool) → ltb code 32 ≡ z → l ≡ cond z (Instruction (s .count)) (Last (s .count)) → LineIs line u σ (with-instr h k) l
+          inside : (h : 10 < code) (z : Bool) → ltb code 32 ≡ z → l ≡ cond z (Instruction (s .count) (s .args)) (Last (s .count) (s .args)) → LineIs line u σ (with-instr h k) l
           inside h true g d = rw d (good-inside h k (ltb-true code 32 g))
           inside h false g d = rw d (good-last h k (ltb-false code 32 g))
 

@@ -17,7 +17,7 @@ use Rattle.tables.specs.Tables.{OperandTable}
 use Rattle.text_lines.specs.Parts.{lineIn, StopAt}
 use Rattle.text_lines.proofs.InLine.{line-from, stop-from}
 use Rattle.text_decode.specs.line.Fields.{fieldsFrom}
-use Rattle.text_decode.specs.line.Answers.{AtEnd, FormIs}
+use Rattle.text_decode.specs.line.Answers.{Carried, AtEnd, FormIs}
 use Rattle.text_decode.specs.declared.line.Said.{Said}
 use Rattle.text_decode.proofs.line.ImageLaws.{RowsBack, rows-back, BlocksBack, blocks-back, InstrsBack, instrs-back}
 use Rattle.text_decode.specs.store.Store.{Store}
@@ -51,7 +51,7 @@ module _ (code : ℕ) (s : Said) (u : Used) (rows instrs blocks : List ℕ) wher
       }
 
   module _ (h : 10 ≤ code) (q : code ≡ 10 → ⊥) (instrs′ : List ℕ) (e : instrs′ ≡ sets instrs (8 * u .instrs) ((code - 11) ∷ s .a ∷ s .b ∷ s .c ∷ s .d ∷ u .operands ∷ s .count ∷ [])) where
-    stored-instr : (l : Line) → l ≡ lineOf code (s .count) → Stored code s u rows instrs blocks rows instrs′ blocks l
+    stored-instr : (l : Line) → l ≡ lineOf code (s .count) (s .args) → Stored code s u rows instrs blocks rows instrs′ blocks l
     stored-instr l w =
         let m : ltb 10 code ≡ true = lt-ltb 10 code (omega arith) in
         record {
@@ -61,11 +61,11 @@ module _ (code : ℕ) (s : Said) (u : Used) (rows instrs blocks : List ℕ) wher
           line = w;
         }
 
-    pub stored-inside : code < 32 → Stored code s u rows instrs blocks rows instrs′ blocks (Instruction (s .count))
-    stored-inside k = stored-instr (Instruction (s .count)) (simp (le-ltb code 10 h, ne-eqb code 10 q, lt-ltb code 32 k))
+    pub stored-inside : code < 32 → Stored code s u rows instrs blocks rows instrs′ blocks (Instruction (s .count) (s .args))
+    stored-inside k = stored-instr (Instruction (s .count) (s .args)) (simp (le-ltb code 10 h, ne-eqb code 10 q, lt-ltb code 32 k))
 
-    pub stored-last : 32 ≤ code → Stored code s u rows instrs blocks rows instrs′ blocks (Last (s .count))
-    stored-last k = stored-instr (Last (s .count)) (simp (le-ltb code 10 h, ne-eqb code 10 q, le-ltb code 32 k))
+    pub stored-last : 32 ≤ code → Stored code s u rows instrs blocks rows instrs′ blocks (Last (s .count) (s .args))
+    stored-last k = stored-instr (Last (s .count) (s .args)) (simp (le-ltb code 10 h, ne-eqb code 10 q, le-ltb code 32 k))
 
 -- ---- the same in an image: the section of the line's kind was lent, and came back as y
 module _ (p : Places) (l : List ℕ) (o : Ordered p (length l)) (code : ℕ) (s : Said) (u : Used) (y : List ℕ) where
@@ -84,12 +84,12 @@ module _ (p : Places) (l : List ℕ) (o : Ordered p (length l)) (code : ℕ) (s 
       (rw (b .rows, b .instrs, b .blocks) (stored-block code s u (rowSection p l) (instrSection p l) (blockSection p l) h y e), b .outside)
 
   module _ (h : 10 ≤ code) (q : code ≡ 10 → ⊥) (n : length y ≡ length (instrSection p l)) (e : y ≡ sets (instrSection p l) (8 * u .instrs) ((code - 11) ∷ s .a ∷ s .b ∷ s .c ∷ s .d ∷ u .operands ∷ s .count ∷ [])) where
-    pub inside-in : code < 32 → PutIn (putMid (p .instrs) (p .parts - p .instrs) l y) (Instruction (s .count))
+    pub inside-in : code < 32 → PutIn (putMid (p .instrs) (p .parts - p .instrs) l y) (Instruction (s .count) (s .args))
     inside-in k =
         let b = instrs-back p l o y n in
         (rw (b .rows, b .instrs, b .blocks) (stored-inside code s u (rowSection p l) (instrSection p l) (blockSection p l) h q y e k), b .outside)
 
-    pub last-in : 32 ≤ code → PutIn (putMid (p .instrs) (p .parts - p .instrs) l y) (Last (s .count))
+    pub last-in : 32 ≤ code → PutIn (putMid (p .instrs) (p .parts - p .instrs) l y) (Last (s .count) (s .args))
     last-in k =
         let b = instrs-back p l o y n in
         (rw (b .rows, b .instrs, b .blocks) (stored-last code s u (rowSection p l) (instrSection p l) (blockSection p l) h q y e k), b .outside)
@@ -130,9 +130,16 @@ module _ (s : List ℕ) (f : ℕ) (p : StopAt s f) where
       let m : length (lineIn (take (length s - f) (drop f s))) ≡ length (lineIn s) - f = ap length rest-line ∙ length-drop f (lineIn s) in
       omega (arith, p .place .within)
 
+  -- and the arguments in it stand in the whole line
+  pub rest-carried : (m : ℕ) → Carried (take (length s - f) (drop f s)) m → Carried s m
+  rest-carried m g =
+      let e : length (lineIn (take (length s - f) (drop f s))) ≡ length (lineIn s) - f = ap length rest-line ∙ length-drop f (lineIn s) in
+      let h = g .0 in
+      (omega arith, g .1)
+
 -- the same fields say the same
-pub form-as : (code p v : ℕ) (parts parts′ : List ℕ) (ω ω′ : OperandTable) (s : Said) {fs gs : List (List ℕ)} → fs ≡ gs → FormIs code fs p v parts parts′ ω ω′ s → FormIs code gs p v parts parts′ ω ω′ s
-form-as code p v parts parts′ ω ω′ s e h = subst (λ (xs : List (List ℕ)). FormIs code xs p v parts parts′ ω ω′ s) e h
+pub form-as : (code p v a : ℕ) (parts parts′ : List ℕ) (ω ω′ : OperandTable) (s : Said) {fs gs : List (List ℕ)} → fs ≡ gs → FormIs code fs p v a parts parts′ ω ω′ s → FormIs code gs p v a parts parts′ ω ω′ s
+form-as code p v a parts parts′ ω ω′ s e h = subst (λ (xs : List (List ℕ)). FormIs code xs p v a parts parts′ ω ω′ s) e h
 
 -- ---- a line of no form ends nowhere
 pub no-line-is : (text line : List ℕ) (u : Used) (σ π : Store) (r : LineRead) → r ≡ noLine → LineIs line u σ π NoForm → LineIs line u σ π (r .line) × LineEnds text r

@@ -54,11 +54,11 @@ pub record PartsRead (fs : List (List ℕ)) (known : Bool) (most p : ℕ) (befor
   pub few : r .count ≤ most
   pub says : when (r .ok) (span after p (r .count)) ≡ atMost most (partNumber known) fs
 
--- the first m operands of two tables are the same
-pub record SameOperands (m : ℕ) (ω ρ : OperandTable) : Type 0 where
+-- the first m operands of two tables are the same, and the first k arguments
+pub record SameOperands (m k : ℕ) (ω ρ : OperandTable) : Type 0 where
   pub kinds : take (4 * m) (ω .operands) ≡ take (4 * m) (ρ .operands)
   pub numbers : take m (ω .numbers) ≡ take m (ρ .numbers)
-  pub args : take (8 * m) (ω .args) ≡ take (8 * m) (ρ .args)
+  pub args : take k (ω .args) ≡ take k (ρ .args)
 
 -- the three lists as a table of operands
 abbrev pub operandTable : List ℕ → List ℕ → List ℕ → OperandTable
@@ -68,50 +68,56 @@ operandTable operands numbers args = record { operands = operands; numbers = num
 abbrev pub operandsIn : Places → List ℕ → List ℕ → OperandTable
 operandsIn p image numbers = operandTable (operandSection p image) numbers (argSection p image)
 
--- operand v, stored
-abbrev pub withOperand : List ℕ → ℕ → OperandRead → List ℕ
-withOperand l v o = sets l (4 * v) (o .kind ∷ o .count ∷ o .row ∷ [])
+-- operand v, stored, with its arguments from `start` on
+abbrev pub withOperand : List ℕ → ℕ → OperandRead → ℕ → List ℕ
+withOperand l v o start = sets l (4 * v) (o .kind ∷ o .count ∷ o .row ∷ start ∷ [])
 
--- tables of these lengths hold n operands
-pub record OperandRoom (n operands numbers args : ℕ) : Type 0 where
+-- tables of these lengths hold n operands with k arguments
+pub record OperandRoom (n k operands numbers args : ℕ) : Type 0 where
   pub kinds : 4 * n ≤ operands
   pub bases : n ≤ numbers
-  pub rows : 8 * n ≤ args
+  pub rows : k ≤ args
+  pub small : k ≤ 65535
 
--- the fields fs, at most `most` of them, are read as operands into `after` from v on; what stands before is kept. What is read stays
--- as long as the first operands do.
-pub record OperandsRead (fs : List (List ℕ)) (most v : ℕ) (before after : OperandTable) (r : Count) : Type 0 where
-  pub kept : SameOperands v after before
+-- the fields fs, at most `most` of them, are read as operands into `after` from v on, their arguments from a on; what stands before is
+-- kept. What is read stays as long as the first operands and arguments do.
+pub record OperandsRead (fs : List (List ℕ)) (most v a : ℕ) (before after : OperandTable) (r : Count) : Type 0 where
+  pub kept : SameOperands v a after before
   pub few : r .count ≤ most
-  pub says : (ω : OperandTable) → SameOperands (v + r .count) ω after → when (r .ok) (operandsAt ω v (r .count)) ≡ atMost most operand fs
+  pub says : (ω : OperandTable) → SameOperands (v + r .count) (a + r .args) ω after → when (r .ok) (operandsAt ω v (r .count)) ≡ atMost most operand fs
+
+-- m arguments stand in the first line of s: each takes two of its bytes, a mark and a digit
+abbrev pub Carried : List ℕ → ℕ → Type 0
+Carried s m = (2 * m ≤ length (lineIn s)) × (m ≤ 128)
 
 -- ---- a line
 -- what is said where the fields are of no form
 abbrev pub noEntry : Said
-noEntry = record { ok = false; a = 0; b = 0; c = 0; d = 0; count = 0; next = 0 }
+noEntry = record { ok = false; a = 0; b = 0; c = 0; d = 0; count = 0; args = 0; next = 0 }
 
 -- the entry of the form at place `code`
 abbrev pub saidBy : ℕ → Said → List ℕ → List Operand → Option Entry
 saidBy code s parts vs = when (s .ok) (entryWith code (s .a) (s .b) (s .c) (s .d) parts vs)
 
--- s is what the fields fs say by the form at place `code`. Its operands stand in `after` from v on.
-pub record PlainIs (code : ℕ) (fs : List (List ℕ)) (v : ℕ) (before after : OperandTable) (s : Said) : Type 0 where
-  pub kept : SameOperands v after before
+-- s is what the fields fs say by the form at place `code`. Its operands stand in `after` from v on, their arguments from a on.
+pub record PlainIs (code : ℕ) (fs : List (List ℕ)) (v a : ℕ) (before after : OperandTable) (s : Said) : Type 0 where
+  pub kept : SameOperands v a after before
   pub few : s .count ≤ 16
   pub enough : s .ok ≡ true → fewest (formCell code 4) ≤ s .count
-  pub says : (parts : List ℕ) (ω : OperandTable) → SameOperands (v + s .count) ω after → saidBy code s parts (operandsAt ω v (s .count)) ≡ formAt forms code fs
+  pub says : (parts : List ℕ) (ω : OperandTable) → SameOperands (v + s .count) (a + s .args) ω after → saidBy code s parts (operandsAt ω v (s .count)) ≡ formAt forms code fs
 
 -- The same of a row whose parts stand in `after` from p on.
 pub record RowIs (code : ℕ) (fs : List (List ℕ)) (p : ℕ) (before after : List ℕ) (s : Said) : Type 0 where
   pub kept : take p after ≡ take p before
   pub none-follow : s .count ≡ 0
+  pub none-carried : s .args ≡ 0
   pub enough : fewest (formCell code 4) ≡ 0
   pub says : (parts : List ℕ) (vs : List Operand) → take (p + 17) parts ≡ take (p + 17) after → saidBy code s parts vs ≡ formAt forms code fs
 
 -- The same of any line.
-pub record FormIs (code : ℕ) (fs : List (List ℕ)) (p v : ℕ) (parts parts′ : List ℕ) (before after : OperandTable) (s : Said) : Type 0 where
+pub record FormIs (code : ℕ) (fs : List (List ℕ)) (p v a : ℕ) (parts parts′ : List ℕ) (before after : OperandTable) (s : Said) : Type 0 where
   pub kept-parts : take p parts′ ≡ take p parts
-  pub kept-operands : SameOperands v after before
+  pub kept-operands : SameOperands v a after before
   pub few : s .count ≤ 16
   pub enough : s .ok ≡ true → fewest (formCell code 4) ≤ s .count
-  pub says : (ps : List ℕ) (ω : OperandTable) → take (p + 17) ps ≡ take (p + 17) parts′ → SameOperands (v + s .count) ω after → saidBy code s ps (operandsAt ω v (s .count)) ≡ formAt forms code fs
+  pub says : (ps : List ℕ) (ω : OperandTable) → take (p + 17) ps ≡ take (p + 17) parts′ → SameOperands (v + s .count) (a + s .args) ω after → saidBy code s ps (operandsAt ω v (s .count)) ≡ formAt forms code fs

@@ -9,9 +9,9 @@ use Rattle.text_decode.specs.declared.state.Read.{Read}
 
 -- before the first line
 abbrev pub noneUsed : Used
-noneUsed = record { rows = 0; blocks = 0; instrs = 0; operands = 0 }
+noneUsed = record { rows = 0; blocks = 0; instrs = 0; operands = 0; args = 0 }
 
--- the answer where the text does not fit the tables
+-- the answer where the text does not fit the image
 abbrev pub unfitRead : Read
 unfitRead = record { fits = false; fault = 0; line = 0; rows = 0; blocks = 0; instrs = 0 }
 
@@ -32,8 +32,8 @@ abbrev pub placeBehind : Line → ℕ → ℕ
 placeBehind NoForm p = p
 placeBehind Row p = 0
 placeBehind Block p = 1
-placeBehind (Instruction n) p = 1
-placeBehind (Last n) p = 2
+placeBehind (Instruction n m) p = 1
+placeBehind (Last n m) p = 2
 
 -- ---- a line's fault, 0 for none
 -- 2 out of order, 3 where no place is left
@@ -45,5 +45,5 @@ abbrev pub lineFault : Line → ℕ → Used → ℕ
 lineFault NoForm p u = 1
 lineFault Row p u = faultOf (eqb p 0) (leb 512 (u .rows))
 lineFault Block p u = faultOf (not (eqb p 1)) (leb 64 (u .blocks))
-lineFault (Instruction n) p u = faultOf (eqb p 1) (leb 1024 (u .instrs))
-lineFault (Last n) p u = faultOf (eqb p 1) (leb 1024 (u .instrs))
+lineFault (Instruction n m) p u = faultOf (eqb p 1) (leb 1024 (u .instrs))
+lineFault (Last n m) p u = faultOf (eqb p 1) (leb 1024 (u .instrs))

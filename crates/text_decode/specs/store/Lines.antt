@@ -26,32 +26,40 @@ abbrev pub operandCount : Line → ℕ
 operandCount NoForm = 0
 operandCount Row = 0
 operandCount Block = 0
-operandCount (Instruction n) = n
-operandCount (Last n) = n
+operandCount (Instruction n m) = n
+operandCount (Last n m) = n
+
+-- how many arguments they carry
+abbrev pub argCount : Line → ℕ
+argCount NoForm = 0
+argCount Row = 0
+argCount Block = 0
+argCount (Instruction n m) = m
+argCount (Last n m) = m
 
 -- what is in use after it
 abbrev pub usedAfter : Used → Line → Used
 usedAfter u NoForm = u
-usedAfter u Row = record { rows = u .rows + 1; blocks = u .blocks; instrs = u .instrs; operands = u .operands }
-usedAfter u Block = record { rows = u .rows; blocks = u .blocks + 1; instrs = u .instrs; operands = u .operands }
-usedAfter u (Instruction n) = record { rows = u .rows; blocks = u .blocks; instrs = u .instrs + 1; operands = u .operands + n }
-usedAfter u (Last n) = record { rows = u .rows; blocks = u .blocks; instrs = u .instrs + 1; operands = u .operands + n }
+usedAfter u Row = record { rows = u .rows + 1; blocks = u .blocks; instrs = u .instrs; operands = u .operands; args = u .args }
+usedAfter u Block = record { rows = u .rows; blocks = u .blocks + 1; instrs = u .instrs; operands = u .operands; args = u .args }
+usedAfter u (Instruction n m) = record { rows = u .rows; blocks = u .blocks; instrs = u .instrs + 1; operands = u .operands + n; args = u .args + m }
+usedAfter u (Last n m) = record { rows = u .rows; blocks = u .blocks; instrs = u .instrs + 1; operands = u .operands + n; args = u .args + m }
 
 -- what the tables say of it, at the first places that were not in use
 abbrev pub says : Used → Line → Store → Option Entry
 says u NoForm σ = none
 says u Row σ = some (row (rowAt (rowTable σ) (u .rows)))
 says u Block σ = some (block (cell 2 (σ .blocks) (u .blocks) 0))
-says u (Instruction n) σ = some (instr (instrAt (σ .instrs) (operandsOf σ) (u .instrs)))
-says u (Last n) σ = some (instr (instrAt (σ .instrs) (operandsOf σ) (u .instrs)))
+says u (Instruction n m) σ = some (instr (instrAt (σ .instrs) (operandsOf σ) (u .instrs)))
+says u (Last n m) σ = some (instr (instrAt (σ .instrs) (operandsOf σ) (u .instrs)))
 
 -- it ends a block
 abbrev pub ends : Line → Bool
 ends NoForm = false
 ends Row = false
 ends Block = false
-ends (Instruction n) = false
-ends (Last n) = true
+ends (Instruction n m) = false
+ends (Last n m) = true
 
 -- what is said is a block's last instruction
 abbrev pub endsBlock : Option Entry → Bool
@@ -65,13 +73,14 @@ abbrev pub Listed : Used → Store → Line → Type 0
 Listed u σ NoForm = Unit
 Listed u σ Row = Unit
 Listed u σ Block = Unit
-Listed u σ (Instruction n) = cell 8 (σ .instrs) (u .instrs) 5 + cell 8 (σ .instrs) (u .instrs) 6 ≡ u .operands + n
-Listed u σ (Last n) = cell 8 (σ .instrs) (u .instrs) 5 + cell 8 (σ .instrs) (u .instrs) 6 ≡ u .operands + n
+Listed u σ (Instruction n m) = cell 8 (σ .instrs) (u .instrs) 5 + cell 8 (σ .instrs) (u .instrs) 6 ≡ u .operands + n
+Listed u σ (Last n m) = cell 8 (σ .instrs) (u .instrs) 5 + cell 8 (σ .instrs) (u .instrs) 6 ≡ u .operands + n
 
 -- l is what `line` says, in `after`; the entries that were in use before are kept. What is said stays as long as the entries in use do.
 pub record LineIs (line : List ℕ) (u : Used) (before after : Store) (l : Line) : Type 0 where
   pub kept : Same u after before
   pub few : operandCount l ≤ 16
+  pub carried : 2 * argCount l ≤ length line
   pub said : (σ : Store) → Same (usedAfter u l) σ after → says u l σ ≡ entryOf (fieldsOf line)
   pub last : ends l ≡ endsBlock (entryOf (fieldsOf line))
   pub starts : l ≡ Block → cell 2 (after .blocks) (u .blocks) 1 ≡ u .instrs
@@ -99,13 +108,13 @@ abbrev pub instrPut : ℕ → Said → Used → List ℕ → List ℕ
 instrPut code s u instrs =
     cond (ltb 10 code) (sets instrs (8 * u .instrs) ((code - 11) ∷ s .a ∷ s .b ∷ s .c ∷ s .d ∷ u .operands ∷ s .count ∷ [])) instrs
 
--- which kind of line it is, with n operands
-abbrev pub lineOf : ℕ → ℕ → Line
-lineOf code n = cond (ltb code 10) Row (cond (eqb code 10) Block (cond (ltb code 32) (Instruction n) (Last n)))
+-- which kind of line it is, with n operands that carry m arguments
+abbrev pub lineOf : ℕ → ℕ → ℕ → Line
+lineOf code n m = cond (ltb code 10) Row (cond (eqb code 10) Block (cond (ltb code 32) (Instruction n m) (Last n m)))
 
 -- the tables after it, and which kind of line it is
 pub record Stored (code : ℕ) (s : Said) (u : Used) (rows instrs blocks rows′ instrs′ blocks′ : List ℕ) (l : Line) : Type 0 where
   pub row : rows′ ≡ rowPut code s u rows
   pub instr : instrs′ ≡ instrPut code s u instrs
   pub block : blocks′ ≡ blockPut code s u blocks
-  pub line : l ≡ lineOf code (s .count)
+  pub line : l ≡ lineOf code (s .count) (s .args)

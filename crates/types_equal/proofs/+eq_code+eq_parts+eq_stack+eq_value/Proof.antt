@@ -1,21 +1,20 @@
 use borrow.Author.Needs.{needs}
 use native.Mathlib.Omega.{arith}
-use mathlib.Core.Path.{_≡_, refl, ap, sym, _∙_}
-use mathlib.Core.Bool.{not}
-use mathlib.Core.List.{List}
-use Prim.Native.Nat.{suc, _+_, _-_, _*_, _≤_}
-use lib.ListN.{length, set, take, drop, length-set}
+use mathlib.Core.Path.{_≡_, refl, _∙_}
+use mathlib.Core.Bool.{true, false}
+use Prim.Native.Nat.{ℕ, _+_, _-_, _*_, _≤_, _<_}
+use lib.ListN.{length}
 use borrow.Rule.Slice.PartMut.{putMid, same-len-mid}
-use Rattle.types_rows.specs.Read.{tab, argsOf}
-use Rattle.types_equal.specs.pending.Pending.{mass, room}
-use Rattle.types_equal.proofs.pending.Meets.{length-args}
-use Rattle.types_equal.specs.Bounds.{big}
-use Rattle.types_equal.proofs.Items.{own-room, given-room, tabled-low, tabled-given, tabled-arg, few-left, few-right, few-arg, few-args, room-of, spare-low, spare-arg, spare-kept, spare-own, spare-given}
-use Rattle.types_equal.proofs.Values.{big-of, pair-ok, value-pair, filled-value, filled-not, place-value, both-same, one-differs, heads-low, PartsLeft, parts-first, parts-last, parts-apart, parts-differ, parts-next, codes-off, codes-on}
-use Rattle.types_equal.proofs.Stacks.{Matching, match-first, match-over, match-unlike, match-onward, match-own, match-given, own-not, given-not, own-low, given-low, agree-mid, length-part, pends-more, not-true, not-false, plain-args}
-use Prim.Native.Nat.{ℕ, _<_}
 use borrow.Fn.Kinds.{In}
 use borrow.Fn.PlainCycle.{Measures, is, falls, and}
+use Rattle.types_rows.specs.Read.{tab, argsOf}
+use Rattle.types_equal.specs.pending.Pending.{side, mass}
+use Rattle.types_equal.specs.Bounds.{big, Spare}
+use Rattle.types_equal.proofs.pending.Meets.{length-args}
+use Rattle.types_equal.proofs.pending.Sides.{agree-back}
+use Rattle.types_equal.proofs.Items.{own-room, given-room, tabled-low, tabled-given, tabled-arg, few-left, few-right, few-arg, few-args, room-of, spare-low, spare-arg, spare-kept, spare-own, spare-given}
+use Rattle.types_equal.proofs.Values.{big-of, pair-ok, value-pair, filled-value, filled-not, place-value, both-same, one-differs, heads-low, PartsLeft, parts-first, parts-last, parts-apart, parts-differ, parts-next, codes-off, codes-on}
+use Rattle.types_equal.proofs.Stacks.{Matching, match-stored, match-over, match-unlike, match-onward, match-own, match-given, own-not, given-not, own-low, given-low, length-part, pends-more, not-true, not-false, plain-args}
 use Rattle.types_equal.proofs.eq_code.Reads as eq-code
 use Rattle.types_equal.proofs.eq_code.Kinds as eq-code-kinds
 use Rattle.types_equal.proofs.+eq_code+eq_parts+eq_stack+eq_value.Lts-eq_code as eq-code-lts
@@ -28,11 +27,13 @@ use Rattle.types_equal.proofs.+eq_code+eq_parts+eq_stack+eq_value.Lts-e
 use Rattle.types_equal.proofs.eq_value.Reads as eq-value
 use Rattle.types_equal.proofs.eq_value.Kinds as eq-value-kinds
 use Rattle.types_equal.proofs.+eq_code+eq_parts+eq_stack+eq_value.Lts-eq_value as eq-value-lts
+use Rattle.types_equal.proofs.pending.store.Reads as store-reads
+use Rattle.types_equal.proofs.stack_pairs.greater.Reads as greater-reads
 use Rattle.types_equal.proofs.stack_pairs.next_pair.Reads as next-pair-reads
-use Rattle.types_equal.proofs.value_pairs.pair_up.Reads as pair-up-reads
-use Rattle.types_equal.proofs.value_pairs.same_letters.Reads as same-letters-reads
 use Rattle.types_equal.proofs.stack_pairs.same_place.Reads as same-place-reads
 use Rattle.types_equal.proofs.stack_pairs.same_stack.Reads as same-stack-reads
+use Rattle.types_equal.proofs.value_pairs.pair_up.Reads as pair-up-reads
+use Rattle.types_equal.proofs.value_pairs.same_letters.Reads as same-letters-reads
 use Rattle.types_equal.proofs.value_pairs.two_slots.Reads as two-slots-reads
 use Rattle.types_rows.proofs.at.Reads as at-reads
 use Rattle.types_rows.proofs.is_stack.Reads as is-stack-reads
@@ -42,44 +43,44 @@ use Rattle.types_rows.proofs.read_value.Reads as read-value-reads
 use Rattle.types_equal.proofs.+eq_code+eq_parts+eq_stack+eq_value.{statement}
 use Rattle.types_equal.proofs.+eq_code+eq_parts+eq_stack+eq_value.Tie.{close}
 
-abbrev μ-eq-code : Measures 5 eq-code-kinds.ps ℕ
-μ-eq-code κs a = big (a .1 .1 .1 .0) + 131072 * a .1 .1 .1 .1 .1 .1 .0 + 66000
+abbrev μ-eq-code : Measures 4 eq-code-kinds.ps ℕ
+μ-eq-code κs a = big (a .1 .1 .1 .0 .m) + 131072 * a .1 .1 .1 .1 .0 + 66000
 
-abbrev μ-eq-parts : Measures 5 eq-parts-kinds.ps ℕ
-μ-eq-parts κs a = big (a .1 .1 .1 .0) + 131072 * a .1 .1 .1 .1 .1 .1 .0 + 1
+abbrev μ-eq-parts : Measures 4 eq-parts-kinds.ps ℕ
+μ-eq-parts κs a = big (a .1 .1 .1 .0 .m) + 131072 * a .1 .1 .1 .1 .0 + 1
 
-abbrev μ-eq-stack : Measures 5 eq-stack-kinds.ps ℕ
-μ-eq-stack κs a = big (a .1 .1 .1 .0) + 131072 * a .1 .1 .1 .1 .1 .1 .0 + 70001
+abbrev μ-eq-stack : Measures 4 eq-stack-kinds.ps ℕ
+μ-eq-stack κs a = big (a .1 .1 .1 .0 .m) + 131072 * a .1 .1 .1 .1 .0 + 70001
 
-abbrev μ-eq-value : Measures 5 eq-value-kinds.ps ℕ
-μ-eq-value κs a = big (a .1 .1 .1 .0) + 131072 * a .1 .1 .1 .1 .1 .1 .0 + 70000
+abbrev μ-eq-value : Measures 4 eq-value-kinds.ps ℕ
+μ-eq-value κs a = big (a .1 .1 .1 .0 .m) + 131072 * a .1 .1 .1 .1 .0 + 70000
 
-abbrev eq-code-at : ℕ → In 5 eq-code-kinds.ps
-eq-code-at t = and 5 eq-code-kinds.ps (is 5 eq-code-kinds.ps μ-eq-code t) eq-code.Pre
+abbrev eq-code-at : ℕ → In 4 eq-code-kinds.ps
+eq-code-at t = and 4 eq-code-kinds.ps (is 4 eq-code-kinds.ps μ-eq-code t) eq-code.Pre
 
-abbrev eq-code-below : ℕ → In 5 eq-code-kinds.ps
-eq-code-below t = and 5 eq-code-kinds.ps (falls 5 eq-code-kinds.ps _<_ μ-eq-code t) eq-code.Pre
+abbrev eq-code-below : ℕ → In 4 eq-code-kinds.ps
+eq-code-below t = and 4 eq-code-kinds.ps (falls 4 eq-code-kinds.ps _<_ μ-eq-code t) eq-code.Pre
 
-abbrev eq-parts-at : ℕ → In 5 eq-parts-kinds.ps
-eq-parts-at t = and 5 eq-parts-kinds.ps (is 5 eq-parts-kinds.ps μ-eq-parts t) eq-parts.Pre
+abbrev eq-parts-at : ℕ → In 4 eq-parts-kinds.ps
+eq-parts-at t = and 4 eq-parts-kinds.ps (is 4 eq-parts-kinds.ps μ-eq-parts t) eq-parts.Pre
 
-abbrev eq-parts-below : ℕ → In 5 eq-parts-kinds.ps
+abbrev eq-parts-below : ℕ → In 4 eq-parts-kinds.ps
 eq-parts-below t =
-    and 5 eq-parts-kinds.ps (falls 5 eq-parts-kinds.ps _<_ μ-eq-parts t) eq-parts.Pre
+    and 4 eq-parts-kinds.ps (falls 4 eq-parts-kinds.ps _<_ μ-eq-parts t) eq-parts.Pre
 
-abbrev eq-stack-at : ℕ → In 5 eq-stack-kinds.ps
-eq-stack-at t = and 5 eq-stack-kinds.ps (is 5 eq-stack-kinds.ps μ-eq-stack t) eq-stack.Pre
+abbrev eq-stack-at : ℕ → In 4 eq-stack-kinds.ps
+eq-stack-at t = and 4 eq-stack-kinds.ps (is 4 eq-stack-kinds.ps μ-eq-stack t) eq-stack.Pre
 
-abbrev eq-stack-below : ℕ → In 5 eq-stack-kinds.ps
+abbrev eq-stack-below : ℕ → In 4 eq-stack-kinds.ps
 eq-stack-below t =
-    and 5 eq-stack-kinds.ps (falls 5 eq-stack-kinds.ps _<_ μ-eq-stack t) eq-stack.Pre
+    and 4 eq-stack-kinds.ps (falls 4 eq-stack-kinds.ps _<_ μ-eq-stack t) eq-stack.Pre
 
-abbrev eq-value-at : ℕ → In 5 eq-value-kinds.ps
-eq-value-at t = and 5 eq-value-kinds.ps (is 5 eq-value-kinds.ps μ-eq-value t) eq-value.Pre
+abbrev eq-value-at : ℕ → In 4 eq-value-kinds.ps
+eq-value-at t = and 4 eq-value-kinds.ps (is 4 eq-value-kinds.ps μ-eq-value t) eq-value.Pre
 
-abbrev eq-value-below : ℕ → In 5 eq-value-kinds.ps
+abbrev eq-value-below : ℕ → In 4 eq-value-kinds.ps
 eq-value-below t =
-    and 5 eq-value-kinds.ps (falls 5 eq-value-kinds.ps _<_ μ-eq-value t) eq-value.Pre
+    and 4 eq-value-kinds.ps (falls 4 eq-value-kinds.ps _<_ μ-eq-value t) eq-value.Pre
 
 abbrev eq-code-claims : ℕ → eq-code-lts.Claims
 eq-code-claims t = (letter-count-reads.Asked, letter-count-reads.Learnt, same-letters-reads.Asked, same-letters-reads.Learnt, eq-stack-below t, eq-stack.Post, eq-parts-below t, eq-parts.Post)
@@ -88,10 +89,43 @@ abbrev eq-parts-claims : ℕ → eq-parts-lts.Claims
 eq-parts-claims t = (part-reads.Asked, part-reads.Learnt, two-slots-reads.Asked, two-slots-reads.Learnt, eq-value-below t, eq-value.Post)
 
 abbrev eq-stack-claims : ℕ → eq-stack-lts.Claims
-eq-stack-claims t = (same-stack-reads.Asked, same-stack-reads.Learnt, next-pair-reads.Asked, next-pair-reads.Learnt, eq-value-below t, eq-value.Post)
+eq-stack-claims t = (same-stack-reads.Asked, same-stack-reads.Learnt, store-reads.Asked, store-reads.Learnt, next-pair-reads.Asked, next-pair-reads.Learnt, greater-reads.Asked, greater-reads.Learnt, eq-value-below t, eq-value.Post)
 
 abbrev eq-value-claims : ℕ → eq-value-lts.Claims
 eq-value-claims t = (same-place-reads.Asked, same-place-reads.Learnt, read-value-reads.Asked, read-value-reads.Learnt, pair-up-reads.Asked, pair-up-reads.Learnt, at-reads.Asked, at-reads.Learnt, is-stack-reads.Asked, is-stack-reads.Learnt, eq-value-below t, eq-value.Post, eq-parts-below t, eq-parts.Post, eq-stack-below t, eq-stack.Post, eq-code-below t, eq-code.Post)
+
+abbrev C-Start : ℕ → Type 0
+C-Start t = eq-code-lts.Start (eq-code-claims t) (eq-code-at t) eq-code.Post
+
+abbrev C-Count : ℕ → Type 0
+C-Count t = eq-code-lts.After-letter-count (eq-code-claims t) (eq-code-at t) eq-code.Post
+
+abbrev C-Count2 : ℕ → Type 0
+C-Count2 t = eq-code-lts.After-letter-count2 (eq-code-claims t) (eq-code-at t) eq-code.Post
+
+abbrev C-Letters : ℕ → Type 0
+C-Letters t = eq-code-lts.After-same-letters (eq-code-claims t) (eq-code-at t) eq-code.Post
+
+abbrev C-Then : ℕ → Type 0
+C-Then t = eq-code-lts.Then1 (eq-code-claims t) (eq-code-at t) eq-code.Post
+
+abbrev C-Stack : ℕ → Type 0
+C-Stack t = eq-code-lts.After-eq-stack (eq-code-claims t) (eq-code-at t) eq-code.Post
+
+abbrev c-letters : (t : ℕ) → C-Stack t → C-Letters t
+c-letters t c = search
+
+abbrev c-then : (t : ℕ) → C-Stack t → C-Then t
+c-then t c = search
+
+abbrev c-count : (t : ℕ) → C-Letters t → C-Count t
+c-count t c = search
+
+abbrev c-count2 : (t : ℕ) → C-Letters t → C-Count2 t
+c-count2 t c = search
+
+abbrev c-start : (t : ℕ) → C-Letters t → C-Start t
+c-start t c = search
 
 eq-code-letter-count-requires : (t : ℕ) → eq-code-lts.Need-letter-count-requires (eq-code-claims t) (eq-code-at t) eq-code.Post
 eq-code-letter-count-requires t c κs = search
@@ -108,102 +142,175 @@ eq-code-add-same-letters-2 t c = search needs
 eq-code-same-letters-requires : (t : ℕ) → eq-code-lts.Need-same-letters-requires (eq-code-claims t) (eq-code-at t) eq-code.Post
 eq-code-same-letters-requires t c κs = search needs
 
-eq-code-add-eq-stack : (t : ℕ) → eq-code-lts.Need-add-eq-stack (eq-code-claims t) (eq-code-at t) eq-code.Post
-eq-code-add-eq-stack t c = search needs
+eq-code-cast-t16 : (t : ℕ) → eq-code-lts.Need-cast-t16 (eq-code-claims t) (eq-code-at t) eq-code.Post
+eq-code-cast-t16 t c = search needs
 
-eq-code-add-eq-stack-2 : (t : ℕ) → eq-code-lts.Need-add-eq-stack-2 (eq-code-claims t) (eq-code-at t) eq-code.Post
-eq-code-add-eq-stack-2 t c = search needs
+eq-code-add-t17 : (t : ℕ) → eq-code-lts.Need-add-t17 (eq-code-claims t) (eq-code-at t) eq-code.Post
+eq-code-add-t17 t c = search needs
+
+eq-code-cast-t18 : (t : ℕ) → eq-code-lts.Need-cast-t18 (eq-code-claims t) (eq-code-at t) eq-code.Post
+eq-code-cast-t18 t c = search needs
+
+eq-code-cast-t19 : (t : ℕ) → eq-code-lts.Need-cast-t19 (eq-code-claims t) (eq-code-at t) eq-code.Post
+eq-code-cast-t19 t c = search needs
+
+eq-code-add-t20 : (t : ℕ) → eq-code-lts.Need-add-t20 (eq-code-claims t) (eq-code-at t) eq-code.Post
+eq-code-add-t20 t c = search needs
+
+eq-code-cast-t21 : (t : ℕ) → eq-code-lts.Need-cast-t21 (eq-code-claims t) (eq-code-at t) eq-code.Post
+eq-code-cast-t21 t c = search needs
 
 eq-code-eq-stack-requires : (t : ℕ) → eq-code-lts.Need-eq-stack-requires (eq-code-claims t) (eq-code-at t) eq-code.Post
 eq-code-eq-stack-requires t c κs =
-    let s : eq-code-lts.Start (eq-code-claims t) (eq-code-at t) eq-code.Post = search in
-    let lett : eq-code-lts.After-letter-count (eq-code-claims t) (eq-code-at t) eq-code.Post = search in
-    let lett2 : eq-code-lts.After-letter-count2 (eq-code-claims t) (eq-code-at t) eq-code.Post = search in
-    let t0 = (s .pre) .0 in
-    let rl = (s .pre) .1 .1 in
-    let rr = (s .pre) .1 .2 in
-    let r3 = (s .pre) .1 .3 in
-    let r4 = (s .pre) .1 .4 in
-    let r5 = (s .pre) .1 .5 in
-    let r6 = (s .pre) .1 .6 in
-    let la = (lett .letter-count) .ensures .1 in
-    let lb = (lett2 .letter-count2) .ensures .1 in
-    (omega arith, (tabled-low (tab ((s .args) .rows .now) ((s .args) .parts .now)) ((s .args) .args .now) ((s .args) .x) ((s .args) .y) ((s .pre) .1 .0) (omega arith) (omega arith), omega arith, omega arith, spare-low ((s .args) .m) ((s .args) .l) ((s .args) .r) _ _ ((s .args) .x) ((s .args) .y) ((s .pre) .1 .7) (omega arith) (omega arith)))
+    let s : C-Start t = search in
+    let a : C-Count t = search in
+    let b : C-Count2 t = search in
+    let t0 = s .pre .0 in
+    let rl = s .pre .1 .1 in
+    let rr = s .pre .1 .2 in
+    let r3 = s .pre .1 .3 in
+    let r4 = s .pre .1 .4 in
+    let r5 = s .pre .1 .5 in
+    let r6 = s .pre .1 .6 in
+    let la = a .letter-count .ensures .1 in
+    let lb = b .letter-count2 .ensures .1 in
+    (omega arith, (tabled-low (tab (s .args .rows .now) (s .args .parts .now)) (s .args .args .now) (s .args .c .x) (s .args .c .y) (s .pre .1 .0) (omega arith) (omega arith), omega arith, omega arith, spare-low (s .args .k .m) (s .args .l) (s .args .r) _ (s .args .c .x) (s .args .c .y) (s .pre .1 .7) (omega arith) (omega arith)))
 
-eq-code-add-eq-parts : (t : ℕ) → eq-code-lts.Need-add-eq-parts (eq-code-claims t) (eq-code-at t) eq-code.Post
-eq-code-add-eq-parts t c = search needs
+eq-code-cast-t25 : (t : ℕ) → eq-code-lts.Need-cast-t25 (eq-code-claims t) (eq-code-at t) eq-code.Post
+eq-code-cast-t25 t c =
+    let e : C-Stack t = search in
+    let s = c-start t (c-letters t e) in
+    let r4 = s .pre .1 .4 in
+    let r6 = s .pre .1 .6 in
+    record { fits = omega arith }
 
-eq-code-add-eq-parts-2 : (t : ℕ) → eq-code-lts.Need-add-eq-parts-2 (eq-code-claims t) (eq-code-at t) eq-code.Post
-eq-code-add-eq-parts-2 t c = search needs
+eq-code-cast-t26 : (t : ℕ) → eq-code-lts.Need-cast-t26 (eq-code-claims t) (eq-code-at t) eq-code.Post
+eq-code-cast-t26 t c =
+    let e : C-Stack t = search in
+    let s = c-start t (c-letters t e) in
+    let r4 = s .pre .1 .4 in
+    let r6 = s .pre .1 .6 in
+    record { fits = omega arith }
 
 eq-code-eq-parts-requires : (t : ℕ) → eq-code-lts.Need-eq-parts-requires (eq-code-claims t) (eq-code-at t) eq-code.Post
 eq-code-eq-parts-requires t c κs =
-    let s = c .before .before .before .before .before .before .before .before .before .before .before .before .before .before .before .before .before .before .before in
-    let lett = c .before .before .before .before .before .before .before .before .before .before .before .before .before in
-    let lett2 = c .before .before .before .before .before .before .before .before .before .before .before .before in
-    let eqst = c .before .before .before .before .before .before .before in
-    let t0 = (s .pre) .0 in
-    let rl = (s .pre) .1 .1 in
-    let rr = (s .pre) .1 .2 in
-    let r3 = (s .pre) .1 .3 in
-    let r4 = (s .pre) .1 .4 in
-    let r5 = (s .pre) .1 .5 in
-    let r6 = (s .pre) .1 .6 in
-    let la = (lett .letter-count) .ensures .1 in
-    let lb = (lett2 .letter-count2) .ensures .1 in
-    (omega arith, (((s .pre) .1 .0), omega arith, omega arith, omega arith, omega arith, omega arith, omega arith, omega arith, spare-kept ((s .args) .m) ((s .args) .l) ((s .args) .r) _ _ _ _ ((s .pre) .1 .7) ((eqst .eq-stack) .kept .1 .1 .1 .1 .1 .1 .1 .1 .1 .1 .0) ((eqst .eq-stack) .kept .1 .1 .1 .1 .1 .1 .1 .1 .1 .1 .1 .0)))
+    let e : C-Stack t = search in
+    let w = c-letters t e in
+    let s = c-start t w in
+    let a = c-count t w in
+    let b = c-count2 t w in
+    let t0 = s .pre .0 in
+    let rl = s .pre .1 .1 in
+    let rr = s .pre .1 .2 in
+    let r3 = s .pre .1 .3 in
+    let r4 = s .pre .1 .4 in
+    let r5 = s .pre .1 .5 in
+    let r6 = s .pre .1 .6 in
+    let la = a .letter-count .ensures .1 in
+    let lb = b .letter-count2 .ensures .1 in
+    (omega arith, (s .pre .1 .0, omega arith, omega arith, omega arith, omega arith, omega arith, omega arith, omega arith, spare-kept (s .args .k .m) (s .args .l) (s .args .r) _ _ (s .pre .1 .7) (e .eq-stack .kept .1 .1 .1 .1 .1 .1 .0)))
 
 eq-code-same-length : (t : ℕ) → eq-code-lts.Need-same-length (eq-code-claims t) (eq-code-at t) eq-code.Post
 eq-code-same-length t c = search needs
 
-eq-code-same-length-2 : (t : ℕ) → eq-code-lts.Need-same-length-2 (eq-code-claims t) (eq-code-at t) eq-code.Post
-eq-code-same-length-2 t c = search needs
-
 eq-code-returns : (t : ℕ) → eq-code-lts.Need-returns (eq-code-claims t) (eq-code-at t) eq-code.Post
 eq-code-returns t c =
-    let s = c .before .before .before .before .before .before .before .before .before .before .before .before .before .before .before .before .before .before .before .before .before .before .before .before in
-    let lett = c .before .before .before .before .before .before .before .before .before .before .before .before .before .before .before .before .before .before in
-    let lett2 = c .before .before .before .before .before .before .before .before .before .before .before .before .before .before .before .before .before in
-    let same2 = c .before .before .before .before .before .before .before .before .before .before .before .before .before .before .before .before in
-    let if = c .before .before .before .before .before .before .before .before .before .before .before .before .before .before .before in
-    let eqst = c .before .before .before .before .before .before .before .before .before .before .before .before in
-    let if3 = c .before .before .before .before .before .before .before in
-    let eqpa = c .before .before .before .before in
-    both-same ((if3 .if2) .taken) ((eqst .eq-stack) .ensures) ((eqpa .eq-parts) .ensures) ∙ codes-on (tab _ _) (argsOf (tab _ _) _ _) _ _ _ _ _ _ _ _ _ _ _ _ ((lett .letter-count) .ensures .0) ((lett2 .letter-count2) .ensures .0) ((same2 .same-letters) .ensures) ((if .if1) .taken)
+    let p : eq-code-lts.After-eq-parts (eq-code-claims t) (eq-code-at t) eq-code.Post = search in
+    let i : eq-code-lts.Then2 (eq-code-claims t) (eq-code-at t) eq-code.Post = search in
+    let e : C-Stack t = search in
+    let w = c-letters t e in
+    let s = c-start t w in
+    let a = c-count t w in
+    let b = c-count2 t w in
+    both-same (i .if2 .taken) (e .eq-stack .ensures) (p .eq-parts .ensures) ∙ codes-on (tab _ _) (argsOf (tab _ _) _ _) _ _ _ _ _ _ _ _ _ _ _ _ (a .letter-count .ensures .0) (b .letter-count2 .ensures .0) (w .same-letters .ensures) (c-then t e .if1 .taken)
 
-eq-code-same-length-3 : (t : ℕ) → eq-code-lts.Need-same-length-3 (eq-code-claims t) (eq-code-at t) eq-code.Post
-eq-code-same-length-3 t c = search
-
-eq-code-same-length-4 : (t : ℕ) → eq-code-lts.Need-same-length-4 (eq-code-claims t) (eq-code-at t) eq-code.Post
-eq-code-same-length-4 t c = search
+eq-code-same-length-2 : (t : ℕ) → eq-code-lts.Need-same-length-2 (eq-code-claims t) (eq-code-at t) eq-code.Post
+eq-code-same-length-2 t c = search
 
 eq-code-returns-2 : (t : ℕ) → eq-code-lts.Need-returns-2 (eq-code-claims t) (eq-code-at t) eq-code.Post
 eq-code-returns-2 t c =
-    let s = c .before .before .before .before .before .before .before .before .before .before .before .before .before .before .before .before .before in
-    let lett = c .before .before .before .before .before .before .before .before .before .before .before in
-    let lett2 = c .before .before .before .before .before .before .before .before .before .before in
-    let same2 = c .before .before .before .before .before .before .before .before .before in
-    let if = c .before .before .before .before .before .before .before .before in
-    let eqst = c .before .before .before .before .before in
-    one-differs _ ((c .if2) .left) ((eqst .eq-stack) .ensures) ∙ codes-on (tab _ _) (argsOf (tab _ _) _ _) _ _ _ _ _ _ _ _ _ _ _ _ ((lett .letter-count) .ensures .0) ((lett2 .letter-count2) .ensures .0) ((same2 .same-letters) .ensures) ((if .if1) .taken)
+    let e : C-Stack t = search in
+    let w = c-letters t e in
+    let s = c-start t w in
+    let a = c-count t w in
+    let b = c-count2 t w in
+    let i : eq-code-lts.Else2 (eq-code-claims t) (eq-code-at t) eq-code.Post = search in
+    one-differs _ (i .if2 .left) (e .eq-stack .ensures) ∙ codes-on (tab _ _) (argsOf (tab _ _) _ _) _ _ _ _ _ _ _ _ _ _ _ _ (a .letter-count .ensures .0) (b .letter-count2 .ensures .0) (w .same-letters .ensures) (c-then t e .if1 .taken)
 
 eq-code-returns-3 : (t : ℕ) → eq-code-lts.Need-returns-3 (eq-code-claims t) (eq-code-at t) eq-code.Post
 eq-code-returns-3 t c =
-    let s : eq-code-lts.Start (eq-code-claims t) (eq-code-at t) eq-code.Post = search in
-    let lett : eq-code-lts.After-letter-count (eq-code-claims t) (eq-code-at t) eq-code.Post = search in
-    let lett2 : eq-code-lts.After-letter-count2 (eq-code-claims t) (eq-code-at t) eq-code.Post = search in
-    codes-off (tab _ _) (argsOf (tab _ _) _ _) _ _ _ _ _ _ _ _ _ _ _ _ ((lett .letter-count) .ensures .0) ((lett2 .letter-count2) .ensures .0) ((c .before .same-letters) .ensures) ((c .if1) .left)
+    let s : C-Start t = search in
+    let a : C-Count t = search in
+    let b : C-Count2 t = search in
+    let w : C-Letters t = search in
+    let i : eq-code-lts.Else1 (eq-code-claims t) (eq-code-at t) eq-code.Post = search in
+    codes-off (tab _ _) (argsOf (tab _ _) _ _) _ _ _ _ _ _ _ _ _ _ _ _ (a .letter-count .ensures .0) (b .letter-count2 .ensures .0) (w .same-letters .ensures) (i .if1 .left)
 
 abbrev eq-parts-Inv-loop : eq-parts-lts.InvT-loop
-eq-parts-Inv-loop rows parts args m by d l by2 d2 r file p q n left₀ right₀ i₀ left right i = PartsLeft (tab rows parts) (argsOf (tab rows parts) args m) by d file l by2 d2 r p q n i × (length left ≡ length left₀) × (length right ≡ length right₀)
+eq-parts-Inv-loop rows parts args k l r pending₀ file p q n i₀ pending i =
+    PartsLeft (tab rows parts) (argsOf (tab rows parts) args (k .m)) (k .by) (k .d) file l (k .by2) (k .d2) r p q n i × (length pending ≡ length pending₀)
 
 abbrev eq-parts-μ-loop : eq-parts-lts.MeasureT-loop
-eq-parts-μ-loop rows parts args m by d l by2 d2 r file p q n left₀ right₀ i₀ left right i = n - i
+eq-parts-μ-loop rows parts args k l r pending₀ file p q n i₀ pending i = n - i
+
+abbrev P-Start : ℕ → Type 0
+P-Start t = eq-parts-lts.Start (eq-parts-claims t) (eq-parts-at t) eq-parts.Post eq-parts-Inv-loop eq-parts-μ-loop
+
+abbrev P-Loop : ℕ → Type 0
+P-Loop t = eq-parts-lts.At-loop (eq-parts-claims t) (eq-parts-at t) eq-parts.Post eq-parts-Inv-loop eq-parts-μ-loop
+
+abbrev P-In : ℕ → Type 0
+P-In t = eq-parts-lts.In-loop (eq-parts-claims t) (eq-parts-at t) eq-parts.Post eq-parts-Inv-loop eq-parts-μ-loop
+
+abbrev P-Part : ℕ → Type 0
+P-Part t = eq-parts-lts.After-part (eq-parts-claims t) (eq-parts-at t) eq-parts.Post eq-parts-Inv-loop eq-parts-μ-loop
+
+abbrev P-Part2 : ℕ → Type 0
+P-Part2 t = eq-parts-lts.After-part2 (eq-parts-claims t) (eq-parts-at t) eq-parts.Post eq-parts-Inv-loop eq-parts-μ-loop
+
+abbrev P-Slots : ℕ → Type 0
+P-Slots t = eq-parts-lts.After-two-slots (eq-parts-claims t) (eq-parts-at t) eq-parts.Post eq-parts-Inv-loop eq-parts-μ-loop
+
+abbrev P-Heads : ℕ → Type 0
+P-Heads t = eq-parts-lts.After-h (eq-parts-claims t) (eq-parts-at t) eq-parts.Post eq-parts-Inv-loop eq-parts-μ-loop
+
+abbrev P-Value : ℕ → Type 0
+P-Value t = eq-parts-lts.After-eq-value (eq-parts-claims t) (eq-parts-at t) eq-parts.Post eq-parts-Inv-loop eq-parts-μ-loop
+
+abbrev p-heads : (t : ℕ) → P-Value t → P-Heads t
+p-heads t c = search
+
+abbrev p-slots : (t : ℕ) → P-Heads t → P-Slots t
+p-slots t c = search
+
+abbrev p-part : (t : ℕ) → P-Slots t → P-Part t
+p-part t c = search
+
+abbrev p-part2 : (t : ℕ) → P-Slots t → P-Part2 t
+p-part2 t c = search
+
+abbrev p-in : (t : ℕ) → P-Slots t → P-In t
+p-in t c = search
+
+abbrev p-loop : (t : ℕ) → P-Slots t → P-Loop t
+p-loop t c = search
+
+abbrev p-start : (t : ℕ) → P-Slots t → P-Start t
+p-start t c = search
+
+eq-parts-cast-p : (t : ℕ) → eq-parts-lts.Need-cast-p (eq-parts-claims t) (eq-parts-at t) eq-parts.Post eq-parts-Inv-loop eq-parts-μ-loop
+eq-parts-cast-p t c = search needs
+
+eq-parts-cast-q : (t : ℕ) → eq-parts-lts.Need-cast-q (eq-parts-claims t) (eq-parts-at t) eq-parts.Post eq-parts-Inv-loop eq-parts-μ-loop
+eq-parts-cast-q t c = search needs
+
+eq-parts-cast-n : (t : ℕ) → eq-parts-lts.Need-cast-n (eq-parts-claims t) (eq-parts-at t) eq-parts.Post eq-parts-Inv-loop eq-parts-μ-loop
+eq-parts-cast-n t c = search needs
 
 eq-parts-loop-holds : (t : ℕ) → eq-parts-lts.Need-loop-holds (eq-parts-claims t) (eq-parts-at t) eq-parts.Post eq-parts-Inv-loop eq-parts-μ-loop
 eq-parts-loop-holds t c =
-    let s : eq-parts-lts.Start (eq-parts-claims t) (eq-parts-at t) eq-parts.Post eq-parts-Inv-loop eq-parts-μ-loop = search in
-    (parts-first (tab _ _) (argsOf (tab _ _) _ _) _ _ _ _ _ _ _ _ _ _, refl, refl)
+    let s : P-Start t = search in
+    (parts-first (tab _ _) (argsOf (tab _ _) _ _) _ _ _ _ _ _ _ _ _ _, refl)
 
 eq-parts-add-part : (t : ℕ) → eq-parts-lts.Need-add-part (eq-parts-claims t) (eq-parts-at t) eq-parts.Post eq-parts-Inv-loop eq-parts-μ-loop
 eq-parts-add-part t c = search needs
@@ -226,72 +333,67 @@ eq-parts-enum-told t c = search
 eq-parts-same-length : (t : ℕ) → eq-parts-lts.Need-same-length (eq-parts-claims t) (eq-parts-at t) eq-parts.Post eq-parts-Inv-loop eq-parts-μ-loop
 eq-parts-same-length t c = search
 
-eq-parts-same-length-2 : (t : ℕ) → eq-parts-lts.Need-same-length-2 (eq-parts-claims t) (eq-parts-at t) eq-parts.Post eq-parts-Inv-loop eq-parts-μ-loop
-eq-parts-same-length-2 t c = search
-
 eq-parts-returns : (t : ℕ) → eq-parts-lts.Need-returns (eq-parts-claims t) (eq-parts-at t) eq-parts.Post eq-parts-Inv-loop eq-parts-μ-loop
 eq-parts-returns t c =
-    let s : eq-parts-lts.Start (eq-parts-claims t) (eq-parts-at t) eq-parts.Post eq-parts-Inv-loop eq-parts-μ-loop = search in
-    let loop2 : eq-parts-lts.At-loop (eq-parts-claims t) (eq-parts-at t) eq-parts.Post eq-parts-Inv-loop eq-parts-μ-loop = search in
-    let loop3 : eq-parts-lts.In-loop (eq-parts-claims t) (eq-parts-at t) eq-parts.Post eq-parts-Inv-loop eq-parts-μ-loop = search in
-    let part3 : eq-parts-lts.After-part (eq-parts-claims t) (eq-parts-at t) eq-parts.Post eq-parts-Inv-loop eq-parts-μ-loop = search in
-    let part4 : eq-parts-lts.After-part2 (eq-parts-claims t) (eq-parts-at t) eq-parts.Post eq-parts-Inv-loop eq-parts-μ-loop = search in
-    let twos : eq-parts-lts.After-two-slots (eq-parts-claims t) (eq-parts-at t) eq-parts.Post eq-parts-Inv-loop eq-parts-μ-loop = search in
-    parts-apart (tab _ _) (argsOf (tab _ _) _ _) _ _ _ _ _ _ _ _ _ _ _ ((loop2 .loop) .inv .0) ((loop3 .loop-test) .taken) ((part3 .part) .ensures .0) ((part4 .part2) .ensures .0) ((twos .two-slots) .ensures) ((c .enum-told) .given .1)
+    let w : P-Slots t = search in
+    let a = p-part t w in
+    let b = p-part2 t w in
+    let n = p-in t w in
+    let l = p-loop t w in
+    let s = p-start t w in
+    parts-apart (tab _ _) (argsOf (tab _ _) _ _) _ _ _ _ _ _ _ _ _ _ _ (l .loop .inv .0) (n .loop-test .taken) (a .part .ensures .0) (b .part2 .ensures .0) (w .two-slots .ensures) (c .enum-told .given .1)
 
 eq-parts-enum-known-h : (t : ℕ) → eq-parts-lts.Need-enum-known-h (eq-parts-claims t) (eq-parts-at t) eq-parts.Post eq-parts-Inv-loop eq-parts-μ-loop
 eq-parts-enum-known-h t c = search
 
 eq-parts-eq-value-requires : (t : ℕ) → eq-parts-lts.Need-eq-value-requires (eq-parts-claims t) (eq-parts-at t) eq-parts.Post eq-parts-Inv-loop eq-parts-μ-loop
 eq-parts-eq-value-requires t c κs =
-    let s : eq-parts-lts.Start (eq-parts-claims t) (eq-parts-at t) eq-parts.Post eq-parts-Inv-loop eq-parts-μ-loop = search in
-    let loop2 : eq-parts-lts.At-loop (eq-parts-claims t) (eq-parts-at t) eq-parts.Post eq-parts-Inv-loop eq-parts-μ-loop = search in
-    let loop3 : eq-parts-lts.In-loop (eq-parts-claims t) (eq-parts-at t) eq-parts.Post eq-parts-Inv-loop eq-parts-μ-loop = search in
-    let part3 : eq-parts-lts.After-part (eq-parts-claims t) (eq-parts-at t) eq-parts.Post eq-parts-Inv-loop eq-parts-μ-loop = search in
-    let part4 : eq-parts-lts.After-part2 (eq-parts-claims t) (eq-parts-at t) eq-parts.Post eq-parts-Inv-loop eq-parts-μ-loop = search in
-    let twos : eq-parts-lts.After-two-slots (eq-parts-claims t) (eq-parts-at t) eq-parts.Post eq-parts-Inv-loop eq-parts-μ-loop = search in
-    let h2 : eq-parts-lts.After-h (eq-parts-claims t) (eq-parts-at t) eq-parts.Post eq-parts-Inv-loop eq-parts-μ-loop = search in
-    let hl = heads-low ((s .args) .l) ((s .args) .r) ((h2 .h) .given .0 .0) ((h2 .h) .given .0 .1 .0) ((part3 .part) .result) ((part4 .part2) .result) ((s .pre) .1 .3) ((s .pre) .1 .4) ((part3 .part) .ensures .1) ((part4 .part2) .ensures .1) ((twos .two-slots) .ensures) ((h2 .h) .given .1) in
+    let h : P-Heads t = search in
+    let w = p-slots t h in
+    let a = p-part t w in
+    let b = p-part2 t w in
+    let n = p-in t w in
+    let l = p-loop t w in
+    let s = p-start t w in
+    let hl = heads-low (s .args .l) (s .args .r) (h .h .given .0 .0) (h .h .given .0 .1 .0) (a .part .result) (b .part2 .result) (s .pre .1 .3) (s .pre .1 .4) (a .part .ensures .1) (b .part2 .ensures .1) (w .two-slots .ensures) (h .h .given .1) in
     let h0 = hl .0 in
     let h1 = hl .1 in
-    let t0 = (s .pre) .0 in
-    let rl = (s .pre) .1 .1 in
-    let rr = (s .pre) .1 .2 in
-    let r5 = (s .pre) .1 .5 in
-    let r6 = (s .pre) .1 .6 in
-    let r7 = (s .pre) .1 .7 in
-    let k = (loop3 .loop-test) .taken in
-    (omega arith, (tabled-low (tab ((s .args) .rows .now) ((s .args) .parts .now)) ((s .args) .args .now) ((h2 .h) .given .0 .0) ((h2 .h) .given .0 .1 .0) ((s .pre) .1 .0) (omega arith) (omega arith), omega arith, omega arith, spare-kept ((s .args) .m) ((h2 .h) .given .0 .0) ((h2 .h) .given .0 .1 .0) _ _ _ _ (spare-low ((s .args) .m) ((s .args) .l) ((s .args) .r) _ _ ((h2 .h) .given .0 .0) ((h2 .h) .given .0 .1 .0) ((s .pre) .1 .8) (omega arith) (omega arith)) ((loop2 .loop) .inv .1) ((loop2 .loop) .inv .2)))
+    let t0 = s .pre .0 in
+    let rl = s .pre .1 .1 in
+    let rr = s .pre .1 .2 in
+    let r5 = s .pre .1 .5 in
+    let r6 = s .pre .1 .6 in
+    let r7 = s .pre .1 .7 in
+    let k = n .loop-test .taken in
+    (omega arith, (tabled-low (tab (s .args .rows .now) (s .args .parts .now)) (s .args .args .now) (h .h .given .0 .0) (h .h .given .0 .1 .0) (s .pre .1 .0) (omega arith) (omega arith), omega arith, omega arith, spare-kept (s .args .k .m) (h .h .given .0 .0) (h .h .given .0 .1 .0) _ _ (spare-low (s .args .k .m) (s .args .l) (s .args .r) _ (h .h .given .0 .0) (h .h .given .0 .1 .0) (s .pre .1 .8) (omega arith) (omega arith)) (l .loop .inv .1)))
 
-eq-parts-same-length-3 : (t : ℕ) → eq-parts-lts.Need-same-length-3 (eq-parts-claims t) (eq-parts-at t) eq-parts.Post eq-parts-Inv-loop eq-parts-μ-loop
-eq-parts-same-length-3 t c = search needs
-
-eq-parts-same-length-4 : (t : ℕ) → eq-parts-lts.Need-same-length-4 (eq-parts-claims t) (eq-parts-at t) eq-parts.Post eq-parts-Inv-loop eq-parts-μ-loop
-eq-parts-same-length-4 t c = search needs
+eq-parts-same-length-2 : (t : ℕ) → eq-parts-lts.Need-same-length-2 (eq-parts-claims t) (eq-parts-at t) eq-parts.Post eq-parts-Inv-loop eq-parts-μ-loop
+eq-parts-same-length-2 t c = search needs
 
 eq-parts-returns-2 : (t : ℕ) → eq-parts-lts.Need-returns-2 (eq-parts-claims t) (eq-parts-at t) eq-parts.Post eq-parts-Inv-loop eq-parts-μ-loop
 eq-parts-returns-2 t c =
-    let s = c .before .before .before .before .before .before .before .before .before .before .before .before .before .before .before .before .before .before .before .before .before in
-    let loop2 = c .before .before .before .before .before .before .before .before .before .before .before .before .before .before .before in
-    let loop3 = c .before .before .before .before .before .before .before .before .before .before .before .before .before .before in
-    let part3 = c .before .before .before .before .before .before .before .before .before .before .before .before .before in
-    let part4 = c .before .before .before .before .before .before .before .before .before .before .before .before in
-    let twos = c .before .before .before .before .before .before .before .before .before .before .before in
-    let h2 = c .before .before .before .before .before .before .before .before .before in
-    let eqva = c .before .before .before .before .before in
-    parts-differ (tab _ _) (argsOf (tab _ _) _ _) _ _ _ _ _ _ _ _ _ _ _ ((loop2 .loop) .inv .0) ((loop3 .loop-test) .taken) ((part3 .part) .ensures .0) ((part4 .part2) .ensures .0) ((twos .two-slots) .ensures) ((h2 .h) .given .0 .0) ((h2 .h) .given .0 .1 .0) ((h2 .h) .given .1) ((eqva .eq-value) .ensures) (not-false ((c .if1) .taken))
+    let v : P-Value t = search in
+    let i : eq-parts-lts.Then1 (eq-parts-claims t) (eq-parts-at t) eq-parts.Post eq-parts-Inv-loop eq-parts-μ-loop = search in
+    let h = p-heads t v in
+    let w = p-slots t h in
+    let a = p-part t w in
+    let b = p-part2 t w in
+    let n = p-in t w in
+    let l = p-loop t w in
+    let s = p-start t w in
+    parts-differ (tab _ _) (argsOf (tab _ _) _ _) _ _ _ _ _ _ _ _ _ _ _ (l .loop .inv .0) (n .loop-test .taken) (a .part .ensures .0) (b .part2 .ensures .0) (w .two-slots .ensures) (h .h .given .0 .0) (h .h .given .0 .1 .0) (h .h .given .1) (v .eq-value .ensures) (not-false (i .if1 .taken))
 
 eq-parts-add-i : (t : ℕ) → eq-parts-lts.Need-add-i (eq-parts-claims t) (eq-parts-at t) eq-parts.Post eq-parts-Inv-loop eq-parts-μ-loop
 eq-parts-add-i t c =
-    let s : eq-parts-lts.Start (eq-parts-claims t) (eq-parts-at t) eq-parts.Post eq-parts-Inv-loop eq-parts-μ-loop = search in
-    let loop2 : eq-parts-lts.In-loop (eq-parts-claims t) (eq-parts-at t) eq-parts.Post eq-parts-Inv-loop eq-parts-μ-loop = search in
-    let t0 = (s .pre) .0 in
-    let rl = (s .pre) .1 .1 in
-    let rr = (s .pre) .1 .2 in
-    let r5 = (s .pre) .1 .5 in
-    let r6 = (s .pre) .1 .6 in
-    let r7 = (s .pre) .1 .7 in
-    let k = (loop2 .loop-test) .taken in
+    let n : P-In t = search in
+    let s : P-Start t = search in
+    let t0 = s .pre .0 in
+    let rl = s .pre .1 .1 in
+    let rr = s .pre .1 .2 in
+    let r5 = s .pre .1 .5 in
+    let r6 = s .pre .1 .6 in
+    let r7 = s .pre .1 .7 in
+    let k = n .loop-test .taken in
     omega arith
 
 eq-parts-loop-less : (t : ℕ) → eq-parts-lts.Need-loop-less (eq-parts-claims t) (eq-parts-at t) eq-parts.Post eq-parts-Inv-loop eq-parts-μ-loop
@@ -299,456 +401,478 @@ eq-parts-loop-less t c = search needs
 
 eq-parts-loop-again : (t : ℕ) → eq-parts-lts.Need-loop-again (eq-parts-claims t) (eq-parts-at t) eq-parts.Post eq-parts-Inv-loop eq-parts-μ-loop
 eq-parts-loop-again t c =
-    let s = c .before .before .before .before .before .before .before .before .before .before .before .before .before .before .before .before .before .before .before .before .before in
-    let loop2 = c .before .before .before .before .before .before .before .before .before .before .before .before .before .before .before in
-    let loop3 = c .before .before .before .before .before .before .before .before .before .before .before .before .before .before in
-    let part3 = c .before .before .before .before .before .before .before .before .before .before .before .before .before in
-    let part4 = c .before .before .before .before .before .before .before .before .before .before .before .before in
-    let twos = c .before .before .before .before .before .before .before .before .before .before .before in
-    let h2 = c .before .before .before .before .before .before .before .before .before in
-    let eqva = c .before .before .before .before .before in
-    (parts-next (tab _ _) (argsOf (tab _ _) _ _) _ _ _ _ _ _ _ _ _ _ _ ((loop2 .loop) .inv .0) ((loop3 .loop-test) .taken) ((part3 .part) .ensures .0) ((part4 .part2) .ensures .0) ((twos .two-slots) .ensures) ((h2 .h) .given .0 .0) ((h2 .h) .given .0 .1 .0) ((h2 .h) .given .1) ((eqva .eq-value) .ensures) (not-true ((c .if1) .left)), ((eqva .eq-value) .kept .1 .1 .1 .1 .1 .1 .1 .1 .1 .1 .0) ∙ (loop2 .loop) .inv .1, ((eqva .eq-value) .kept .1 .1 .1 .1 .1 .1 .1 .1 .1 .1 .1 .0) ∙ (loop2 .loop) .inv .2)
+    let v : P-Value t = search in
+    let i : eq-parts-lts.Else1 (eq-parts-claims t) (eq-parts-at t) eq-parts.Post eq-parts-Inv-loop eq-parts-μ-loop = search in
+    let h = p-heads t v in
+    let w = p-slots t h in
+    let a = p-part t w in
+    let b = p-part2 t w in
+    let n = p-in t w in
+    let l = p-loop t w in
+    let s = p-start t w in
+    (parts-next (tab _ _) (argsOf (tab _ _) _ _) _ _ _ _ _ _ _ _ _ _ _ (l .loop .inv .0) (n .loop-test .taken) (a .part .ensures .0) (b .part2 .ensures .0) (w .two-slots .ensures) (h .h .given .0 .0) (h .h .given .0 .1 .0) (h .h .given .1) (v .eq-value .ensures) (not-true (i .if1 .left)), v .eq-value .kept .1 .1 .1 .1 .1 .1 .0 ∙ l .loop .inv .1)
 
-eq-parts-same-length-5 : (t : ℕ) → eq-parts-lts.Need-same-length-5 (eq-parts-claims t) (eq-parts-at t) eq-parts.Post eq-parts-Inv-loop eq-parts-μ-loop
-eq-parts-same-length-5 t c = search
-
-eq-parts-same-length-6 : (t : ℕ) → eq-parts-lts.Need-same-length-6 (eq-parts-claims t) (eq-parts-at t) eq-parts.Post eq-parts-Inv-loop eq-parts-μ-loop
-eq-parts-same-length-6 t c = search
+eq-parts-same-length-3 : (t : ℕ) → eq-parts-lts.Need-same-length-3 (eq-parts-claims t) (eq-parts-at t) eq-parts.Post eq-parts-Inv-loop eq-parts-μ-loop
+eq-parts-same-length-3 t c = search
 
 eq-parts-returns-3 : (t : ℕ) → eq-parts-lts.Need-returns-3 (eq-parts-claims t) (eq-parts-at t) eq-parts.Post eq-parts-Inv-loop eq-parts-μ-loop
 eq-parts-returns-3 t c =
-    let s : eq-parts-lts.Start (eq-parts-claims t) (eq-parts-at t) eq-parts.Post eq-parts-Inv-loop eq-parts-μ-loop = search in
-    parts-last (tab _ _) (argsOf (tab _ _) _ _) _ _ _ _ _ _ _ _ _ _ _ ((c .loop-test) .left) ((c .before .loop) .inv .0)
+    let s : P-Start t = search in
+    let l : P-Loop t = search in
+    parts-last (tab _ _) (argsOf (tab _ _) _ _) _ _ _ _ _ _ _ _ _ _ _ (c .loop-test .left) (l .loop .inv .0)
 
 abbrev eq-stack-Inv-loop : eq-stack-lts.InvT-loop
-eq-stack-Inv-loop rows parts args m by d l by2 d2 r left₀ right₀ i₀ j₀ left right i j = Matching (tab rows parts) (argsOf (tab rows parts) args m) m by d l by2 d2 r left i right j × (length left ≡ length left₀) × (length right ≡ length right₀)
+eq-stack-Inv-loop rows parts args k l r pending₀ i₀ j₀ pending i j =
+    Matching (tab rows parts) (argsOf (tab rows parts) args (k .m)) (k .m) (k .by) (k .d) l (k .by2) (k .d2) r (side false pending) i (side true pending) j × (length pending ≡ length pending₀)
 
 abbrev eq-stack-μ-loop : eq-stack-lts.MeasureT-loop
-eq-stack-μ-loop rows parts args m by d l by2 d2 r left₀ right₀ i₀ j₀ left right i j = mass left i
+eq-stack-μ-loop rows parts args k l r pending₀ i₀ j₀ pending i j = mass (side false pending) i
+
+abbrev S-Start : ℕ → Type 0
+S-Start t = eq-stack-lts.Start (eq-stack-claims t) (eq-stack-at t) eq-stack.Post eq-stack-Inv-loop eq-stack-μ-loop
+
+abbrev S-Store : ℕ → Type 0
+S-Store t = eq-stack-lts.After-store (eq-stack-claims t) (eq-stack-at t) eq-stack.Post eq-stack-Inv-loop eq-stack-μ-loop
+
+abbrev S-Store2 : ℕ → Type 0
+S-Store2 t = eq-stack-lts.After-store2 (eq-stack-claims t) (eq-stack-at t) eq-stack.Post eq-stack-Inv-loop eq-stack-μ-loop
+
+abbrev S-Loop : ℕ → Type 0
+S-Loop t = eq-stack-lts.At-loop (eq-stack-claims t) (eq-stack-at t) eq-stack.Post eq-stack-Inv-loop eq-stack-μ-loop
+
+abbrev S-Pair : ℕ → Type 0
+S-Pair t = eq-stack-lts.After-next-pair (eq-stack-claims t) (eq-stack-at t) eq-stack.Post eq-stack-Inv-loop eq-stack-μ-loop
+
+abbrev S-Own : ℕ → Type 0
+S-Own t = eq-stack-lts.After-s2 (eq-stack-claims t) (eq-stack-at t) eq-stack.Post eq-stack-Inv-loop eq-stack-μ-loop
+
+abbrev S-Given : ℕ → Type 0
+S-Given t = eq-stack-lts.After-s3 (eq-stack-claims t) (eq-stack-at t) eq-stack.Post eq-stack-Inv-loop eq-stack-μ-loop
+
+abbrev S-Great : ℕ → Type 0
+S-Great t = eq-stack-lts.After-greater (eq-stack-claims t) (eq-stack-at t) eq-stack.Post eq-stack-Inv-loop eq-stack-μ-loop
+
+abbrev S-Great2 : ℕ → Type 0
+S-Great2 t = eq-stack-lts.After-greater2 (eq-stack-claims t) (eq-stack-at t) eq-stack.Post eq-stack-Inv-loop eq-stack-μ-loop
+
+abbrev S-Value : ℕ → Type 0
+S-Value t = eq-stack-lts.After-eq-value (eq-stack-claims t) (eq-stack-at t) eq-stack.Post eq-stack-Inv-loop eq-stack-μ-loop
+
+abbrev S-Value2 : ℕ → Type 0
+S-Value2 t = eq-stack-lts.After-eq-value2 (eq-stack-claims t) (eq-stack-at t) eq-stack.Post eq-stack-Inv-loop eq-stack-μ-loop
+
+abbrev s-start : (t : ℕ) → S-Loop t → S-Start t
+s-start t c = search
+
+abbrev s-store : (t : ℕ) → S-Loop t → S-Store t
+s-store t c = search
+
+abbrev s-store2 : (t : ℕ) → S-Loop t → S-Store2 t
+s-store2 t c = search
+
+abbrev s-loop : (t : ℕ) → S-Pair t → S-Loop t
+s-loop t c = search
+
+abbrev s-own-pair : (t : ℕ) → S-Own t → S-Pair t
+s-own-pair t c = search
+
+abbrev s-given-pair : (t : ℕ) → S-Given t → S-Pair t
+s-given-pair t c = search
+
+abbrev s-own : (t : ℕ) → S-Great t → S-Own t
+s-own t c = search
+
+abbrev s-given : (t : ℕ) → S-Great2 t → S-Given t
+s-given t c = search
+
+abbrev s-great : (t : ℕ) → S-Value t → S-Great t
+s-great t c = search
+
+abbrev s-great2 : (t : ℕ) → S-Value2 t → S-Great2 t
+s-great2 t c = search
+
+-- the words are as many as they were
+s-long : (t : ℕ) (c : S-Loop t) → length (c .loop .pending) ≡ length (s-start t c .args .pending .now)
+s-long t c = c .loop .inv .1 ∙ s-store2 t c .store2 .kept .0 ∙ s-store t c .store .kept .0
+
+s-longer : (t : ℕ) (c : S-Pair t) → length (c .next-pair .last .1 .1 .1 .0) ≡ length (s-start t (s-loop t c) .args .pending .now)
+s-longer t c = c .next-pair .kept .1 .1 .1 .0 ∙ s-long t (s-loop t c)
+
+s-spare : (t : ℕ) (c : S-Pair t) → Spare (s-start t (s-loop t c) .args .k .m) (s-start t (s-loop t c) .args .l) (s-start t (s-loop t c) .args .r) (length (c .next-pair .last .1 .1 .1 .0))
+s-spare t c = let s = s-start t (s-loop t c) in spare-kept (s .args .k .m) (s .args .l) (s .args .r) _ _ (s .pre .1 .3) (s-longer t c)
+
+own-reach : (t : ℕ) (c : S-Own t) → (c .s2 .given .0 .1 .0 + c .s2 .given .0 .0 ≤ s-start t (s-loop t (s-own-pair t c)) .args .l) × (c .s2 .given .0 .1 .1 .1 .0 + c .s2 .given .0 .1 .1 .0 ≤ s-start t (s-loop t (s-own-pair t c)) .args .r)
+own-reach t c =
+    let p = s-own-pair t c in
+    let l = s-loop t p in
+    let s = s-start t l in
+    own-low (tab (s .args .rows .now) (s .args .parts .now)) (argsOf (tab (s .args .rows .now) (s .args .parts .now)) (s .args .args .now) (s .args .k .m)) (s .args .k .m) (s .args .k .by) (s .args .k .d) (s .args .l) (s .args .k .by2) (s .args .k .d2) (s .args .r) (side false (l .loop .pending)) (l .loop .i) (side true (l .loop .pending)) (l .loop .j) (l .loop .inv .0) (side false (p .next-pair .last .1 .1 .1 .0)) (side true (p .next-pair .last .1 .1 .1 .0)) (p .next-pair .result) (c .s2 .given .0 .0) (c .s2 .given .0 .1 .0) (c .s2 .given .0 .1 .1 .0) (c .s2 .given .0 .1 .1 .1 .0) (p .next-pair .ensures (s .args .parts .now)) (c .s2 .given .1)
+
+own-ends : (t : ℕ) (c : S-Great t) → (c .greater .result < length (s-own-pair t (s-own t c) .next-pair .last .1 .1 .1 .0)) × (length (s-own-pair t (s-own t c) .next-pair .last .1 .1 .1 .0) ≤ 32768)
+own-ends t c =
+    let o = s-own t c in
+    own-room (s-start t (s-loop t (s-own-pair t o)) .args .k .m) (s-start t (s-loop t (s-own-pair t o)) .args .l) (s-start t (s-loop t (s-own-pair t o)) .args .r) _ (o .s2 .given .0 .1 .0) (o .s2 .given .0 .0) (o .s2 .given .0 .1 .1 .1 .0) (o .s2 .given .0 .1 .1 .0) _ (c .greater .ensures) (s-spare t (s-own-pair t o)) (own-reach t o)
+
+given-reach : (t : ℕ) (c : S-Given t) → (0 < s-start t (s-loop t (s-given-pair t c)) .args .k .m) × (c .s3 .given .0 .0 < 514) × (c .s3 .given .0 .1 .0 + c .s3 .given .0 .0 ≤ 514 + s-start t (s-loop t (s-given-pair t c)) .args .l) × (c .s3 .given .0 .1 .1 .1 .0 + c .s3 .given .0 .1 .1 .0 ≤ s-start t (s-loop t (s-given-pair t c)) .args .r)
+given-reach t c =
+    let p = s-given-pair t c in
+    let l = s-loop t p in
+    let s = s-start t l in
+    given-low (tab (s .args .rows .now) (s .args .parts .now)) (argsOf (tab (s .args .rows .now) (s .args .parts .now)) (s .args .args .now) (s .args .k .m)) (s .args .k .m) (s .args .k .by) (s .args .k .d) (s .args .l) (s .args .k .by2) (s .args .k .d2) (s .args .r) (side false (l .loop .pending)) (l .loop .i) (side true (l .loop .pending)) (l .loop .j) (l .loop .inv .0) (side false (p .next-pair .last .1 .1 .1 .0)) (side true (p .next-pair .last .1 .1 .1 .0)) (p .next-pair .result) (c .s3 .given .0 .0) (c .s3 .given .0 .1 .0) (c .s3 .given .0 .1 .1 .0) (c .s3 .given .0 .1 .1 .1 .0) (p .next-pair .ensures (s .args .parts .now)) (c .s3 .given .1)
+
+given-ends : (t : ℕ) (c : S-Great2 t) → (c .greater2 .result < length (s-given-pair t (s-given t c) .next-pair .last .1 .1 .1 .0)) × (length (s-given-pair t (s-given t c) .next-pair .last .1 .1 .1 .0) ≤ 32768)
+given-ends t c =
+    let o = s-given t c in
+    given-room (s-start t (s-loop t (s-given-pair t o)) .args .k .m) (s-start t (s-loop t (s-given-pair t o)) .args .l) (s-start t (s-loop t (s-given-pair t o)) .args .r) _ (o .s3 .given .0 .1 .0) (o .s3 .given .0 .0) (o .s3 .given .0 .1 .1 .1 .0) (o .s3 .given .0 .1 .1 .0) _ (c .greater2 .ensures) (s-spare t (s-given-pair t o)) (given-reach t o)
 
 eq-stack-same-stack-requires : (t : ℕ) → eq-stack-lts.Need-same-stack-requires (eq-stack-claims t) (eq-stack-at t) eq-stack.Post eq-stack-Inv-loop eq-stack-μ-loop
 eq-stack-same-stack-requires t c κs = search needs
 
 eq-stack-returns : (t : ℕ) → eq-stack-lts.Need-returns (eq-stack-claims t) (eq-stack-at t) eq-stack.Post eq-stack-Inv-loop eq-stack-μ-loop
 eq-stack-returns t c =
-    let s : eq-stack-lts.Start (eq-stack-claims t) (eq-stack-at t) eq-stack.Post eq-stack-Inv-loop eq-stack-μ-loop = search in
-    ((c .before .same-stack) .ensures) ((c .if1) .taken) _
+    let s : S-Start t = search in
+    c .before .same-stack .ensures (c .if1 .taken) _
 
-eq-stack-slice-write-left : (t : ℕ) → eq-stack-lts.Need-slice-write-left (eq-stack-claims t) (eq-stack-at t) eq-stack.Post eq-stack-Inv-loop eq-stack-μ-loop
-eq-stack-slice-write-left t c = search needs
+eq-stack-store-requires : (t : ℕ) → eq-stack-lts.Need-store-requires (eq-stack-claims t) (eq-stack-at t) eq-stack.Post eq-stack-Inv-loop eq-stack-μ-loop
+eq-stack-store-requires t c κs =
+    let s : S-Start t = search in
+    let s0 = s .pre .1 .3 .0 in
+    let f = few-left (tab (s .args .rows .now) (s .args .parts .now)) (s .args .args .now) (s .pre .1 .0) in
+    (omega arith, omega arith)
 
-eq-stack-slice-write-right : (t : ℕ) → eq-stack-lts.Need-slice-write-right (eq-stack-claims t) (eq-stack-at t) eq-stack.Post eq-stack-Inv-loop eq-stack-μ-loop
-eq-stack-slice-write-right t c = search needs
+eq-stack-store-requires-2 : (t : ℕ) → eq-stack-lts.Need-store-requires-2 (eq-stack-claims t) (eq-stack-at t) eq-stack.Post eq-stack-Inv-loop eq-stack-μ-loop
+eq-stack-store-requires-2 t c κs =
+    let s : S-Start t = search in
+    let a : S-Store t = search in
+    let k = a .store .kept .0 in
+    let s0 = s .pre .1 .3 .0 in
+    let f = few-right (tab (s .args .rows .now) (s .args .parts .now)) (s .args .args .now) (s .pre .1 .0) in
+    (omega arith, omega arith)
 
 eq-stack-loop-holds : (t : ℕ) → eq-stack-lts.Need-loop-holds (eq-stack-claims t) (eq-stack-at t) eq-stack.Post eq-stack-Inv-loop eq-stack-μ-loop
 eq-stack-loop-holds t c =
-    let s : eq-stack-lts.Start (eq-stack-claims t) (eq-stack-at t) eq-stack.Post eq-stack-Inv-loop eq-stack-μ-loop = search in
-    let s0 = (s .pre) .1 .3 .0 in
-    let s1 = (s .pre) .1 .3 .1 in
-    let s2 = (s .pre) .1 .3 .2 in
-    let s3 = (s .pre) .1 .3 .3 in
-    (match-first (tab ((s .args) .rows .now) ((s .args) .parts .now)) (argsOf (tab ((s .args) .rows .now) ((s .args) .parts .now)) ((s .args) .args .now) ((s .args) .m)) ((s .args) .m) ((s .args) .by) ((s .args) .d) ((s .args) .l) ((s .args) .by2) ((s .args) .d2) ((s .args) .r) ((s .args) .left .now) ((s .args) .right .now) (few-left (tab ((s .args) .rows .now) ((s .args) .parts .now)) ((s .args) .args .now) ((s .pre) .1 .0)) (few-right (tab ((s .args) .rows .now) ((s .args) .parts .now)) ((s .args) .args .now) ((s .pre) .1 .0)) (omega arith) (omega arith), refl, refl)
+    let s : S-Start t = search in
+    let a : S-Store t = search in
+    let b : S-Store2 t = search in
+    let s0 = s .pre .1 .3 .0 in
+    (match-stored (tab (s .args .rows .now) (s .args .parts .now)) (argsOf (tab (s .args .rows .now) (s .args .parts .now)) (s .args .args .now) (s .args .k .m)) (s .args .k .m) (s .args .k .by) (s .args .k .d) (s .args .l) (s .args .k .by2) (s .args .k .d2) (s .args .r) (s .args .pending .now) (a .store .last .0) (b .store2 .last .0) (few-left (tab (s .args .rows .now) (s .args .parts .now)) (s .args .args .now) (s .pre .1 .0)) (few-right (tab (s .args .rows .now) (s .args .parts .now)) (s .args .args .now) (s .pre .1 .0)) (omega arith) (a .store .ensures .0) (a .store .ensures .1) (b .store2 .ensures .0) (b .store2 .ensures .1), refl)
 
 eq-stack-next-pair-requires : (t : ℕ) → eq-stack-lts.Need-next-pair-requires (eq-stack-claims t) (eq-stack-at t) eq-stack.Post eq-stack-Inv-loop eq-stack-μ-loop
 eq-stack-next-pair-requires t c κs =
-    let s : eq-stack-lts.Start (eq-stack-claims t) (eq-stack-at t) eq-stack.Post eq-stack-Inv-loop eq-stack-μ-loop = search in
-    let loop2 : eq-stack-lts.At-loop (eq-stack-claims t) (eq-stack-at t) eq-stack.Post eq-stack-Inv-loop eq-stack-μ-loop = search in
-    let s0 = (s .pre) .1 .3 .0 in
-    let s1 = (s .pre) .1 .3 .1 in
-    let s2 = (s .pre) .1 .3 .2 in
-    let s3 = (s .pre) .1 .3 .3 in
-    let i1 = (loop2 .loop) .inv .1 ∙ length-set ((s .args) .left .now) 0 ((s .args) .l) in
-    let i2 = (loop2 .loop) .inv .2 ∙ length-set ((s .args) .right .now) 0 ((s .args) .r) in
-    let rl = (s .pre) .1 .1 in
-    let rr = (s .pre) .1 .2 in
-    let t0 = (s .pre) .0 in
-    ((omega arith, omega arith, few-args (tab ((s .args) .rows .now) ((s .args) .parts .now)) ((s .args) .args .now) ((s .pre) .1 .0)), ((omega arith, omega arith, pends-more ((s .args) .m) ((s .args) .l) _ ((loop2 .loop) .i) ((loop2 .loop) .left) (omega arith) ((loop2 .loop) .inv .0 .lefts)), (omega arith, omega arith, pends-more 0 ((s .args) .r) _ ((loop2 .loop) .j) ((loop2 .loop) .right) (omega arith) ((loop2 .loop) .inv .0 .rights))))
+    let l : S-Loop t = search in
+    let s = s-start t l in
+    let s0 = s .pre .1 .3 .0 in
+    let s1 = s .pre .1 .3 .1 in
+    let i1 = s-long t l in
+    let rl = s .pre .1 .1 in
+    let rr = s .pre .1 .2 in
+    (omega arith, omega arith, few-args (tab (s .args .rows .now) (s .args .parts .now)) (s .args .args .now) (s .pre .1 .0), omega arith, omega arith, pends-more (s .args .k .m) (s .args .l) _ (l .loop .i) (side false (l .loop .pending)) (omega arith) (l .loop .inv .0 .lefts), pends-more 0 (s .args .r) _ (l .loop .j) (side true (l .loop .pending)) (omega arith) (l .loop .inv .0 .rights))
 
 eq-stack-enum-told : (t : ℕ) → eq-stack-lts.Need-enum-told (eq-stack-claims t) (eq-stack-at t) eq-stack.Post eq-stack-Inv-loop eq-stack-μ-loop
 eq-stack-enum-told t c = search
 
 eq-stack-same-length : (t : ℕ) → eq-stack-lts.Need-same-length (eq-stack-claims t) (eq-stack-at t) eq-stack.Post eq-stack-Inv-loop eq-stack-μ-loop
 eq-stack-same-length t c =
-    let s : eq-stack-lts.Start (eq-stack-claims t) (eq-stack-at t) eq-stack.Post eq-stack-Inv-loop eq-stack-μ-loop = search in
-    let loop2 : eq-stack-lts.At-loop (eq-stack-claims t) (eq-stack-at t) eq-stack.Post eq-stack-Inv-loop eq-stack-μ-loop = search in
-    let next2 : eq-stack-lts.After-next-pair (eq-stack-claims t) (eq-stack-at t) eq-stack.Post eq-stack-Inv-loop eq-stack-μ-loop = search in
-    ((next2 .next-pair) .kept .1 .1 .1 .1 .1 .0) ∙ (loop2 .loop) .inv .1 ∙ length-set ((s .args) .left .now) 0 _
-
-eq-stack-same-length-2 : (t : ℕ) → eq-stack-lts.Need-same-length-2 (eq-stack-claims t) (eq-stack-at t) eq-stack.Post eq-stack-Inv-loop eq-stack-μ-loop
-eq-stack-same-length-2 t c =
-    let s : eq-stack-lts.Start (eq-stack-claims t) (eq-stack-at t) eq-stack.Post eq-stack-Inv-loop eq-stack-μ-loop = search in
-    let loop2 : eq-stack-lts.At-loop (eq-stack-claims t) (eq-stack-at t) eq-stack.Post eq-stack-Inv-loop eq-stack-μ-loop = search in
-    let next2 : eq-stack-lts.After-next-pair (eq-stack-claims t) (eq-stack-at t) eq-stack.Post eq-stack-Inv-loop eq-stack-μ-loop = search in
-    ((next2 .next-pair) .kept .1 .1 .1 .1 .1 .1 .1 .1 .1 .0) ∙ (loop2 .loop) .inv .2 ∙ length-set ((s .args) .right .now) 0 ((s .args) .r)
+    let p : S-Pair t = search in
+    s-longer t p
 
 eq-stack-returns-2 : (t : ℕ) → eq-stack-lts.Need-returns-2 (eq-stack-claims t) (eq-stack-at t) eq-stack.Post eq-stack-Inv-loop eq-stack-μ-loop
 eq-stack-returns-2 t c =
-    let s : eq-stack-lts.Start (eq-stack-claims t) (eq-stack-at t) eq-stack.Post eq-stack-Inv-loop eq-stack-μ-loop = search in
-    let loop2 : eq-stack-lts.At-loop (eq-stack-claims t) (eq-stack-at t) eq-stack.Post eq-stack-Inv-loop eq-stack-μ-loop = search in
-    let next2 : eq-stack-lts.After-next-pair (eq-stack-claims t) (eq-stack-at t) eq-stack.Post eq-stack-Inv-loop eq-stack-μ-loop = search in
-    match-over (tab _ _) (argsOf (tab _ _) _ _) _ _ _ _ _ _ _ ((loop2 .loop) .left) _ _ _ ((loop2 .loop) .inv .0) _ _ _ ((next2 .next-pair) .ensures _) ((c .enum-told) .given .1)
+    let p : S-Pair t = search in
+    let l = s-loop t p in
+    let s = s-start t l in
+    match-over (tab _ _) (argsOf (tab _ _) _ _) _ _ _ _ _ _ _ (side false (l .loop .pending)) _ (side true (l .loop .pending)) _ (l .loop .inv .0) (side false (p .next-pair .last .1 .1 .1 .0)) (side true (p .next-pair .last .1 .1 .1 .0)) _ (p .next-pair .ensures _) (c .enum-told .given .1)
 
 eq-stack-enum-told-2 : (t : ℕ) → eq-stack-lts.Need-enum-told-2 (eq-stack-claims t) (eq-stack-at t) eq-stack.Post eq-stack-Inv-loop eq-stack-μ-loop
 eq-stack-enum-told-2 t c = search
 
-eq-stack-same-length-3 : (t : ℕ) → eq-stack-lts.Need-same-length-3 (eq-stack-claims t) (eq-stack-at t) eq-stack.Post eq-stack-Inv-loop eq-stack-μ-loop
-eq-stack-same-length-3 t c =
-    let s : eq-stack-lts.Start (eq-stack-claims t) (eq-stack-at t) eq-stack.Post eq-stack-Inv-loop eq-stack-μ-loop = search in
-    let loop2 : eq-stack-lts.At-loop (eq-stack-claims t) (eq-stack-at t) eq-stack.Post eq-stack-Inv-loop eq-stack-μ-loop = search in
-    let next2 : eq-stack-lts.After-next-pair (eq-stack-claims t) (eq-stack-at t) eq-stack.Post eq-stack-Inv-loop eq-stack-μ-loop = search in
-    ((next2 .next-pair) .kept .1 .1 .1 .1 .1 .0) ∙ (loop2 .loop) .inv .1 ∙ length-set ((s .args) .left .now) 0 _
-
-eq-stack-same-length-4 : (t : ℕ) → eq-stack-lts.Need-same-length-4 (eq-stack-claims t) (eq-stack-at t) eq-stack.Post eq-stack-Inv-loop eq-stack-μ-loop
-eq-stack-same-length-4 t c =
-    let s : eq-stack-lts.Start (eq-stack-claims t) (eq-stack-at t) eq-stack.Post eq-stack-Inv-loop eq-stack-μ-loop = search in
-    let loop2 : eq-stack-lts.At-loop (eq-stack-claims t) (eq-stack-at t) eq-stack.Post eq-stack-Inv-loop eq-stack-μ-loop = search in
-    let next2 : eq-stack-lts.After-next-pair (eq-stack-claims t) (eq-stack-at t) eq-stack.Post eq-stack-Inv-loop eq-stack-μ-loop = search in
-    ((next2 .next-pair) .kept .1 .1 .1 .1 .1 .1 .1 .1 .1 .0) ∙ (loop2 .loop) .inv .2 ∙ length-set ((s .args) .right .now) 0 ((s .args) .r)
+eq-stack-same-length-2 : (t : ℕ) → eq-stack-lts.Need-same-length-2 (eq-stack-claims t) (eq-stack-at t) eq-stack.Post eq-stack-Inv-loop eq-stack-μ-loop
+eq-stack-same-length-2 t c =
+    let p : S-Pair t = search in
+    s-longer t p
 
 eq-stack-returns-3 : (t : ℕ) → eq-stack-lts.Need-returns-3 (eq-stack-claims t) (eq-stack-at t) eq-stack.Post eq-stack-Inv-loop eq-stack-μ-loop
 eq-stack-returns-3 t c =
-    let s : eq-stack-lts.Start (eq-stack-claims t) (eq-stack-at t) eq-stack.Post eq-stack-Inv-loop eq-stack-μ-loop = search in
-    let loop2 : eq-stack-lts.At-loop (eq-stack-claims t) (eq-stack-at t) eq-stack.Post eq-stack-Inv-loop eq-stack-μ-loop = search in
-    let next2 : eq-stack-lts.After-next-pair (eq-stack-claims t) (eq-stack-at t) eq-stack.Post eq-stack-Inv-loop eq-stack-μ-loop = search in
-    match-unlike (tab _ _) (argsOf (tab _ _) _ _) _ _ _ _ _ _ _ ((loop2 .loop) .left) _ _ _ ((loop2 .loop) .inv .0) _ _ _ ((next2 .next-pair) .ensures _) ((c .enum-told2) .given .1)
+    let p : S-Pair t = search in
+    let l = s-loop t p in
+    let s = s-start t l in
+    match-unlike (tab _ _) (argsOf (tab _ _) _ _) _ _ _ _ _ _ _ (side false (l .loop .pending)) _ (side true (l .loop .pending)) _ (l .loop .inv .0) (side false (p .next-pair .last .1 .1 .1 .0)) (side true (p .next-pair .last .1 .1 .1 .0)) _ (p .next-pair .ensures _) (c .enum-told2 .given .1)
 
 eq-stack-enum-known-s : (t : ℕ) → eq-stack-lts.Need-enum-known-s (eq-stack-claims t) (eq-stack-at t) eq-stack.Post eq-stack-Inv-loop eq-stack-μ-loop
 eq-stack-enum-known-s t c = search
 
 eq-stack-loop-less : (t : ℕ) → eq-stack-lts.Need-loop-less (eq-stack-claims t) (eq-stack-at t) eq-stack.Post eq-stack-Inv-loop eq-stack-μ-loop
 eq-stack-loop-less t c =
-    let s2 : eq-stack-lts.Start (eq-stack-claims t) (eq-stack-at t) eq-stack.Post eq-stack-Inv-loop eq-stack-μ-loop = search in
-    let loop2 : eq-stack-lts.At-loop (eq-stack-claims t) (eq-stack-at t) eq-stack.Post eq-stack-Inv-loop eq-stack-μ-loop = search in
-    let next2 : eq-stack-lts.After-next-pair (eq-stack-claims t) (eq-stack-at t) eq-stack.Post eq-stack-Inv-loop eq-stack-μ-loop = search in
-    (match-onward (tab _ _) (argsOf (tab _ _) _ _) _ _ _ _ _ _ _ ((loop2 .loop) .left) _ _ _ ((loop2 .loop) .inv .0) _ _ _ ((c .before .s) .given .0 .0) ((c .before .s) .given .0 .1 .0) ((next2 .next-pair) .ensures _) ((c .before .s) .given .1)) .1
+    let o : eq-stack-lts.After-s (eq-stack-claims t) (eq-stack-at t) eq-stack.Post eq-stack-Inv-loop eq-stack-μ-loop = search in
+    let p : S-Pair t = search in
+    let l = s-loop t p in
+    let s = s-start t l in
+    (match-onward (tab (s .args .rows .now) (s .args .parts .now)) (argsOf (tab (s .args .rows .now) (s .args .parts .now)) (s .args .args .now) (s .args .k .m)) (s .args .k .m) (s .args .k .by) (s .args .k .d) (s .args .l) (s .args .k .by2) (s .args .k .d2) (s .args .r) (side false (l .loop .pending)) (l .loop .i) (side true (l .loop .pending)) (l .loop .j) (l .loop .inv .0) (side false (p .next-pair .last .1 .1 .1 .0)) (side true (p .next-pair .last .1 .1 .1 .0)) (p .next-pair .result) (o .s .given .0 .0) (o .s .given .0 .1 .0) (p .next-pair .ensures (s .args .parts .now)) (o .s .given .1)) .1
 
 eq-stack-loop-again : (t : ℕ) → eq-stack-lts.Need-loop-again (eq-stack-claims t) (eq-stack-at t) eq-stack.Post eq-stack-Inv-loop eq-stack-μ-loop
 eq-stack-loop-again t c =
-    let s2 : eq-stack-lts.Start (eq-stack-claims t) (eq-stack-at t) eq-stack.Post eq-stack-Inv-loop eq-stack-μ-loop = search in
-    let loop2 : eq-stack-lts.At-loop (eq-stack-claims t) (eq-stack-at t) eq-stack.Post eq-stack-Inv-loop eq-stack-μ-loop = search in
-    let next2 : eq-stack-lts.After-next-pair (eq-stack-claims t) (eq-stack-at t) eq-stack.Post eq-stack-Inv-loop eq-stack-μ-loop = search in
-    ((match-onward (tab _ _) (argsOf (tab _ _) _ _) _ _ _ _ _ _ _ ((loop2 .loop) .left) _ _ _ ((loop2 .loop) .inv .0) _ _ _ ((c .before .s) .given .0 .0) ((c .before .s) .given .0 .1 .0) ((next2 .next-pair) .ensures _) ((c .before .s) .given .1)) .0, ((next2 .next-pair) .kept .1 .1 .1 .1 .1 .0) ∙ (loop2 .loop) .inv .1, ((next2 .next-pair) .kept .1 .1 .1 .1 .1 .1 .1 .1 .1 .0) ∙ (loop2 .loop) .inv .2)
+    let o : eq-stack-lts.After-s (eq-stack-claims t) (eq-stack-at t) eq-stack.Post eq-stack-Inv-loop eq-stack-μ-loop = search in
+    let p : S-Pair t = search in
+    let l = s-loop t p in
+    let s = s-start t l in
+    ((match-onward (tab (s .args .rows .now) (s .args .parts .now)) (argsOf (tab (s .args .rows .now) (s .args .parts .now)) (s .args .args .now) (s .args .k .m)) (s .args .k .m) (s .args .k .by) (s .args .k .d) (s .args .l) (s .args .k .by2) (s .args .k .d2) (s .args .r) (side false (l .loop .pending)) (l .loop .i) (side true (l .loop .pending)) (l .loop .j) (l .loop .inv .0) (side false (p .next-pair .last .1 .1 .1 .0)) (side true (p .next-pair .last .1 .1 .1 .0)) (p .next-pair .result) (o .s .given .0 .0) (o .s .given .0 .1 .0) (p .next-pair .ensures (s .args .parts .now)) (o .s .given .1)) .0, p .next-pair .kept .1 .1 .1 .0 ∙ l .loop .inv .1)
 
 eq-stack-enum-known-s-2 : (t : ℕ) → eq-stack-lts.Need-enum-known-s-2 (eq-stack-claims t) (eq-stack-at t) eq-stack.Post eq-stack-Inv-loop eq-stack-μ-loop
 eq-stack-enum-known-s-2 t c = search
 
+eq-stack-greater-requires : (t : ℕ) → eq-stack-lts.Need-greater-requires (eq-stack-claims t) (eq-stack-at t) eq-stack.Post eq-stack-Inv-loop eq-stack-μ-loop
+eq-stack-greater-requires t c κs = search
+
 eq-stack-mul-eq-value : (t : ℕ) → eq-stack-lts.Need-mul-eq-value (eq-stack-claims t) (eq-stack-at t) eq-stack.Post eq-stack-Inv-loop eq-stack-μ-loop
 eq-stack-mul-eq-value t c =
-    let s : eq-stack-lts.Start (eq-stack-claims t) (eq-stack-at t) eq-stack.Post eq-stack-Inv-loop eq-stack-μ-loop = search in
-    let loop2 : eq-stack-lts.At-loop (eq-stack-claims t) (eq-stack-at t) eq-stack.Post eq-stack-Inv-loop eq-stack-μ-loop = search in
-    let next2 : eq-stack-lts.After-next-pair (eq-stack-claims t) (eq-stack-at t) eq-stack.Post eq-stack-Inv-loop eq-stack-μ-loop = search in
-    let w = own-room ((s .args) .m) (own-low (tab ((s .args) .rows .now) ((s .args) .parts .now)) (argsOf (tab ((s .args) .rows .now) ((s .args) .parts .now)) ((s .args) .args .now) ((s .args) .m)) ((s .args) .m) ((s .args) .by) ((s .args) .d) ((s .args) .l) ((s .args) .by2) ((s .args) .d2) ((s .args) .r) ((loop2 .loop) .left) ((loop2 .loop) .i) ((loop2 .loop) .right) ((loop2 .loop) .j) ((loop2 .loop) .inv .0) ((next2 .next-pair) .last .1 .1 .1 .1 .1 .0) ((next2 .next-pair) .last .1 .1 .1 .1 .1 .1 .1 .1 .1 .0) ((next2 .next-pair) .result) ((c .before .s2) .given .0 .0) ((c .before .s2) .given .0 .1 .0) ((c .before .s2) .given .0 .1 .1 .0) ((c .before .s2) .given .0 .1 .1 .1 .0) ((next2 .next-pair) .ensures ((s .args) .parts .now)) ((c .before .s2) .given .1)) ((s .pre) .1 .3) (((next2 .next-pair) .kept .1 .1 .1 .1 .1 .0) ∙ (loop2 .loop) .inv .1 ∙ length-set ((s .args) .left .now) 0 ((s .args) .l)) (((next2 .next-pair) .kept .1 .1 .1 .1 .1 .1 .1 .1 .1 .0) ∙ (loop2 .loop) .inv .2 ∙ length-set ((s .args) .right .now) 0 ((s .args) .r)) in
+    let g : S-Great t = search in
+    let w = own-ends t g in
     let w0 = w .0 in
     let w1 = w .1 in
-    let w2 = w .2 in
-    let w3 = w .3 in
     record { fits = omega arith }
 
 eq-stack-sub-eq-value : (t : ℕ) → eq-stack-lts.Need-sub-eq-value (eq-stack-claims t) (eq-stack-at t) eq-stack.Post eq-stack-Inv-loop eq-stack-μ-loop
 eq-stack-sub-eq-value t c =
-    let s : eq-stack-lts.Start (eq-stack-claims t) (eq-stack-at t) eq-stack.Post eq-stack-Inv-loop eq-stack-μ-loop = search in
-    let loop2 : eq-stack-lts.At-loop (eq-stack-claims t) (eq-stack-at t) eq-stack.Post eq-stack-Inv-loop eq-stack-μ-loop = search in
-    let next2 : eq-stack-lts.After-next-pair (eq-stack-claims t) (eq-stack-at t) eq-stack.Post eq-stack-Inv-loop eq-stack-μ-loop = search in
-    let w = own-room ((s .args) .m) (own-low (tab ((s .args) .rows .now) ((s .args) .parts .now)) (argsOf (tab ((s .args) .rows .now) ((s .args) .parts .now)) ((s .args) .args .now) ((s .args) .m)) ((s .args) .m) ((s .args) .by) ((s .args) .d) ((s .args) .l) ((s .args) .by2) ((s .args) .d2) ((s .args) .r) ((loop2 .loop) .left) ((loop2 .loop) .i) ((loop2 .loop) .right) ((loop2 .loop) .j) ((loop2 .loop) .inv .0) ((next2 .next-pair) .last .1 .1 .1 .1 .1 .0) ((next2 .next-pair) .last .1 .1 .1 .1 .1 .1 .1 .1 .1 .0) ((next2 .next-pair) .result) ((c .before .s2) .given .0 .0) ((c .before .s2) .given .0 .1 .0) ((c .before .s2) .given .0 .1 .1 .0) ((c .before .s2) .given .0 .1 .1 .1 .0) ((next2 .next-pair) .ensures ((s .args) .parts .now)) ((c .before .s2) .given .1)) ((s .pre) .1 .3) (((next2 .next-pair) .kept .1 .1 .1 .1 .1 .0) ∙ (loop2 .loop) .inv .1 ∙ length-set ((s .args) .left .now) 0 ((s .args) .l)) (((next2 .next-pair) .kept .1 .1 .1 .1 .1 .1 .1 .1 .1 .0) ∙ (loop2 .loop) .inv .2 ∙ length-set ((s .args) .right .now) 0 ((s .args) .r)) in
+    let g : S-Great t = search in
+    let w = own-ends t g in
     let w0 = w .0 in
     let w1 = w .1 in
-    let w2 = w .2 in
-    let w3 = w .3 in
     omega arith
 
 eq-stack-part-eq-value-start : (t : ℕ) → eq-stack-lts.Need-part-eq-value-start (eq-stack-claims t) (eq-stack-at t) eq-stack.Post eq-stack-Inv-loop eq-stack-μ-loop
 eq-stack-part-eq-value-start t c =
-    let s : eq-stack-lts.Start (eq-stack-claims t) (eq-stack-at t) eq-stack.Post eq-stack-Inv-loop eq-stack-μ-loop = search in
-    let loop2 : eq-stack-lts.At-loop (eq-stack-claims t) (eq-stack-at t) eq-stack.Post eq-stack-Inv-loop eq-stack-μ-loop = search in
-    let next2 : eq-stack-lts.After-next-pair (eq-stack-claims t) (eq-stack-at t) eq-stack.Post eq-stack-Inv-loop eq-stack-μ-loop = search in
-    let w = own-room ((s .args) .m) (own-low (tab ((s .args) .rows .now) ((s .args) .parts .now)) (argsOf (tab ((s .args) .rows .now) ((s .args) .parts .now)) ((s .args) .args .now) ((s .args) .m)) ((s .args) .m) ((s .args) .by) ((s .args) .d) ((s .args) .l) ((s .args) .by2) ((s .args) .d2) ((s .args) .r) ((loop2 .loop) .left) ((loop2 .loop) .i) ((loop2 .loop) .right) ((loop2 .loop) .j) ((loop2 .loop) .inv .0) ((next2 .next-pair) .last .1 .1 .1 .1 .1 .0) ((next2 .next-pair) .last .1 .1 .1 .1 .1 .1 .1 .1 .1 .0) ((next2 .next-pair) .result) ((c .before .s2) .given .0 .0) ((c .before .s2) .given .0 .1 .0) ((c .before .s2) .given .0 .1 .1 .0) ((c .before .s2) .given .0 .1 .1 .1 .0) ((next2 .next-pair) .ensures ((s .args) .parts .now)) ((c .before .s2) .given .1)) ((s .pre) .1 .3) (((next2 .next-pair) .kept .1 .1 .1 .1 .1 .0) ∙ (loop2 .loop) .inv .1 ∙ length-set ((s .args) .left .now) 0 ((s .args) .l)) (((next2 .next-pair) .kept .1 .1 .1 .1 .1 .1 .1 .1 .1 .0) ∙ (loop2 .loop) .inv .2 ∙ length-set ((s .args) .right .now) 0 ((s .args) .r)) in
+    let g : S-Great t = search in
+    let w = own-ends t g in
     let w0 = w .0 in
     let w1 = w .1 in
-    let w2 = w .2 in
-    let w3 = w .3 in
     omega arith
 
 eq-stack-part-eq-value-end : (t : ℕ) → eq-stack-lts.Need-part-eq-value-end (eq-stack-claims t) (eq-stack-at t) eq-stack.Post eq-stack-Inv-loop eq-stack-μ-loop
 eq-stack-part-eq-value-end t c = search needs
 
-eq-stack-mul-eq-value-2 : (t : ℕ) → eq-stack-lts.Need-mul-eq-value-2 (eq-stack-claims t) (eq-stack-at t) eq-stack.Post eq-stack-Inv-loop eq-stack-μ-loop
-eq-stack-mul-eq-value-2 t c =
-    let s : eq-stack-lts.Start (eq-stack-claims t) (eq-stack-at t) eq-stack.Post eq-stack-Inv-loop eq-stack-μ-loop = search in
-    let loop2 : eq-stack-lts.At-loop (eq-stack-claims t) (eq-stack-at t) eq-stack.Post eq-stack-Inv-loop eq-stack-μ-loop = search in
-    let next2 : eq-stack-lts.After-next-pair (eq-stack-claims t) (eq-stack-at t) eq-stack.Post eq-stack-Inv-loop eq-stack-μ-loop = search in
-    let s3 : eq-stack-lts.After-s2 (eq-stack-claims t) (eq-stack-at t) eq-stack.Post eq-stack-Inv-loop eq-stack-μ-loop = search in
-    let w = own-room ((s .args) .m) (own-low (tab ((s .args) .rows .now) ((s .args) .parts .now)) (argsOf (tab ((s .args) .rows .now) ((s .args) .parts .now)) ((s .args) .args .now) ((s .args) .m)) ((s .args) .m) ((s .args) .by) ((s .args) .d) ((s .args) .l) ((s .args) .by2) ((s .args) .d2) ((s .args) .r) ((loop2 .loop) .left) ((loop2 .loop) .i) ((loop2 .loop) .right) ((loop2 .loop) .j) ((loop2 .loop) .inv .0) ((next2 .next-pair) .last .1 .1 .1 .1 .1 .0) ((next2 .next-pair) .last .1 .1 .1 .1 .1 .1 .1 .1 .1 .0) ((next2 .next-pair) .result) ((s3 .s2) .given .0 .0) ((s3 .s2) .given .0 .1 .0) ((s3 .s2) .given .0 .1 .1 .0) ((s3 .s2) .given .0 .1 .1 .1 .0) ((next2 .next-pair) .ensures ((s .args) .parts .now)) ((s3 .s2) .given .1)) ((s .pre) .1 .3) (((next2 .next-pair) .kept .1 .1 .1 .1 .1 .0) ∙ (loop2 .loop) .inv .1 ∙ length-set ((s .args) .left .now) 0 ((s .args) .l)) (((next2 .next-pair) .kept .1 .1 .1 .1 .1 .1 .1 .1 .1 .0) ∙ (loop2 .loop) .inv .2 ∙ length-set ((s .args) .right .now) 0 ((s .args) .r)) in
+eq-stack-eq-value-requires : (t : ℕ) → eq-stack-lts.Need-eq-value-requires (eq-stack-claims t) (eq-stack-at t) eq-stack.Post eq-stack-Inv-loop eq-stack-μ-loop
+eq-stack-eq-value-requires t c κs =
+    let g : S-Great t = search in
+    let o = s-own t g in
+    let p = s-own-pair t o in
+    let l = s-loop t p in
+    let s = s-start t l in
+    let w = own-reach t o in
     let w0 = w .0 in
     let w1 = w .1 in
-    let w2 = w .2 in
-    let w3 = w .3 in
+    let rl = s .pre .1 .1 in
+    let rr = s .pre .1 .2 in
+    let t0 = s .pre .0 in
+    (omega arith, (tabled-low (tab (s .args .rows .now) (s .args .parts .now)) (s .args .args .now) (o .s2 .given .0 .0) (o .s2 .given .0 .1 .1 .0) (s .pre .1 .0) (omega arith) (omega arith), omega arith, omega arith, spare-own (s .args .k .m) (s .args .l) (s .args .r) _ (o .s2 .given .0 .1 .0) (o .s2 .given .0 .0) (o .s2 .given .0 .1 .1 .1 .0) (o .s2 .given .0 .1 .1 .0) (g .greater .result) (g .greater .ensures) (s-spare t p) _ w (length-part (g .greater .result) (p .next-pair .last .1 .1 .1 .0))))
+
+eq-stack-same-length-3 : (t : ℕ) → eq-stack-lts.Need-same-length-3 (eq-stack-claims t) (eq-stack-at t) eq-stack.Post eq-stack-Inv-loop eq-stack-μ-loop
+eq-stack-same-length-3 t c =
+    let v : S-Value t = search in
+    let i : eq-stack-lts.Then2 (eq-stack-claims t) (eq-stack-at t) eq-stack.Post eq-stack-Inv-loop eq-stack-μ-loop = search in
+    let g = s-great t v in
+    let o = s-own t g in
+    let p = s-own-pair t o in
+    let l = s-loop t p in
+    let s = s-start t l in
+    let w = own-ends t g in
+    let w0 = w .0 in
+    same-len-mid (g .greater .result) (length (p .next-pair .last .1 .1 .1 .0) - (g .greater .result)) (p .next-pair .last .1 .1 .1 .0) (v .eq-value .last .1 .1 .1 .1 .1 .1 .0) (v .eq-value .kept .1 .1 .1 .1 .1 .1 .0) ∙ s-longer t p
+
+eq-stack-returns-4 : (t : ℕ) → eq-stack-lts.Need-returns-4 (eq-stack-claims t) (eq-stack-at t) eq-stack.Post eq-stack-Inv-loop eq-stack-μ-loop
+eq-stack-returns-4 t c =
+    let v : S-Value t = search in
+    let i : eq-stack-lts.Then2 (eq-stack-claims t) (eq-stack-at t) eq-stack.Post eq-stack-Inv-loop eq-stack-μ-loop = search in
+    let g = s-great t v in
+    let o = s-own t g in
+    let p = s-own-pair t o in
+    let l = s-loop t p in
+    let s = s-start t l in
+    let w = own-ends t g in
+    let w0 = w .0 in
+    own-not (tab _ _) (argsOf (tab _ _) _ _) _ _ _ _ _ _ _ (side false (l .loop .pending)) _ (side true (l .loop .pending)) _ (l .loop .inv .0) (side false (p .next-pair .last .1 .1 .1 .0)) (side true (p .next-pair .last .1 .1 .1 .0)) _ (o .s2 .given .0 .0) (o .s2 .given .0 .1 .0) (o .s2 .given .0 .1 .1 .0) (o .s2 .given .0 .1 .1 .1 .0) (p .next-pair .ensures _) (o .s2 .given .1) (v .eq-value .ensures) (not-false (i .if2 .taken))
+
+eq-stack-loop-less-2 : (t : ℕ) → eq-stack-lts.Need-loop-less-2 (eq-stack-claims t) (eq-stack-at t) eq-stack.Post eq-stack-Inv-loop eq-stack-μ-loop
+eq-stack-loop-less-2 t c =
+    let v : S-Value t = search in
+    let i : eq-stack-lts.Else2 (eq-stack-claims t) (eq-stack-at t) eq-stack.Post eq-stack-Inv-loop eq-stack-μ-loop = search in
+    let g = s-great t v in
+    let o = s-own t g in
+    let p = s-own-pair t o in
+    let l = s-loop t p in
+    let s = s-start t l in
+    let w = own-ends t g in
+    let w0 = w .0 in
+    (match-own (tab (s .args .rows .now) (s .args .parts .now)) (argsOf (tab (s .args .rows .now) (s .args .parts .now)) (s .args .args .now) (s .args .k .m)) (s .args .k .m) (s .args .k .by) (s .args .k .d) (s .args .l) (s .args .k .by2) (s .args .k .d2) (s .args .r) (side false (l .loop .pending)) (l .loop .i) (side true (l .loop .pending)) (l .loop .j) (l .loop .inv .0) (side false (p .next-pair .last .1 .1 .1 .0)) (side true (p .next-pair .last .1 .1 .1 .0)) (side false (putMid (g .greater .result) (length (p .next-pair .last .1 .1 .1 .0) - (g .greater .result)) (p .next-pair .last .1 .1 .1 .0) (v .eq-value .last .1 .1 .1 .1 .1 .1 .0))) (side true (putMid (g .greater .result) (length (p .next-pair .last .1 .1 .1 .0) - (g .greater .result)) (p .next-pair .last .1 .1 .1 .0) (v .eq-value .last .1 .1 .1 .1 .1 .1 .0))) (p .next-pair .result) (o .s2 .given .0 .0) (o .s2 .given .0 .1 .0) (o .s2 .given .0 .1 .1 .0) (o .s2 .given .0 .1 .1 .1 .0) (agree-back false (o .s2 .given .0 .1 .0) (g .greater .result) (length (p .next-pair .last .1 .1 .1 .0) - (g .greater .result)) (p .next-pair .last .1 .1 .1 .0) (v .eq-value .last .1 .1 .1 .1 .1 .1 .0) (g .greater .ensures .0) (omega arith)) (agree-back true (o .s2 .given .0 .1 .1 .1 .0) (g .greater .result) (length (p .next-pair .last .1 .1 .1 .0) - (g .greater .result)) (p .next-pair .last .1 .1 .1 .0) (v .eq-value .last .1 .1 .1 .1 .1 .1 .0) (g .greater .ensures .1) (omega arith)) (p .next-pair .ensures (s .args .parts .now)) (o .s2 .given .1) (v .eq-value .ensures) (not-true (i .if2 .left))) .1
+
+eq-stack-loop-again-2 : (t : ℕ) → eq-stack-lts.Need-loop-again-2 (eq-stack-claims t) (eq-stack-at t) eq-stack.Post eq-stack-Inv-loop eq-stack-μ-loop
+eq-stack-loop-again-2 t c =
+    let v : S-Value t = search in
+    let i : eq-stack-lts.Else2 (eq-stack-claims t) (eq-stack-at t) eq-stack.Post eq-stack-Inv-loop eq-stack-μ-loop = search in
+    let g = s-great t v in
+    let o = s-own t g in
+    let p = s-own-pair t o in
+    let l = s-loop t p in
+    let s = s-start t l in
+    let w = own-ends t g in
+    let w0 = w .0 in
+    ((match-own (tab (s .args .rows .now) (s .args .parts .now)) (argsOf (tab (s .args .rows .now) (s .args .parts .now)) (s .args .args .now) (s .args .k .m)) (s .args .k .m) (s .args .k .by) (s .args .k .d) (s .args .l) (s .args .k .by2) (s .args .k .d2) (s .args .r) (side false (l .loop .pending)) (l .loop .i) (side true (l .loop .pending)) (l .loop .j) (l .loop .inv .0) (side false (p .next-pair .last .1 .1 .1 .0)) (side true (p .next-pair .last .1 .1 .1 .0)) (side false (putMid (g .greater .result) (length (p .next-pair .last .1 .1 .1 .0) - (g .greater .result)) (p .next-pair .last .1 .1 .1 .0) (v .eq-value .last .1 .1 .1 .1 .1 .1 .0))) (side true (putMid (g .greater .result) (length (p .next-pair .last .1 .1 .1 .0) - (g .greater .result)) (p .next-pair .last .1 .1 .1 .0) (v .eq-value .last .1 .1 .1 .1 .1 .1 .0))) (p .next-pair .result) (o .s2 .given .0 .0) (o .s2 .given .0 .1 .0) (o .s2 .given .0 .1 .1 .0) (o .s2 .given .0 .1 .1 .1 .0) (agree-back false (o .s2 .given .0 .1 .0) (g .greater .result) (length (p .next-pair .last .1 .1 .1 .0) - (g .greater .result)) (p .next-pair .last .1 .1 .1 .0) (v .eq-value .last .1 .1 .1 .1 .1 .1 .0) (g .greater .ensures .0) (omega arith)) (agree-back true (o .s2 .given .0 .1 .1 .1 .0) (g .greater .result) (length (p .next-pair .last .1 .1 .1 .0) - (g .greater .result)) (p .next-pair .last .1 .1 .1 .0) (v .eq-value .last .1 .1 .1 .1 .1 .1 .0) (g .greater .ensures .1) (omega arith)) (p .next-pair .ensures (s .args .parts .now)) (o .s2 .given .1) (v .eq-value .ensures) (not-true (i .if2 .left))) .0, same-len-mid (g .greater .result) (length (p .next-pair .last .1 .1 .1 .0) - (g .greater .result)) (p .next-pair .last .1 .1 .1 .0) (v .eq-value .last .1 .1 .1 .1 .1 .1 .0) (v .eq-value .kept .1 .1 .1 .1 .1 .1 .0) ∙ p .next-pair .kept .1 .1 .1 .0 ∙ l .loop .inv .1)
+
+eq-stack-enum-known-s-3 : (t : ℕ) → eq-stack-lts.Need-enum-known-s-3 (eq-stack-claims t) (eq-stack-at t) eq-stack.Post eq-stack-Inv-loop eq-stack-μ-loop
+eq-stack-enum-known-s-3 t c = search
+
+eq-stack-greater-requires-2 : (t : ℕ) → eq-stack-lts.Need-greater-requires-2 (eq-stack-claims t) (eq-stack-at t) eq-stack.Post eq-stack-Inv-loop eq-stack-μ-loop
+eq-stack-greater-requires-2 t c κs = search
+
+eq-stack-mul-eq-value-2 : (t : ℕ) → eq-stack-lts.Need-mul-eq-value-2 (eq-stack-claims t) (eq-stack-at t) eq-stack.Post eq-stack-Inv-loop eq-stack-μ-loop
+eq-stack-mul-eq-value-2 t c =
+    let g : S-Great2 t = search in
+    let w = given-ends t g in
+    let w0 = w .0 in
+    let w1 = w .1 in
     record { fits = omega arith }
 
 eq-stack-sub-eq-value-2 : (t : ℕ) → eq-stack-lts.Need-sub-eq-value-2 (eq-stack-claims t) (eq-stack-at t) eq-stack.Post eq-stack-Inv-loop eq-stack-μ-loop
 eq-stack-sub-eq-value-2 t c =
-    let s : eq-stack-lts.Start (eq-stack-claims t) (eq-stack-at t) eq-stack.Post eq-stack-Inv-loop eq-stack-μ-loop = search in
-    let loop2 : eq-stack-lts.At-loop (eq-stack-claims t) (eq-stack-at t) eq-stack.Post eq-stack-Inv-loop eq-stack-μ-loop = search in
-    let next2 : eq-stack-lts.After-next-pair (eq-stack-claims t) (eq-stack-at t) eq-stack.Post eq-stack-Inv-loop eq-stack-μ-loop = search in
-    let s3 : eq-stack-lts.After-s2 (eq-stack-claims t) (eq-stack-at t) eq-stack.Post eq-stack-Inv-loop eq-stack-μ-loop = search in
-    let w = own-room ((s .args) .m) (own-low (tab ((s .args) .rows .now) ((s .args) .parts .now)) (argsOf (tab ((s .args) .rows .now) ((s .args) .parts .now)) ((s .args) .args .now) ((s .args) .m)) ((s .args) .m) ((s .args) .by) ((s .args) .d) ((s .args) .l) ((s .args) .by2) ((s .args) .d2) ((s .args) .r) ((loop2 .loop) .left) ((loop2 .loop) .i) ((loop2 .loop) .right) ((loop2 .loop) .j) ((loop2 .loop) .inv .0) ((next2 .next-pair) .last .1 .1 .1 .1 .1 .0) ((next2 .next-pair) .last .1 .1 .1 .1 .1 .1 .1 .1 .1 .0) ((next2 .next-pair) .result) ((s3 .s2) .given .0 .0) ((s3 .s2) .given .0 .1 .0) ((s3 .s2) .given .0 .1 .1 .0) ((s3 .s2) .given .0 .1 .1 .1 .0) ((next2 .next-pair) .ensures ((s .args) .parts .now)) ((s3 .s2) .given .1)) ((s .pre) .1 .3) (((next2 .next-pair) .kept .1 .1 .1 .1 .1 .0) ∙ (loop2 .loop) .inv .1 ∙ length-set ((s .args) .left .now) 0 ((s .args) .l)) (((next2 .next-pair) .kept .1 .1 .1 .1 .1 .1 .1 .1 .1 .0) ∙ (loop2 .loop) .inv .2 ∙ length-set ((s .args) .right .now) 0 ((s .args) .r)) in
+    let g : S-Great2 t = search in
+    let w = given-ends t g in
     let w0 = w .0 in
     let w1 = w .1 in
-    let w2 = w .2 in
-    let w3 = w .3 in
     omega arith
 
 eq-stack-part-eq-value-start-2 : (t : ℕ) → eq-stack-lts.Need-part-eq-value-start-2 (eq-stack-claims t) (eq-stack-at t) eq-stack.Post eq-stack-Inv-loop eq-stack-μ-loop
 eq-stack-part-eq-value-start-2 t c =
-    let s : eq-stack-lts.Start (eq-stack-claims t) (eq-stack-at t) eq-stack.Post eq-stack-Inv-loop eq-stack-μ-loop = search in
-    let loop2 : eq-stack-lts.At-loop (eq-stack-claims t) (eq-stack-at t) eq-stack.Post eq-stack-Inv-loop eq-stack-μ-loop = search in
-    let next2 : eq-stack-lts.After-next-pair (eq-stack-claims t) (eq-stack-at t) eq-stack.Post eq-stack-Inv-loop eq-stack-μ-loop = search in
-    let s3 : eq-stack-lts.After-s2 (eq-stack-claims t) (eq-stack-at t) eq-stack.Post eq-stack-Inv-loop eq-stack-μ-loop = search in
-    let w = own-room ((s .args) .m) (own-low (tab ((s .args) .rows .now) ((s .args) .parts .now)) (argsOf (tab ((s .args) .rows .now) ((s .args) .parts .now)) ((s .args) .args .now) ((s .args) .m)) ((s .args) .m) ((s .args) .by) ((s .args) .d) ((s .args) .l) ((s .args) .by2) ((s .args) .d2) ((s .args) .r) ((loop2 .loop) .left) ((loop2 .loop) .i) ((loop2 .loop) .right) ((loop2 .loop) .j) ((loop2 .loop) .inv .0) ((next2 .next-pair) .last .1 .1 .1 .1 .1 .0) ((next2 .next-pair) .last .1 .1 .1 .1 .1 .1 .1 .1 .1 .0) ((next2 .next-pair) .result) ((s3 .s2) .given .0 .0) ((s3 .s2) .given .0 .1 .0) ((s3 .s2) .given .0 .1 .1 .0) ((s3 .s2) .given .0 .1 .1 .1 .0) ((next2 .next-pair) .ensures ((s .args) .parts .now)) ((s3 .s2) .given .1)) ((s .pre) .1 .3) (((next2 .next-pair) .kept .1 .1 .1 .1 .1 .0) ∙ (loop2 .loop) .inv .1 ∙ length-set ((s .args) .left .now) 0 ((s .args) .l)) (((next2 .next-pair) .kept .1 .1 .1 .1 .1 .1 .1 .1 .1 .0) ∙ (loop2 .loop) .inv .2 ∙ length-set ((s .args) .right .now) 0 ((s .args) .r)) in
+    let g : S-Great2 t = search in
+    let w = given-ends t g in
     let w0 = w .0 in
     let w1 = w .1 in
-    let w2 = w .2 in
-    let w3 = w .3 in
     omega arith
 
 eq-stack-part-eq-value-end-2 : (t : ℕ) → eq-stack-lts.Need-part-eq-value-end-2 (eq-stack-claims t) (eq-stack-at t) eq-stack.Post eq-stack-Inv-loop eq-stack-μ-loop
 eq-stack-part-eq-value-end-2 t c = search needs
 
-eq-stack-eq-value-requires : (t : ℕ) → eq-stack-lts.Need-eq-value-requires (eq-stack-claims t) (eq-stack-at t) eq-stack.Post eq-stack-Inv-loop eq-stack-μ-loop
-eq-stack-eq-value-requires t c κs =
-    let s : eq-stack-lts.Start (eq-stack-claims t) (eq-stack-at t) eq-stack.Post eq-stack-Inv-loop eq-stack-μ-loop = search in
-    let loop2 : eq-stack-lts.At-loop (eq-stack-claims t) (eq-stack-at t) eq-stack.Post eq-stack-Inv-loop eq-stack-μ-loop = search in
-    let next2 : eq-stack-lts.After-next-pair (eq-stack-claims t) (eq-stack-at t) eq-stack.Post eq-stack-Inv-loop eq-stack-μ-loop = search in
-    let s3 : eq-stack-lts.After-s2 (eq-stack-claims t) (eq-stack-at t) eq-stack.Post eq-stack-Inv-loop eq-stack-μ-loop = search in
-    let w = (own-low (tab ((s .args) .rows .now) ((s .args) .parts .now)) (argsOf (tab ((s .args) .rows .now) ((s .args) .parts .now)) ((s .args) .args .now) ((s .args) .m)) ((s .args) .m) ((s .args) .by) ((s .args) .d) ((s .args) .l) ((s .args) .by2) ((s .args) .d2) ((s .args) .r) ((loop2 .loop) .left) ((loop2 .loop) .i) ((loop2 .loop) .right) ((loop2 .loop) .j) ((loop2 .loop) .inv .0) ((next2 .next-pair) .last .1 .1 .1 .1 .1 .0) ((next2 .next-pair) .last .1 .1 .1 .1 .1 .1 .1 .1 .1 .0) ((next2 .next-pair) .result) ((s3 .s2) .given .0 .0) ((s3 .s2) .given .0 .1 .0) ((s3 .s2) .given .0 .1 .1 .0) ((s3 .s2) .given .0 .1 .1 .1 .0) ((next2 .next-pair) .ensures ((s .args) .parts .now)) ((s3 .s2) .given .1)) in
-    let w0 = w .0 in
-    let w1 = w .1 in
-    let rl = (s .pre) .1 .1 in
-    let rr = (s .pre) .1 .2 in
-    let t0 = (s .pre) .0 in
-    (omega arith, (tabled-low (tab ((s .args) .rows .now) ((s .args) .parts .now)) ((s .args) .args .now) ((s3 .s2) .given .0 .0) ((s3 .s2) .given .0 .1 .1 .0) ((s .pre) .1 .0) (omega arith) (omega arith), omega arith, omega arith, spare-own ((s .args) .m) ((s .args) .l) ((s .args) .r) _ _ ((s3 .s2) .given .0 .1 .0) ((s3 .s2) .given .0 .0) ((s3 .s2) .given .0 .1 .1 .1 .0) ((s3 .s2) .given .0 .1 .1 .0) _ _ (spare-kept ((s .args) .m) ((s .args) .l) ((s .args) .r) _ _ _ _ ((s .pre) .1 .3) (((next2 .next-pair) .kept .1 .1 .1 .1 .1 .0) ∙ (loop2 .loop) .inv .1 ∙ length-set ((s .args) .left .now) 0 ((s .args) .l)) (((next2 .next-pair) .kept .1 .1 .1 .1 .1 .1 .1 .1 .1 .0) ∙ (loop2 .loop) .inv .2 ∙ length-set ((s .args) .right .now) 0 ((s .args) .r))) w0 w1 (length-part ((s3 .s2) .given .0 .1 .0) ((next2 .next-pair) .last .1 .1 .1 .1 .1 .0)) (length-part ((s3 .s2) .given .0 .1 .1 .1 .0) ((next2 .next-pair) .last .1 .1 .1 .1 .1 .1 .1 .1 .1 .0))))
-
-eq-stack-same-length-5 : (t : ℕ) → eq-stack-lts.Need-same-length-5 (eq-stack-claims t) (eq-stack-at t) eq-stack.Post eq-stack-Inv-loop eq-stack-μ-loop
-eq-stack-same-length-5 t c =
-    let s = c .before .before .before .before .before .before .before .before .before .before .before .before .before .before .before .before .before .before .before .before .before .before .before .before .before .before in
-    let loop2 = c .before .before .before .before .before .before .before .before .before .before .before .before .before .before .before .before .before .before in
-    let next2 = c .before .before .before .before .before .before .before .before .before .before .before .before .before .before .before in
-    let s3 = c .before .before .before .before .before .before .before .before .before in
-    let eqva = c .before .before .before .before .before in
-    same-len-mid ((s3 .s2) .given .0 .1 .0) (length ((next2 .next-pair) .last .1 .1 .1 .1 .1 .0) - ((s3 .s2) .given .0 .1 .0)) ((next2 .next-pair) .last .1 .1 .1 .1 .1 .0) ((eqva .eq-value) .last .1 .1 .1 .1 .1 .1 .1 .1 .1 .1 .0) ((eqva .eq-value) .kept .1 .1 .1 .1 .1 .1 .1 .1 .1 .1 .0) ∙ ((next2 .next-pair) .kept .1 .1 .1 .1 .1 .0) ∙ (loop2 .loop) .inv .1 ∙ length-set ((s .args) .left .now) 0 ((s .args) .l)
-
-eq-stack-same-length-6 : (t : ℕ) → eq-stack-lts.Need-same-length-6 (eq-stack-claims t) (eq-stack-at t) eq-stack.Post eq-stack-Inv-loop eq-stack-μ-loop
-eq-stack-same-length-6 t c =
-    let s = c .before .before .before .before .before .before .before .before .before .before .before .before .before .before .before .before .before .before .before .before .before .before .before .before .before .before in
-    let loop2 = c .before .before .before .before .before .before .before .before .before .before .before .before .before .before .before .before .before .before in
-    let next2 = c .before .before .before .before .before .before .before .before .before .before .before .before .before .before .before in
-    let s3 = c .before .before .before .before .before .before .before .before .before in
-    let eqva = c .before .before .before .before .before in
-    same-len-mid ((s3 .s2) .given .0 .1 .1 .1 .0) (length ((next2 .next-pair) .last .1 .1 .1 .1 .1 .1 .1 .1 .1 .0) - ((s3 .s2) .given .0 .1 .1 .1 .0)) ((next2 .next-pair) .last .1 .1 .1 .1 .1 .1 .1 .1 .1 .0) ((eqva .eq-value) .last .1 .1 .1 .1 .1 .1 .1 .1 .1 .1 .1 .0) ((eqva .eq-value) .kept .1 .1 .1 .1 .1 .1 .1 .1 .1 .1 .1 .0) ∙ ((next2 .next-pair) .kept .1 .1 .1 .1 .1 .1 .1 .1 .1 .0) ∙ (loop2 .loop) .inv .2 ∙ length-set ((s .args) .right .now) 0 ((s .args) .r)
-
-eq-stack-returns-4 : (t : ℕ) → eq-stack-lts.Need-returns-4 (eq-stack-claims t) (eq-stack-at t) eq-stack.Post eq-stack-Inv-loop eq-stack-μ-loop
-eq-stack-returns-4 t c =
-    let s = c .before .before .before .before .before .before .before .before .before .before .before .before .before .before .before .before .before .before .before .before .before .before .before .before .before .before in
-    let loop2 = c .before .before .before .before .before .before .before .before .before .before .before .before .before .before .before .before .before .before in
-    let next2 = c .before .before .before .before .before .before .before .before .before .before .before .before .before .before .before in
-    let s3 = c .before .before .before .before .before .before .before .before .before in
-    let eqva = c .before .before .before .before .before in
-    own-not (tab _ _) (argsOf (tab _ _) _ _) _ _ _ _ _ _ _ ((loop2 .loop) .left) _ _ _ ((loop2 .loop) .inv .0) _ _ _ ((s3 .s2) .given .0 .0) ((s3 .s2) .given .0 .1 .0) ((s3 .s2) .given .0 .1 .1 .0) ((s3 .s2) .given .0 .1 .1 .1 .0) ((next2 .next-pair) .ensures _) ((s3 .s2) .given .1) ((eqva .eq-value) .ensures) (not-false ((c .if2) .taken))
-
-eq-stack-loop-less-2 : (t : ℕ) → eq-stack-lts.Need-loop-less-2 (eq-stack-claims t) (eq-stack-at t) eq-stack.Post eq-stack-Inv-loop eq-stack-μ-loop
-eq-stack-loop-less-2 t c =
-    let s = c .before .before .before .before .before .before .before .before .before .before .before .before .before .before .before .before .before .before .before .before .before .before .before .before .before .before in
-    let loop2 = c .before .before .before .before .before .before .before .before .before .before .before .before .before .before .before .before .before .before in
-    let next2 = c .before .before .before .before .before .before .before .before .before .before .before .before .before .before .before in
-    let s3 = c .before .before .before .before .before .before .before .before .before in
-    let eqva = c .before .before .before .before .before in
-    let w = own-room ((s .args) .m) (own-low (tab ((s .args) .rows .now) ((s .args) .parts .now)) (argsOf (tab ((s .args) .rows .now) ((s .args) .parts .now)) ((s .args) .args .now) ((s .args) .m)) ((s .args) .m) ((s .args) .by) ((s .args) .d) ((s .args) .l) ((s .args) .by2) ((s .args) .d2) ((s .args) .r) ((loop2 .loop) .left) ((loop2 .loop) .i) ((loop2 .loop) .right) ((loop2 .loop) .j) ((loop2 .loop) .inv .0) ((next2 .next-pair) .last .1 .1 .1 .1 .1 .0) ((next2 .next-pair) .last .1 .1 .1 .1 .1 .1 .1 .1 .1 .0) ((next2 .next-pair) .result) ((s3 .s2) .given .0 .0) ((s3 .s2) .given .0 .1 .0) ((s3 .s2) .given .0 .1 .1 .0) ((s3 .s2) .given .0 .1 .1 .1 .0) ((next2 .next-pair) .ensures ((s .args) .parts .now)) ((s3 .s2) .given .1)) ((s .pre) .1 .3) (((next2 .next-pair) .kept .1 .1 .1 .1 .1 .0) ∙ (loop2 .loop) .inv .1 ∙ length-set ((s .args) .left .now) 0 ((s .args) .l)) (((next2 .next-pair) .kept .1 .1 .1 .1 .1 .1 .1 .1 .1 .0) ∙ (loop2 .loop) .inv .2 ∙ length-set ((s .args) .right .now) 0 ((s .args) .r)) in
-    let w0 = w .0 in
-    let w1 = w .1 in
-    let w2 = w .2 in
-    let w3 = w .3 in
-    (match-own (tab ((s .args) .rows .now) ((s .args) .parts .now)) (argsOf (tab ((s .args) .rows .now) ((s .args) .parts .now)) ((s .args) .args .now) ((s .args) .m)) ((s .args) .m) ((s .args) .by) ((s .args) .d) ((s .args) .l) ((s .args) .by2) ((s .args) .d2) ((s .args) .r) ((loop2 .loop) .left) ((loop2 .loop) .i) ((loop2 .loop) .right) ((loop2 .loop) .j) ((loop2 .loop) .inv .0) ((next2 .next-pair) .last .1 .1 .1 .1 .1 .0) ((next2 .next-pair) .last .1 .1 .1 .1 .1 .1 .1 .1 .1 .0) (putMid ((s3 .s2) .given .0 .1 .0) (length ((next2 .next-pair) .last .1 .1 .1 .1 .1 .0) - ((s3 .s2) .given .0 .1 .0)) ((next2 .next-pair) .last .1 .1 .1 .1 .1 .0) ((eqva .eq-value) .last .1 .1 .1 .1 .1 .1 .1 .1 .1 .1 .0)) (putMid ((s3 .s2) .given .0 .1 .1 .1 .0) (length ((next2 .next-pair) .last .1 .1 .1 .1 .1 .1 .1 .1 .1 .0) - ((s3 .s2) .given .0 .1 .1 .1 .0)) ((next2 .next-pair) .last .1 .1 .1 .1 .1 .1 .1 .1 .1 .0) ((eqva .eq-value) .last .1 .1 .1 .1 .1 .1 .1 .1 .1 .1 .1 .0)) ((next2 .next-pair) .result) ((s3 .s2) .given .0 .0) ((s3 .s2) .given .0 .1 .0) ((s3 .s2) .given .0 .1 .1 .0) ((s3 .s2) .given .0 .1 .1 .1 .0) (agree-mid ((s3 .s2) .given .0 .1 .0) (length ((next2 .next-pair) .last .1 .1 .1 .1 .1 .0) - ((s3 .s2) .given .0 .1 .0)) ((next2 .next-pair) .last .1 .1 .1 .1 .1 .0) ((eqva .eq-value) .last .1 .1 .1 .1 .1 .1 .1 .1 .1 .1 .0) (omega arith)) (agree-mid ((s3 .s2) .given .0 .1 .1 .1 .0) (length ((next2 .next-pair) .last .1 .1 .1 .1 .1 .1 .1 .1 .1 .0) - ((s3 .s2) .given .0 .1 .1 .1 .0)) ((next2 .next-pair) .last .1 .1 .1 .1 .1 .1 .1 .1 .1 .0) ((eqva .eq-value) .last .1 .1 .1 .1 .1 .1 .1 .1 .1 .1 .1 .0) (omega arith)) ((next2 .next-pair) .ensures ((s .args) .parts .now)) ((s3 .s2) .given .1) ((eqva .eq-value) .ensures) (not-true ((c .if2) .left))) .1
-
-eq-stack-loop-again-2 : (t : ℕ) → eq-stack-lts.Need-loop-again-2 (eq-stack-claims t) (eq-stack-at t) eq-stack.Post eq-stack-Inv-loop eq-stack-μ-loop
-eq-stack-loop-again-2 t c =
-    let s = c .before .before .before .before .before .before .before .before .before .before .before .before .before .before .before .before .before .before .before .before .before .before .before .before .before .before in
-    let loop2 = c .before .before .before .before .before .before .before .before .before .before .before .before .before .before .before .before .before .before in
-    let next2 = c .before .before .before .before .before .before .before .before .before .before .before .before .before .before .before in
-    let s3 = c .before .before .before .before .before .before .before .before .before in
-    let eqva = c .before .before .before .before .before in
-    let w = own-room ((s .args) .m) (own-low (tab ((s .args) .rows .now) ((s .args) .parts .now)) (argsOf (tab ((s .args) .rows .now) ((s .args) .parts .now)) ((s .args) .args .now) ((s .args) .m)) ((s .args) .m) ((s .args) .by) ((s .args) .d) ((s .args) .l) ((s .args) .by2) ((s .args) .d2) ((s .args) .r) ((loop2 .loop) .left) ((loop2 .loop) .i) ((loop2 .loop) .right) ((loop2 .loop) .j) ((loop2 .loop) .inv .0) ((next2 .next-pair) .last .1 .1 .1 .1 .1 .0) ((next2 .next-pair) .last .1 .1 .1 .1 .1 .1 .1 .1 .1 .0) ((next2 .next-pair) .result) ((s3 .s2) .given .0 .0) ((s3 .s2) .given .0 .1 .0) ((s3 .s2) .given .0 .1 .1 .0) ((s3 .s2) .given .0 .1 .1 .1 .0) ((next2 .next-pair) .ensures ((s .args) .parts .now)) ((s3 .s2) .given .1)) ((s .pre) .1 .3) (((next2 .next-pair) .kept .1 .1 .1 .1 .1 .0) ∙ (loop2 .loop) .inv .1 ∙ length-set ((s .args) .left .now) 0 ((s .args) .l)) (((next2 .next-pair) .kept .1 .1 .1 .1 .1 .1 .1 .1 .1 .0) ∙ (loop2 .loop) .inv .2 ∙ length-set ((s .args) .right .now) 0 ((s .args) .r)) in
-    let w0 = w .0 in
-    let w1 = w .1 in
-    let w2 = w .2 in
-    let w3 = w .3 in
-    ((match-own (tab ((s .args) .rows .now) ((s .args) .parts .now)) (argsOf (tab ((s .args) .rows .now) ((s .args) .parts .now)) ((s .args) .args .now) ((s .args) .m)) ((s .args) .m) ((s .args) .by) ((s .args) .d) ((s .args) .l) ((s .args) .by2) ((s .args) .d2) ((s .args) .r) ((loop2 .loop) .left) ((loop2 .loop) .i) ((loop2 .loop) .right) ((loop2 .loop) .j) ((loop2 .loop) .inv .0) ((next2 .next-pair) .last .1 .1 .1 .1 .1 .0) ((next2 .next-pair) .last .1 .1 .1 .1 .1 .1 .1 .1 .1 .0) (putMid ((s3 .s2) .given .0 .1 .0) (length ((next2 .next-pair) .last .1 .1 .1 .1 .1 .0) - ((s3 .s2) .given .0 .1 .0)) ((next2 .next-pair) .last .1 .1 .1 .1 .1 .0) ((eqva .eq-value) .last .1 .1 .1 .1 .1 .1 .1 .1 .1 .1 .0)) (putMid ((s3 .s2) .given .0 .1 .1 .1 .0) (length ((next2 .next-pair) .last .1 .1 .1 .1 .1 .1 .1 .1 .1 .0) - ((s3 .s2) .given .0 .1 .1 .1 .0)) ((next2 .next-pair) .last .1 .1 .1 .1 .1 .1 .1 .1 .1 .0) ((eqva .eq-value) .last .1 .1 .1 .1 .1 .1 .1 .1 .1 .1 .1 .0)) ((next2 .next-pair) .result) ((s3 .s2) .given .0 .0) ((s3 .s2) .given .0 .1 .0) ((s3 .s2) .given .0 .1 .1 .0) ((s3 .s2) .given .0 .1 .1 .1 .0) (agree-mid ((s3 .s2) .given .0 .1 .0) (length ((next2 .next-pair) .last .1 .1 .1 .1 .1 .0) - ((s3 .s2) .given .0 .1 .0)) ((next2 .next-pair) .last .1 .1 .1 .1 .1 .0) ((eqva .eq-value) .last .1 .1 .1 .1 .1 .1 .1 .1 .1 .1 .0) (omega arith)) (agree-mid ((s3 .s2) .given .0 .1 .1 .1 .0) (length ((next2 .next-pair) .last .1 .1 .1 .1 .1 .1 .1 .1 .1 .0) - ((s3 .s2) .given .0 .1 .1 .1 .0)) ((next2 .next-pair) .last .1 .1 .1 .1 .1 .1 .1 .1 .1 .0) ((eqva .eq-value) .last .1 .1 .1 .1 .1 .1 .1 .1 .1 .1 .1 .0) (omega arith)) ((next2 .next-pair) .ensures ((s .args) .parts .now)) ((s3 .s2) .given .1) ((eqva .eq-value) .ensures) (not-true ((c .if2) .left))) .0, same-len-mid ((s3 .s2) .given .0 .1 .0) (length ((next2 .next-pair) .last .1 .1 .1 .1 .1 .0) - ((s3 .s2) .given .0 .1 .0)) ((next2 .next-pair) .last .1 .1 .1 .1 .1 .0) ((eqva .eq-value) .last .1 .1 .1 .1 .1 .1 .1 .1 .1 .1 .0) ((eqva .eq-value) .kept .1 .1 .1 .1 .1 .1 .1 .1 .1 .1 .0) ∙ ((next2 .next-pair) .kept .1 .1 .1 .1 .1 .0) ∙ (loop2 .loop) .inv .1, same-len-mid ((s3 .s2) .given .0 .1 .1 .1 .0) (length ((next2 .next-pair) .last .1 .1 .1 .1 .1 .1 .1 .1 .1 .0) - ((s3 .s2) .given .0 .1 .1 .1 .0)) ((next2 .next-pair) .last .1 .1 .1 .1 .1 .1 .1 .1 .1 .0) ((eqva .eq-value) .last .1 .1 .1 .1 .1 .1 .1 .1 .1 .1 .1 .0) ((eqva .eq-value) .kept .1 .1 .1 .1 .1 .1 .1 .1 .1 .1 .1 .0) ∙ ((next2 .next-pair) .kept .1 .1 .1 .1 .1 .1 .1 .1 .1 .0) ∙ (loop2 .loop) .inv .2)
-
-eq-stack-enum-known-s-3 : (t : ℕ) → eq-stack-lts.Need-enum-known-s-3 (eq-stack-claims t) (eq-stack-at t) eq-stack.Post eq-stack-Inv-loop eq-stack-μ-loop
-eq-stack-enum-known-s-3 t c = search
-
-eq-stack-mul-eq-value-3 : (t : ℕ) → eq-stack-lts.Need-mul-eq-value-3 (eq-stack-claims t) (eq-stack-at t) eq-stack.Post eq-stack-Inv-loop eq-stack-μ-loop
-eq-stack-mul-eq-value-3 t c =
-    let s : eq-stack-lts.Start (eq-stack-claims t) (eq-stack-at t) eq-stack.Post eq-stack-Inv-loop eq-stack-μ-loop = search in
-    let loop2 : eq-stack-lts.At-loop (eq-stack-claims t) (eq-stack-at t) eq-stack.Post eq-stack-Inv-loop eq-stack-μ-loop = search in
-    let next2 : eq-stack-lts.After-next-pair (eq-stack-claims t) (eq-stack-at t) eq-stack.Post eq-stack-Inv-loop eq-stack-μ-loop = search in
-    let w = given-room ((s .args) .m) ((s .args) .l) (given-low (tab ((s .args) .rows .now) ((s .args) .parts .now)) (argsOf (tab ((s .args) .rows .now) ((s .args) .parts .now)) ((s .args) .args .now) ((s .args) .m)) ((s .args) .m) ((s .args) .by) ((s .args) .d) ((s .args) .l) ((s .args) .by2) ((s .args) .d2) ((s .args) .r) ((loop2 .loop) .left) ((loop2 .loop) .i) ((loop2 .loop) .right) ((loop2 .loop) .j) ((loop2 .loop) .inv .0) ((next2 .next-pair) .last .1 .1 .1 .1 .1 .0) ((next2 .next-pair) .last .1 .1 .1 .1 .1 .1 .1 .1 .1 .0) ((next2 .next-pair) .result) ((c .before .s3) .given .0 .0) ((c .before .s3) .given .0 .1 .0) ((c .before .s3) .given .0 .1 .1 .0) ((c .before .s3) .given .0 .1 .1 .1 .0) ((next2 .next-pair) .ensures ((s .args) .parts .now)) ((c .before .s3) .given .1)) ((s .pre) .1 .3) (((next2 .next-pair) .kept .1 .1 .1 .1 .1 .0) ∙ (loop2 .loop) .inv .1 ∙ length-set ((s .args) .left .now) 0 ((s .args) .l)) (((next2 .next-pair) .kept .1 .1 .1 .1 .1 .1 .1 .1 .1 .0) ∙ (loop2 .loop) .inv .2 ∙ length-set ((s .args) .right .now) 0 ((s .args) .r)) in
-    let w0 = w .0 in
-    let w1 = w .1 in
-    let w2 = w .2 in
-    let w3 = w .3 in
-    record { fits = omega arith }
-
-eq-stack-sub-eq-value-3 : (t : ℕ) → eq-stack-lts.Need-sub-eq-value-3 (eq-stack-claims t) (eq-stack-at t) eq-stack.Post eq-stack-Inv-loop eq-stack-μ-loop
-eq-stack-sub-eq-value-3 t c =
-    let s : eq-stack-lts.Start (eq-stack-claims t) (eq-stack-at t) eq-stack.Post eq-stack-Inv-loop eq-stack-μ-loop = search in
-    let loop2 : eq-stack-lts.At-loop (eq-stack-claims t) (eq-stack-at t) eq-stack.Post eq-stack-Inv-loop eq-stack-μ-loop = search in
-    let next2 : eq-stack-lts.After-next-pair (eq-stack-claims t) (eq-stack-at t) eq-stack.Post eq-stack-Inv-loop eq-stack-μ-loop = search in
-    let w = given-room ((s .args) .m) ((s .args) .l) (given-low (tab ((s .args) .rows .now) ((s .args) .parts .now)) (argsOf (tab ((s .args) .rows .now) ((s .args) .parts .now)) ((s .args) .args .now) ((s .args) .m)) ((s .args) .m) ((s .args) .by) ((s .args) .d) ((s .args) .l) ((s .args) .by2) ((s .args) .d2) ((s .args) .r) ((loop2 .loop) .left) ((loop2 .loop) .i) ((loop2 .loop) .right) ((loop2 .loop) .j) ((loop2 .loop) .inv .0) ((next2 .next-pair) .last .1 .1 .1 .1 .1 .0) ((next2 .next-pair) .last .1 .1 .1 .1 .1 .1 .1 .1 .1 .0) ((next2 .next-pair) .result) ((c .before .s3) .given .0 .0) ((c .before .s3) .given .0 .1 .0) ((c .before .s3) .given .0 .1 .1 .0) ((c .before .s3) .given .0 .1 .1 .1 .0) ((next2 .next-pair) .ensures ((s .args) .parts .now)) ((c .before .s3) .given .1)) ((s .pre) .1 .3) (((next2 .next-pair) .kept .1 .1 .1 .1 .1 .0) ∙ (loop2 .loop) .inv .1 ∙ length-set ((s .args) .left .now) 0 ((s .args) .l)) (((next2 .next-pair) .kept .1 .1 .1 .1 .1 .1 .1 .1 .1 .0) ∙ (loop2 .loop) .inv .2 ∙ length-set ((s .args) .right .now) 0 ((s .args) .r)) in
-    let w0 = w .0 in
-    let w1 = w .1 in
-    let w2 = w .2 in
-    let w3 = w .3 in
-    omega arith
-
-eq-stack-part-eq-value-start-3 : (t : ℕ) → eq-stack-lts.Need-part-eq-value-start-3 (eq-stack-claims t) (eq-stack-at t) eq-stack.Post eq-stack-Inv-loop eq-stack-μ-loop
-eq-stack-part-eq-value-start-3 t c =
-    let s : eq-stack-lts.Start (eq-stack-claims t) (eq-stack-at t) eq-stack.Post eq-stack-Inv-loop eq-stack-μ-loop = search in
-    let loop2 : eq-stack-lts.At-loop (eq-stack-claims t) (eq-stack-at t) eq-stack.Post eq-stack-Inv-loop eq-stack-μ-loop = search in
-    let next2 : eq-stack-lts.After-next-pair (eq-stack-claims t) (eq-stack-at t) eq-stack.Post eq-stack-Inv-loop eq-stack-μ-loop = search in
-    let w = given-room ((s .args) .m) ((s .args) .l) (given-low (tab ((s .args) .rows .now) ((s .args) .parts .now)) (argsOf (tab ((s .args) .rows .now) ((s .args) .parts .now)) ((s .args) .args .now) ((s .args) .m)) ((s .args) .m) ((s .args) .by) ((s .args) .d) ((s .args) .l) ((s .args) .by2) ((s .args) .d2) ((s .args) .r) ((loop2 .loop) .left) ((loop2 .loop) .i) ((loop2 .loop) .right) ((loop2 .loop) .j) ((loop2 .loop) .inv .0) ((next2 .next-pair) .last .1 .1 .1 .1 .1 .0) ((next2 .next-pair) .last .1 .1 .1 .1 .1 .1 .1 .1 .1 .0) ((next2 .next-pair) .result) ((c .before .s3) .given .0 .0) ((c .before .s3) .given .0 .1 .0) ((c .before .s3) .given .0 .1 .1 .0) ((c .before .s3) .given .0 .1 .1 .1 .0) ((next2 .next-pair) .ensures ((s .args) .parts .now)) ((c .before .s3) .given .1)) ((s .pre) .1 .3) (((next2 .next-pair) .kept .1 .1 .1 .1 .1 .0) ∙ (loop2 .loop) .inv .1 ∙ length-set ((s .args) .left .now) 0 ((s .args) .l)) (((next2 .next-pair) .kept .1 .1 .1 .1 .1 .1 .1 .1 .1 .0) ∙ (loop2 .loop) .inv .2 ∙ length-set ((s .args) .right .now) 0 ((s .args) .r)) in
-    let w0 = w .0 in
-    let w1 = w .1 in
-    let w2 = w .2 in
-    let w3 = w .3 in
-    omega arith
-
-eq-stack-part-eq-value-end-3 : (t : ℕ) → eq-stack-lts.Need-part-eq-value-end-3 (eq-stack-claims t) (eq-stack-at t) eq-stack.Post eq-stack-Inv-loop eq-stack-μ-loop
-eq-stack-part-eq-value-end-3 t c = search needs
-
-eq-stack-mul-eq-value-4 : (t : ℕ) → eq-stack-lts.Need-mul-eq-value-4 (eq-stack-claims t) (eq-stack-at t) eq-stack.Post eq-stack-Inv-loop eq-stack-μ-loop
-eq-stack-mul-eq-value-4 t c =
-    let s : eq-stack-lts.Start (eq-stack-claims t) (eq-stack-at t) eq-stack.Post eq-stack-Inv-loop eq-stack-μ-loop = search in
-    let loop2 : eq-stack-lts.At-loop (eq-stack-claims t) (eq-stack-at t) eq-stack.Post eq-stack-Inv-loop eq-stack-μ-loop = search in
-    let next2 : eq-stack-lts.After-next-pair (eq-stack-claims t) (eq-stack-at t) eq-stack.Post eq-stack-Inv-loop eq-stack-μ-loop = search in
-    let s2 : eq-stack-lts.After-s3 (eq-stack-claims t) (eq-stack-at t) eq-stack.Post eq-stack-Inv-loop eq-stack-μ-loop = search in
-    let w = given-room ((s .args) .m) ((s .args) .l) (given-low (tab ((s .args) .rows .now) ((s .args) .parts .now)) (argsOf (tab ((s .args) .rows .now) ((s .args) .parts .now)) ((s .args) .args .now) ((s .args) .m)) ((s .args) .m) ((s .args) .by) ((s .args) .d) ((s .args) .l) ((s .args) .by2) ((s .args) .d2) ((s .args) .r) ((loop2 .loop) .left) ((loop2 .loop) .i) ((loop2 .loop) .right) ((loop2 .loop) .j) ((loop2 .loop) .inv .0) ((next2 .next-pair) .last .1 .1 .1 .1 .1 .0) ((next2 .next-pair) .last .1 .1 .1 .1 .1 .1 .1 .1 .1 .0) ((next2 .next-pair) .result) ((s2 .s3) .given .0 .0) ((s2 .s3) .given .0 .1 .0) ((s2 .s3) .given .0 .1 .1 .0) ((s2 .s3) .given .0 .1 .1 .1 .0) ((next2 .next-pair) .ensures ((s .args) .parts .now)) ((s2 .s3) .given .1)) ((s .pre) .1 .3) (((next2 .next-pair) .kept .1 .1 .1 .1 .1 .0) ∙ (loop2 .loop) .inv .1 ∙ length-set ((s .args) .left .now) 0 ((s .args) .l)) (((next2 .next-pair) .kept .1 .1 .1 .1 .1 .1 .1 .1 .1 .0) ∙ (loop2 .loop) .inv .2 ∙ length-set ((s .args) .right .now) 0 ((s .args) .r)) in
-    let w0 = w .0 in
-    let w1 = w .1 in
-    let w2 = w .2 in
-    let w3 = w .3 in
-    record { fits = omega arith }
-
-eq-stack-sub-eq-value-4 : (t : ℕ) → eq-stack-lts.Need-sub-eq-value-4 (eq-stack-claims t) (eq-stack-at t) eq-stack.Post eq-stack-Inv-loop eq-stack-μ-loop
-eq-stack-sub-eq-value-4 t c =
-    let s : eq-stack-lts.Start (eq-stack-claims t) (eq-stack-at t) eq-stack.Post eq-stack-Inv-loop eq-stack-μ-loop = search in
-    let loop2 : eq-stack-lts.At-loop (eq-stack-claims t) (eq-stack-at t) eq-stack.Post eq-stack-Inv-loop eq-stack-μ-loop = search in
-    let next2 : eq-stack-lts.After-next-pair (eq-stack-claims t) (eq-stack-at t) eq-stack.Post eq-stack-Inv-loop eq-stack-μ-loop = search in
-    let s2 : eq-stack-lts.After-s3 (eq-stack-claims t) (eq-stack-at t) eq-stack.Post eq-stack-Inv-loop eq-stack-μ-loop = search in
-    let w = given-room ((s .args) .m) ((s .args) .l) (given-low (tab ((s .args) .rows .now) ((s .args) .parts .now)) (argsOf (tab ((s .args) .rows .now) ((s .args) .parts .now)) ((s .args) .args .now) ((s .args) .m)) ((s .args) .m) ((s .args) .by) ((s .args) .d) ((s .args) .l) ((s .args) .by2) ((s .args) .d2) ((s .args) .r) ((loop2 .loop) .left) ((loop2 .loop) .i) ((loop2 .loop) .right) ((loop2 .loop) .j) ((loop2 .loop) .inv .0) ((next2 .next-pair) .last .1 .1 .1 .1 .1 .0) ((next2 .next-pair) .last .1 .1 .1 .1 .1 .1 .1 .1 .1 .0) ((next2 .next-pair) .result) ((s2 .s3) .given .0 .0) ((s2 .s3) .given .0 .1 .0) ((s2 .s3) .given .0 .1 .1 .0) ((s2 .s3) .given .0 .1 .1 .1 .0) ((next2 .next-pair) .ensures ((s .args) .parts .now)) ((s2 .s3) .given .1)) ((s .pre) .1 .3) (((next2 .next-pair) .kept .1 .1 .1 .1 .1 .0) ∙ (loop2 .loop) .inv .1 ∙ length-set ((s .args) .left .now) 0 ((s .args) .l)) (((next2 .next-pair) .kept .1 .1 .1 .1 .1 .1 .1 .1 .1 .0) ∙ (loop2 .loop) .inv .2 ∙ length-set ((s .args) .right .now) 0 ((s .args) .r)) in
-    let w0 = w .0 in
-    let w1 = w .1 in
-    let w2 = w .2 in
-    let w3 = w .3 in
-    omega arith
-
-eq-stack-part-eq-value-start-4 : (t : ℕ) → eq-stack-lts.Need-part-eq-value-start-4 (eq-stack-claims t) (eq-stack-at t) eq-stack.Post eq-stack-Inv-loop eq-stack-μ-loop
-eq-stack-part-eq-value-start-4 t c =
-    let s : eq-stack-lts.Start (eq-stack-claims t) (eq-stack-at t) eq-stack.Post eq-stack-Inv-loop eq-stack-μ-loop = search in
-    let loop2 : eq-stack-lts.At-loop (eq-stack-claims t) (eq-stack-at t) eq-stack.Post eq-stack-Inv-loop eq-stack-μ-loop = search in
-    let next2 : eq-stack-lts.After-next-pair (eq-stack-claims t) (eq-stack-at t) eq-stack.Post eq-stack-Inv-loop eq-stack-μ-loop = search in
-    let s2 : eq-stack-lts.After-s3 (eq-stack-claims t) (eq-stack-at t) eq-stack.Post eq-stack-Inv-loop eq-stack-μ-loop = search in
-    let w = given-room ((s .args) .m) ((s .args) .l) (given-low (tab ((s .args) .rows .now) ((s .args) .parts .now)) (argsOf (tab ((s .args) .rows .now) ((s .args) .parts .now)) ((s .args) .args .now) ((s .args) .m)) ((s .args) .m) ((s .args) .by) ((s .args) .d) ((s .args) .l) ((s .args) .by2) ((s .args) .d2) ((s .args) .r) ((loop2 .loop) .left) ((loop2 .loop) .i) ((loop2 .loop) .right) ((loop2 .loop) .j) ((loop2 .loop) .inv .0) ((next2 .next-pair) .last .1 .1 .1 .1 .1 .0) ((next2 .next-pair) .last .1 .1 .1 .1 .1 .1 .1 .1 .1 .0) ((next2 .next-pair) .result) ((s2 .s3) .given .0 .0) ((s2 .s3) .given .0 .1 .0) ((s2 .s3) .given .0 .1 .1 .0) ((s2 .s3) .given .0 .1 .1 .1 .0) ((next2 .next-pair) .ensures ((s .args) .parts .now)) ((s2 .s3) .given .1)) ((s .pre) .1 .3) (((next2 .next-pair) .kept .1 .1 .1 .1 .1 .0) ∙ (loop2 .loop) .inv .1 ∙ length-set ((s .args) .left .now) 0 ((s .args) .l)) (((next2 .next-pair) .kept .1 .1 .1 .1 .1 .1 .1 .1 .1 .0) ∙ (loop2 .loop) .inv .2 ∙ length-set ((s .args) .right .now) 0 ((s .args) .r)) in
-    let w0 = w .0 in
-    let w1 = w .1 in
-    let w2 = w .2 in
-    let w3 = w .3 in
-    omega arith
-
-eq-stack-part-eq-value-end-4 : (t : ℕ) → eq-stack-lts.Need-part-eq-value-end-4 (eq-stack-claims t) (eq-stack-at t) eq-stack.Post eq-stack-Inv-loop eq-stack-μ-loop
-eq-stack-part-eq-value-end-4 t c = search needs
-
 eq-stack-eq-value-requires-2 : (t : ℕ) → eq-stack-lts.Need-eq-value-requires-2 (eq-stack-claims t) (eq-stack-at t) eq-stack.Post eq-stack-Inv-loop eq-stack-μ-loop
 eq-stack-eq-value-requires-2 t c κs =
-    let s : eq-stack-lts.Start (eq-stack-claims t) (eq-stack-at t) eq-stack.Post eq-stack-Inv-loop eq-stack-μ-loop = search in
-    let loop2 : eq-stack-lts.At-loop (eq-stack-claims t) (eq-stack-at t) eq-stack.Post eq-stack-Inv-loop eq-stack-μ-loop = search in
-    let next2 : eq-stack-lts.After-next-pair (eq-stack-claims t) (eq-stack-at t) eq-stack.Post eq-stack-Inv-loop eq-stack-μ-loop = search in
-    let s2 : eq-stack-lts.After-s3 (eq-stack-claims t) (eq-stack-at t) eq-stack.Post eq-stack-Inv-loop eq-stack-μ-loop = search in
-    let w = (given-low (tab ((s .args) .rows .now) ((s .args) .parts .now)) (argsOf (tab ((s .args) .rows .now) ((s .args) .parts .now)) ((s .args) .args .now) ((s .args) .m)) ((s .args) .m) ((s .args) .by) ((s .args) .d) ((s .args) .l) ((s .args) .by2) ((s .args) .d2) ((s .args) .r) ((loop2 .loop) .left) ((loop2 .loop) .i) ((loop2 .loop) .right) ((loop2 .loop) .j) ((loop2 .loop) .inv .0) ((next2 .next-pair) .last .1 .1 .1 .1 .1 .0) ((next2 .next-pair) .last .1 .1 .1 .1 .1 .1 .1 .1 .1 .0) ((next2 .next-pair) .result) ((s2 .s3) .given .0 .0) ((s2 .s3) .given .0 .1 .0) ((s2 .s3) .given .0 .1 .1 .0) ((s2 .s3) .given .0 .1 .1 .1 .0) ((next2 .next-pair) .ensures ((s .args) .parts .now)) ((s2 .s3) .given .1)) in
+    let g : S-Great2 t = search in
+    let o = s-given t g in
+    let p = s-given-pair t o in
+    let l = s-loop t p in
+    let s = s-start t l in
+    let w = given-reach t o in
     let w0 = w .0 in
     let w1 = w .1 in
     let w2 = w .2 in
     let w3 = w .3 in
-    let rm = room-of 0 ((s .args) .m) w0 in
-    let rl = (s .pre) .1 .1 in
-    let rr = (s .pre) .1 .2 in
-    let t0 = (s .pre) .0 in
-    let b = big-of 0 ((s .args) .m) w0 in
-    (omega arith, (tabled-given (tab ((s .args) .rows .now) ((s .args) .parts .now)) ((s .args) .args .now) ((s2 .s3) .given .0 .0) ((s2 .s3) .given .0 .1 .1 .0) ((s .pre) .1 .0) (omega arith) (omega arith), omega arith, omega arith, spare-given ((s .args) .m) ((s .args) .l) ((s .args) .r) _ _ ((s2 .s3) .given .0 .1 .0) ((s2 .s3) .given .0 .0) ((s2 .s3) .given .0 .1 .1 .1 .0) ((s2 .s3) .given .0 .1 .1 .0) _ _ (spare-kept ((s .args) .m) ((s .args) .l) ((s .args) .r) _ _ _ _ ((s .pre) .1 .3) (((next2 .next-pair) .kept .1 .1 .1 .1 .1 .0) ∙ (loop2 .loop) .inv .1 ∙ length-set ((s .args) .left .now) 0 ((s .args) .l)) (((next2 .next-pair) .kept .1 .1 .1 .1 .1 .1 .1 .1 .1 .0) ∙ (loop2 .loop) .inv .2 ∙ length-set ((s .args) .right .now) 0 ((s .args) .r))) w0 w2 w3 (length-part ((s2 .s3) .given .0 .1 .0) ((next2 .next-pair) .last .1 .1 .1 .1 .1 .0)) (length-part ((s2 .s3) .given .0 .1 .1 .1 .0) ((next2 .next-pair) .last .1 .1 .1 .1 .1 .1 .1 .1 .1 .0))))
+    let rm = room-of 0 (s .args .k .m) w0 in
+    let b = big-of 0 (s .args .k .m) w0 in
+    let rl = s .pre .1 .1 in
+    let rr = s .pre .1 .2 in
+    let t0 = s .pre .0 in
+    (omega arith, (tabled-given (tab (s .args .rows .now) (s .args .parts .now)) (s .args .args .now) (o .s3 .given .0 .0) (o .s3 .given .0 .1 .1 .0) (s .pre .1 .0) (omega arith) (omega arith), omega arith, omega arith, spare-given (s .args .k .m) (s .args .l) (s .args .r) _ (o .s3 .given .0 .1 .0) (o .s3 .given .0 .0) (o .s3 .given .0 .1 .1 .1 .0) (o .s3 .given .0 .1 .1 .0) (g .greater2 .result) (g .greater2 .ensures) (s-spare t p) _ w (length-part (g .greater2 .result) (p .next-pair .last .1 .1 .1 .0))))
 
-eq-stack-same-length-7 : (t : ℕ) → eq-stack-lts.Need-same-length-7 (eq-stack-claims t) (eq-stack-at t) eq-stack.Post eq-stack-Inv-loop eq-stack-μ-loop
-eq-stack-same-length-7 t c =
-    let s = c .before .before .before .before .before .before .before .before .before .before .before .before .before .before .before .before .before .before .before .before .before .before .before .before .before .before in
-    let loop2 = c .before .before .before .before .before .before .before .before .before .before .before .before .before .before .before .before .before .before in
-    let next2 = c .before .before .before .before .before .before .before .before .before .before .before .before .before .before .before in
-    let s2 = c .before .before .before .before .before .before .before .before .before in
-    let eqva = c .before .before .before .before .before in
-    same-len-mid ((s2 .s3) .given .0 .1 .0) (length ((next2 .next-pair) .last .1 .1 .1 .1 .1 .0) - ((s2 .s3) .given .0 .1 .0)) ((next2 .next-pair) .last .1 .1 .1 .1 .1 .0) ((eqva .eq-value2) .last .1 .1 .1 .1 .1 .1 .1 .1 .1 .1 .0) ((eqva .eq-value2) .kept .1 .1 .1 .1 .1 .1 .1 .1 .1 .1 .0) ∙ ((next2 .next-pair) .kept .1 .1 .1 .1 .1 .0) ∙ (loop2 .loop) .inv .1 ∙ length-set ((s .args) .left .now) 0 ((s .args) .l)
-
-eq-stack-same-length-8 : (t : ℕ) → eq-stack-lts.Need-same-length-8 (eq-stack-claims t) (eq-stack-at t) eq-stack.Post eq-stack-Inv-loop eq-stack-μ-loop
-eq-stack-same-length-8 t c =
-    let s = c .before .before .before .before .before .before .before .before .before .before .before .before .before .before .before .before .before .before .before .before .before .before .before .before .before .before in
-    let loop2 = c .before .before .before .before .before .before .before .before .before .before .before .before .before .before .before .before .before .before in
-    let next2 = c .before .before .before .before .before .before .before .before .before .before .before .before .before .before .before in
-    let s2 = c .before .before .before .before .before .before .before .before .before in
-    let eqva = c .before .before .before .before .before in
-    same-len-mid ((s2 .s3) .given .0 .1 .1 .1 .0) (length ((next2 .next-pair) .last .1 .1 .1 .1 .1 .1 .1 .1 .1 .0) - ((s2 .s3) .given .0 .1 .1 .1 .0)) ((next2 .next-pair) .last .1 .1 .1 .1 .1 .1 .1 .1 .1 .0) ((eqva .eq-value2) .last .1 .1 .1 .1 .1 .1 .1 .1 .1 .1 .1 .0) ((eqva .eq-value2) .kept .1 .1 .1 .1 .1 .1 .1 .1 .1 .1 .1 .0) ∙ ((next2 .next-pair) .kept .1 .1 .1 .1 .1 .1 .1 .1 .1 .0) ∙ (loop2 .loop) .inv .2 ∙ length-set ((s .args) .right .now) 0 ((s .args) .r)
+eq-stack-same-length-4 : (t : ℕ) → eq-stack-lts.Need-same-length-4 (eq-stack-claims t) (eq-stack-at t) eq-stack.Post eq-stack-Inv-loop eq-stack-μ-loop
+eq-stack-same-length-4 t c =
+    let v : S-Value2 t = search in
+    let i : eq-stack-lts.Then3 (eq-stack-claims t) (eq-stack-at t) eq-stack.Post eq-stack-Inv-loop eq-stack-μ-loop = search in
+    let g = s-great2 t v in
+    let o = s-given t g in
+    let p = s-given-pair t o in
+    let l = s-loop t p in
+    let s = s-start t l in
+    let w = given-ends t g in
+    let w0 = w .0 in
+    same-len-mid (g .greater2 .result) (length (p .next-pair .last .1 .1 .1 .0) - (g .greater2 .result)) (p .next-pair .last .1 .1 .1 .0) (v .eq-value2 .last .1 .1 .1 .1 .1 .1 .0) (v .eq-value2 .kept .1 .1 .1 .1 .1 .1 .0) ∙ s-longer t p
 
 eq-stack-returns-5 : (t : ℕ) → eq-stack-lts.Need-returns-5 (eq-stack-claims t) (eq-stack-at t) eq-stack.Post eq-stack-Inv-loop eq-stack-μ-loop
 eq-stack-returns-5 t c =
-    let s = c .before .before .before .before .before .before .before .before .before .before .before .before .before .before .before .before .before .before .before .before .before .before .before .before .before .before in
-    let loop2 = c .before .before .before .before .before .before .before .before .before .before .before .before .before .before .before .before .before .before in
-    let next2 = c .before .before .before .before .before .before .before .before .before .before .before .before .before .before .before in
-    let s2 = c .before .before .before .before .before .before .before .before .before in
-    let eqva = c .before .before .before .before .before in
-    given-not (tab _ _) (argsOf (tab _ _) _ _) _ _ _ _ _ _ _ ((loop2 .loop) .left) _ _ _ ((loop2 .loop) .inv .0) _ _ _ ((s2 .s3) .given .0 .0) ((s2 .s3) .given .0 .1 .0) ((s2 .s3) .given .0 .1 .1 .0) ((s2 .s3) .given .0 .1 .1 .1 .0) ((next2 .next-pair) .ensures _) ((s2 .s3) .given .1) ((eqva .eq-value2) .ensures ∙ plain-args (tab _ _) _ _ ((s2 .s3) .given .0 .0) _ _ ((s2 .s3) .given .0 .1 .1 .0)) (not-false ((c .if3) .taken))
+    let v : S-Value2 t = search in
+    let i : eq-stack-lts.Then3 (eq-stack-claims t) (eq-stack-at t) eq-stack.Post eq-stack-Inv-loop eq-stack-μ-loop = search in
+    let g = s-great2 t v in
+    let o = s-given t g in
+    let p = s-given-pair t o in
+    let l = s-loop t p in
+    let s = s-start t l in
+    let w = given-ends t g in
+    let w0 = w .0 in
+    given-not (tab _ _) (argsOf (tab _ _) _ _) _ _ _ _ _ _ _ (side false (l .loop .pending)) _ (side true (l .loop .pending)) _ (l .loop .inv .0) (side false (p .next-pair .last .1 .1 .1 .0)) (side true (p .next-pair .last .1 .1 .1 .0)) _ (o .s3 .given .0 .0) (o .s3 .given .0 .1 .0) (o .s3 .given .0 .1 .1 .0) (o .s3 .given .0 .1 .1 .1 .0) (p .next-pair .ensures _) (o .s3 .given .1) (v .eq-value2 .ensures ∙ plain-args (tab (s .args .rows .now) (s .args .parts .now)) (s .args .args .now) (s .args .k .d) (o .s3 .given .0 .0) (s .args .k .by2) (s .args .k .d2) (o .s3 .given .0 .1 .1 .0)) (not-false (i .if3 .taken))
 
 eq-stack-loop-less-3 : (t : ℕ) → eq-stack-lts.Need-loop-less-3 (eq-stack-claims t) (eq-stack-at t) eq-stack.Post eq-stack-Inv-loop eq-stack-μ-loop
 eq-stack-loop-less-3 t c =
-    let s = c .before .before .before .before .before .before .before .before .before .before .before .before .before .before .before .before .before .before .before .before .before .before .before .before .before .before in
-    let loop2 = c .before .before .before .before .before .before .before .before .before .before .before .before .before .before .before .before .before .before in
-    let next2 = c .before .before .before .before .before .before .before .before .before .before .before .before .before .before .before in
-    let s2 = c .before .before .before .before .before .before .before .before .before in
-    let eqva = c .before .before .before .before .before in
-    let w = given-room ((s .args) .m) ((s .args) .l) (given-low (tab ((s .args) .rows .now) ((s .args) .parts .now)) (argsOf (tab ((s .args) .rows .now) ((s .args) .parts .now)) ((s .args) .args .now) ((s .args) .m)) ((s .args) .m) ((s .args) .by) ((s .args) .d) ((s .args) .l) ((s .args) .by2) ((s .args) .d2) ((s .args) .r) ((loop2 .loop) .left) ((loop2 .loop) .i) ((loop2 .loop) .right) ((loop2 .loop) .j) ((loop2 .loop) .inv .0) ((next2 .next-pair) .last .1 .1 .1 .1 .1 .0) ((next2 .next-pair) .last .1 .1 .1 .1 .1 .1 .1 .1 .1 .0) ((next2 .next-pair) .result) ((s2 .s3) .given .0 .0) ((s2 .s3) .given .0 .1 .0) ((s2 .s3) .given .0 .1 .1 .0) ((s2 .s3) .given .0 .1 .1 .1 .0) ((next2 .next-pair) .ensures ((s .args) .parts .now)) ((s2 .s3) .given .1)) ((s .pre) .1 .3) (((next2 .next-pair) .kept .1 .1 .1 .1 .1 .0) ∙ (loop2 .loop) .inv .1 ∙ length-set ((s .args) .left .now) 0 ((s .args) .l)) (((next2 .next-pair) .kept .1 .1 .1 .1 .1 .1 .1 .1 .1 .0) ∙ (loop2 .loop) .inv .2 ∙ length-set ((s .args) .right .now) 0 ((s .args) .r)) in
+    let v : S-Value2 t = search in
+    let i : eq-stack-lts.Else3 (eq-stack-claims t) (eq-stack-at t) eq-stack.Post eq-stack-Inv-loop eq-stack-μ-loop = search in
+    let g = s-great2 t v in
+    let o = s-given t g in
+    let p = s-given-pair t o in
+    let l = s-loop t p in
+    let s = s-start t l in
+    let w = given-ends t g in
     let w0 = w .0 in
-    let w1 = w .1 in
-    let w2 = w .2 in
-    let w3 = w .3 in
-    (match-given (tab ((s .args) .rows .now) ((s .args) .parts .now)) (argsOf (tab ((s .args) .rows .now) ((s .args) .parts .now)) ((s .args) .args .now) ((s .args) .m)) ((s .args) .m) ((s .args) .by) ((s .args) .d) ((s .args) .l) ((s .args) .by2) ((s .args) .d2) ((s .args) .r) ((loop2 .loop) .left) ((loop2 .loop) .i) ((loop2 .loop) .right) ((loop2 .loop) .j) ((loop2 .loop) .inv .0) ((next2 .next-pair) .last .1 .1 .1 .1 .1 .0) ((next2 .next-pair) .last .1 .1 .1 .1 .1 .1 .1 .1 .1 .0) (putMid ((s2 .s3) .given .0 .1 .0) (length ((next2 .next-pair) .last .1 .1 .1 .1 .1 .0) - ((s2 .s3) .given .0 .1 .0)) ((next2 .next-pair) .last .1 .1 .1 .1 .1 .0) ((eqva .eq-value2) .last .1 .1 .1 .1 .1 .1 .1 .1 .1 .1 .0)) (putMid ((s2 .s3) .given .0 .1 .1 .1 .0) (length ((next2 .next-pair) .last .1 .1 .1 .1 .1 .1 .1 .1 .1 .0) - ((s2 .s3) .given .0 .1 .1 .1 .0)) ((next2 .next-pair) .last .1 .1 .1 .1 .1 .1 .1 .1 .1 .0) ((eqva .eq-value2) .last .1 .1 .1 .1 .1 .1 .1 .1 .1 .1 .1 .0)) ((next2 .next-pair) .result) ((s2 .s3) .given .0 .0) ((s2 .s3) .given .0 .1 .0) ((s2 .s3) .given .0 .1 .1 .0) ((s2 .s3) .given .0 .1 .1 .1 .0) (agree-mid ((s2 .s3) .given .0 .1 .0) (length ((next2 .next-pair) .last .1 .1 .1 .1 .1 .0) - ((s2 .s3) .given .0 .1 .0)) ((next2 .next-pair) .last .1 .1 .1 .1 .1 .0) ((eqva .eq-value2) .last .1 .1 .1 .1 .1 .1 .1 .1 .1 .1 .0) (omega arith)) (agree-mid ((s2 .s3) .given .0 .1 .1 .1 .0) (length ((next2 .next-pair) .last .1 .1 .1 .1 .1 .1 .1 .1 .1 .0) - ((s2 .s3) .given .0 .1 .1 .1 .0)) ((next2 .next-pair) .last .1 .1 .1 .1 .1 .1 .1 .1 .1 .0) ((eqva .eq-value2) .last .1 .1 .1 .1 .1 .1 .1 .1 .1 .1 .1 .0) (omega arith)) ((next2 .next-pair) .ensures ((s .args) .parts .now)) ((s2 .s3) .given .1) ((eqva .eq-value2) .ensures ∙ plain-args (tab ((s .args) .rows .now) ((s .args) .parts .now)) ((s .args) .args .now) ((s .args) .d) ((s2 .s3) .given .0 .0) ((s .args) .by2) ((s .args) .d2) ((s2 .s3) .given .0 .1 .1 .0)) (not-true ((c .if3) .left))) .1
+    (match-given (tab (s .args .rows .now) (s .args .parts .now)) (argsOf (tab (s .args .rows .now) (s .args .parts .now)) (s .args .args .now) (s .args .k .m)) (s .args .k .m) (s .args .k .by) (s .args .k .d) (s .args .l) (s .args .k .by2) (s .args .k .d2) (s .args .r) (side false (l .loop .pending)) (l .loop .i) (side true (l .loop .pending)) (l .loop .j) (l .loop .inv .0) (side false (p .next-pair .last .1 .1 .1 .0)) (side true (p .next-pair .last .1 .1 .1 .0)) (side false (putMid (g .greater2 .result) (length (p .next-pair .last .1 .1 .1 .0) - (g .greater2 .result)) (p .next-pair .last .1 .1 .1 .0) (v .eq-value2 .last .1 .1 .1 .1 .1 .1 .0))) (side true (putMid (g .greater2 .result) (length (p .next-pair .last .1 .1 .1 .0) - (g .greater2 .result)) (p .next-pair .last .1 .1 .1 .0) (v .eq-value2 .last .1 .1 .1 .1 .1 .1 .0))) (p .next-pair .result) (o .s3 .given .0 .0) (o .s3 .given .0 .1 .0) (o .s3 .given .0 .1 .1 .0) (o .s3 .given .0 .1 .1 .1 .0) (agree-back false (o .s3 .given .0 .1 .0) (g .greater2 .result) (length (p .next-pair .last .1 .1 .1 .0) - (g .greater2 .result)) (p .next-pair .last .1 .1 .1 .0) (v .eq-value2 .last .1 .1 .1 .1 .1 .1 .0) (g .greater2 .ensures .0) (omega arith)) (agree-back true (o .s3 .given .0 .1 .1 .1 .0) (g .greater2 .result) (length (p .next-pair .last .1 .1 .1 .0) - (g .greater2 .result)) (p .next-pair .last .1 .1 .1 .0) (v .eq-value2 .last .1 .1 .1 .1 .1 .1 .0) (g .greater2 .ensures .1) (omega arith)) (p .next-pair .ensures (s .args .parts .now)) (o .s3 .given .1) (v .eq-value2 .ensures ∙ plain-args (tab (s .args .rows .now) (s .args .parts .now)) (s .args .args .now) (s .args .k .d) (o .s3 .given .0 .0) (s .args .k .by2) (s .args .k .d2) (o .s3 .given .0 .1 .1 .0)) (not-true (i .if3 .left))) .1
 
 eq-stack-loop-again-3 : (t : ℕ) → eq-stack-lts.Need-loop-again-3 (eq-stack-claims t) (eq-stack-at t) eq-stack.Post eq-stack-Inv-loop eq-stack-μ-loop
 eq-stack-loop-again-3 t c =
-    let s = c .before .before .before .before .before .before .before .before .before .before .before .before .before .before .before .before .before .before .before .before .before .before .before .before .before .before in
-    let loop2 = c .before .before .before .before .before .before .before .before .before .before .before .before .before .before .before .before .before .before in
-    let next2 = c .before .before .before .before .before .before .before .before .before .before .before .before .before .before .before in
-    let s2 = c .before .before .before .before .before .before .before .before .before in
-    let eqva = c .before .before .before .before .before in
-    let w = given-room ((s .args) .m) ((s .args) .l) (given-low (tab ((s .args) .rows .now) ((s .args) .parts .now)) (argsOf (tab ((s .args) .rows .now) ((s .args) .parts .now)) ((s .args) .args .now) ((s .args) .m)) ((s .args) .m) ((s .args) .by) ((s .args) .d) ((s .args) .l) ((s .args) .by2) ((s .args) .d2) ((s .args) .r) ((loop2 .loop) .left) ((loop2 .loop) .i) ((loop2 .loop) .right) ((loop2 .loop) .j) ((loop2 .loop) .inv .0) ((next2 .next-pair) .last .1 .1 .1 .1 .1 .0) ((next2 .next-pair) .last .1 .1 .1 .1 .1 .1 .1 .1 .1 .0) ((next2 .next-pair) .result) ((s2 .s3) .given .0 .0) ((s2 .s3) .given .0 .1 .0) ((s2 .s3) .given .0 .1 .1 .0) ((s2 .s3) .given .0 .1 .1 .1 .0) ((next2 .next-pair) .ensures ((s .args) .parts .now)) ((s2 .s3) .given .1)) ((s .pre) .1 .3) (((next2 .next-pair) .kept .1 .1 .1 .1 .1 .0) ∙ (loop2 .loop) .inv .1 ∙ length-set ((s .args) .left .now) 0 ((s .args) .l)) (((next2 .next-pair) .kept .1 .1 .1 .1 .1 .1 .1 .1 .1 .0) ∙ (loop2 .loop) .inv .2 ∙ length-set ((s .args) .right .now) 0 ((s .args) .r)) in
+    let v : S-Value2 t = search in
+    let i : eq-stack-lts.Else3 (eq-stack-claims t) (eq-stack-at t) eq-stack.Post eq-stack-Inv-loop eq-stack-μ-loop = search in
+    let g = s-great2 t v in
+    let o = s-given t g in
+    let p = s-given-pair t o in
+    let l = s-loop t p in
+    let s = s-start t l in
+    let w = given-ends t g in
     let w0 = w .0 in
-    let w1 = w .1 in
-    let w2 = w .2 in
-    let w3 = w .3 in
-    ((match-given (tab ((s .args) .rows .now) ((s .args) .parts .now)) (argsOf (tab ((s .args) .rows .now) ((s .args) .parts .now)) ((s .args) .args .now) ((s .args) .m)) ((s .args) .m) ((s .args) .by) ((s .args) .d) ((s .args) .l) ((s .args) .by2) ((s .args) .d2) ((s .args) .r) ((loop2 .loop) .left) ((loop2 .loop) .i) ((loop2 .loop) .right) ((loop2 .loop) .j) ((loop2 .loop) .inv .0) ((next2 .next-pair) .last .1 .1 .1 .1 .1 .0) ((next2 .next-pair) .last .1 .1 .1 .1 .1 .1 .1 .1 .1 .0) (putMid ((s2 .s3) .given .0 .1 .0) (length ((next2 .next-pair) .last .1 .1 .1 .1 .1 .0) - ((s2 .s3) .given .0 .1 .0)) ((next2 .next-pair) .last .1 .1 .1 .1 .1 .0) ((eqva .eq-value2) .last .1 .1 .1 .1 .1 .1 .1 .1 .1 .1 .0)) (putMid ((s2 .s3) .given .0 .1 .1 .1 .0) (length ((next2 .next-pair) .last .1 .1 .1 .1 .1 .1 .1 .1 .1 .0) - ((s2 .s3) .given .0 .1 .1 .1 .0)) ((next2 .next-pair) .last .1 .1 .1 .1 .1 .1 .1 .1 .1 .0) ((eqva .eq-value2) .last .1 .1 .1 .1 .1 .1 .1 .1 .1 .1 .1 .0)) ((next2 .next-pair) .result) ((s2 .s3) .given .0 .0) ((s2 .s3) .given .0 .1 .0) ((s2 .s3) .given .0 .1 .1 .0) ((s2 .s3) .given .0 .1 .1 .1 .0) (agree-mid ((s2 .s3) .given .0 .1 .0) (length ((next2 .next-pair) .last .1 .1 .1 .1 .1 .0) - ((s2 .s3) .given .0 .1 .0)) ((next2 .next-pair) .last .1 .1 .1 .1 .1 .0) ((eqva .eq-value2) .last .1 .1 .1 .1 .1 .1 .1 .1 .1 .1 .0) (omega arith)) (agree-mid ((s2 .s3) .given .0 .1 .1 .1 .0) (length ((next2 .next-pair) .last .1 .1 .1 .1 .1 .1 .1 .1 .1 .0) - ((s2 .s3) .given .0 .1 .1 .1 .0)) ((next2 .next-pair) .last .1 .1 .1 .1 .1 .1 .1 .1 .1 .0) ((eqva .eq-value2) .last .1 .1 .1 .1 .1 .1 .1 .1 .1 .1 .1 .0) (omega arith)) ((next2 .next-pair) .ensures ((s .args) .parts .now)) ((s2 .s3) .given .1) ((eqva .eq-value2) .ensures ∙ plain-args (tab ((s .args) .rows .now) ((s .args) .parts .now)) ((s .args) .args .now) ((s .args) .d) ((s2 .s3) .given .0 .0) ((s .args) .by2) ((s .args) .d2) ((s2 .s3) .given .0 .1 .1 .0)) (not-true ((c .if3) .left))) .0, same-len-mid ((s2 .s3) .given .0 .1 .0) (length ((next2 .next-pair) .last .1 .1 .1 .1 .1 .0) - ((s2 .s3) .given .0 .1 .0)) ((next2 .next-pair) .last .1 .1 .1 .1 .1 .0) ((eqva .eq-value2) .last .1 .1 .1 .1 .1 .1 .1 .1 .1 .1 .0) ((eqva .eq-value2) .kept .1 .1 .1 .1 .1 .1 .1 .1 .1 .1 .0) ∙ ((next2 .next-pair) .kept .1 .1 .1 .1 .1 .0) ∙ (loop2 .loop) .inv .1, same-len-mid ((s2 .s3) .given .0 .1 .1 .1 .0) (length ((next2 .next-pair) .last .1 .1 .1 .1 .1 .1 .1 .1 .1 .0) - ((s2 .s3) .given .0 .1 .1 .1 .0)) ((next2 .next-pair) .last .1 .1 .1 .1 .1 .1 .1 .1 .1 .0) ((eqva .eq-value2) .last .1 .1 .1 .1 .1 .1 .1 .1 .1 .1 .1 .0) ((eqva .eq-value2) .kept .1 .1 .1 .1 .1 .1 .1 .1 .1 .1 .1 .0) ∙ ((next2 .next-pair) .kept .1 .1 .1 .1 .1 .1 .1 .1 .1 .0) ∙ (loop2 .loop) .inv .2)
+    ((match-given (tab (s .args .rows .now) (s .args .parts .now)) (argsOf (tab (s .args .rows .now) (s .args .parts .now)) (s .args .args .now) (s .args .k .m)) (s .args .k .m) (s .args .k .by) (s .args .k .d) (s .args .l) (s .args .k .by2) (s .args .k .d2) (s .args .r) (side false (l .loop .pending)) (l .loop .i) (side true (l .loop .pending)) (l .loop .j) (l .loop .inv .0) (side false (p .next-pair .last .1 .1 .1 .0)) (side true (p .next-pair .last .1 .1 .1 .0)) (side false (putMid (g .greater2 .result) (length (p .next-pair .last .1 .1 .1 .0) - (g .greater2 .result)) (p .next-pair .last .1 .1 .1 .0) (v .eq-value2 .last .1 .1 .1 .1 .1 .1 .0))) (side true (putMid (g .greater2 .result) (length (p .next-pair .last .1 .1 .1 .0) - (g .greater2 .result)) (p .next-pair .last .1 .1 .1 .0) (v .eq-value2 .last .1 .1 .1 .1 .1 .1 .0))) (p .next-pair .result) (o .s3 .given .0 .0) (o .s3 .given .0 .1 .0) (o .s3 .given .0 .1 .1 .0) (o .s3 .given .0 .1 .1 .1 .0) (agree-back false (o .s3 .given .0 .1 .0) (g .greater2 .result) (length (p .next-pair .last .1 .1 .1 .0) - (g .greater2 .result)) (p .next-pair .last .1 .1 .1 .0) (v .eq-value2 .last .1 .1 .1 .1 .1 .1 .0) (g .greater2 .ensures .0) (omega arith)) (agree-back true (o .s3 .given .0 .1 .1 .1 .0) (g .greater2 .result) (length (p .next-pair .last .1 .1 .1 .0) - (g .greater2 .result)) (p .next-pair .last .1 .1 .1 .0) (v .eq-value2 .last .1 .1 .1 .1 .1 .1 .0) (g .greater2 .ensures .1) (omega arith)) (p .next-pair .ensures (s .args .parts .now)) (o .s3 .given .1) (v .eq-value2 .ensures ∙ plain-args (tab (s .args .rows .now) (s .args .parts .now)) (s .args .args .now) (s .args .k .d) (o .s3 .given .0 .0) (s .args .k .by2) (s .args .k .d2) (o .s3 .given .0 .1 .1 .0)) (not-true (i .if3 .left))) .0, same-len-mid (g .greater2 .result) (length (p .next-pair .last .1 .1 .1 .0) - (g .greater2 .result)) (p .next-pair .last .1 .1 .1 .0) (v .eq-value2 .last .1 .1 .1 .1 .1 .1 .0) (v .eq-value2 .kept .1 .1 .1 .1 .1 .1 .0) ∙ p .next-pair .kept .1 .1 .1 .0 ∙ l .loop .inv .1)
+
+abbrev V-Start : ℕ → Type 0
+V-Start t = eq-value-lts.Start (eq-value-claims t) (eq-value-at t) eq-value.Post
+
+abbrev V-Read : ℕ → Type 0
+V-Read t = eq-value-lts.After-read-value (eq-value-claims t) (eq-value-at t) eq-value.Post
+
+abbrev V-Read2 : ℕ → Type 0
+V-Read2 t = eq-value-lts.After-read-value2 (eq-value-claims t) (eq-value-at t) eq-value.Post
+
+abbrev V-Pair : ℕ → Type 0
+V-Pair t = eq-value-lts.After-pair-up (eq-value-claims t) (eq-value-at t) eq-value.Post
+
+abbrev V-At : ℕ → Type 0
+V-At t = eq-value-lts.After-at (eq-value-claims t) (eq-value-at t) eq-value.Post
+
+abbrev V-Is : ℕ → Type 0
+V-Is t = eq-value-lts.After-is-stack (eq-value-claims t) (eq-value-at t) eq-value.Post
+
+abbrev v-read : (t : ℕ) → V-Pair t → V-Read t
+v-read t c = search
+
+abbrev v-read2 : (t : ℕ) → V-Pair t → V-Read2 t
+v-read2 t c = search
+
+abbrev v-start : (t : ℕ) → V-Pair t → V-Start t
+v-start t c = search
 
 eq-value-same-place-requires : (t : ℕ) → eq-value-lts.Need-same-place-requires (eq-value-claims t) (eq-value-at t) eq-value.Post
 eq-value-same-place-requires t c κs = search
 
 eq-value-returns : (t : ℕ) → eq-value-lts.Need-returns (eq-value-claims t) (eq-value-at t) eq-value.Post
 eq-value-returns t c =
-    let s : eq-value-lts.Start (eq-value-claims t) (eq-value-at t) eq-value.Post = search in
-    place-value (tab _ _) _ _ _ _ _ _ _ _ ((c .before .same-place) .ensures) ((c .if1) .taken)
+    let s : V-Start t = search in
+    place-value (tab _ _) _ _ _ _ _ _ _ _ (c .before .same-place .ensures) (c .if1 .taken)
+
+eq-value-cast-read-value : (t : ℕ) → eq-value-lts.Need-cast-read-value (eq-value-claims t) (eq-value-at t) eq-value.Post
+eq-value-cast-read-value t c = search needs
+
+eq-value-cast-read-value-2 : (t : ℕ) → eq-value-lts.Need-cast-read-value-2 (eq-value-claims t) (eq-value-at t) eq-value.Post
+eq-value-cast-read-value-2 t c = search needs
+
+eq-value-cast-read-value-3 : (t : ℕ) → eq-value-lts.Need-cast-read-value-3 (eq-value-claims t) (eq-value-at t) eq-value.Post
+eq-value-cast-read-value-3 t c = search needs
 
 eq-value-read-value-requires : (t : ℕ) → eq-value-lts.Need-read-value-requires (eq-value-claims t) (eq-value-at t) eq-value.Post
 eq-value-read-value-requires t c κs = search needs
+
+eq-value-cast-read-value-4 : (t : ℕ) → eq-value-lts.Need-cast-read-value-4 (eq-value-claims t) (eq-value-at t) eq-value.Post
+eq-value-cast-read-value-4 t c = search needs
+
+eq-value-cast-read-value-5 : (t : ℕ) → eq-value-lts.Need-cast-read-value-5 (eq-value-claims t) (eq-value-at t) eq-value.Post
+eq-value-cast-read-value-5 t c = search needs
 
 eq-value-read-value-requires-2 : (t : ℕ) → eq-value-lts.Need-read-value-requires-2 (eq-value-claims t) (eq-value-at t) eq-value.Post
 eq-value-read-value-requires-2 t c κs = search needs
@@ -773,307 +897,230 @@ eq-value-is-stack-requires t c κs = search needs
 
 eq-value-returns-2 : (t : ℕ) → eq-value-lts.Need-returns-2 (eq-value-claims t) (eq-value-at t) eq-value.Post
 eq-value-returns-2 t c =
-    let s : eq-value-lts.Start (eq-value-claims t) (eq-value-at t) eq-value.Post = search in
-    let read2 : eq-value-lts.After-read-value (eq-value-claims t) (eq-value-at t) eq-value.Post = search in
-    let read3 : eq-value-lts.After-read-value2 (eq-value-claims t) (eq-value-at t) eq-value.Post = search in
-    let pair2 : eq-value-lts.After-pair-up (eq-value-claims t) (eq-value-at t) eq-value.Post = search in
-    let p2 : eq-value-lts.After-p (eq-value-claims t) (eq-value-at t) eq-value.Post = search in
-    let at2 : eq-value-lts.After-at (eq-value-claims t) (eq-value-at t) eq-value.Post = search in
-    let ok = pair-ok ((s .args) .m) ((s .args) .l) ((s .args) .r) ((read2 .read-value) .result) ((read3 .read-value2) .result) ((read2 .read-value) .ensures .1) ((read3 .read-value2) .ensures .1) ((pair2 .pair-up) .ensures) ((p2 .p) .given .1) in
-    filled-not (tab ((s .args) .rows .now) ((s .args) .parts .now)) ((s .args) .args .now) ((s .args) .m) ((s .args) .by) ((s .args) .d) ((s .args) .by2) ((s .args) .d2) ((s .args) .r) ((p2 .p) .given .0 .0) ((at2 .at) .result) ok ((at2 .at) .ensures .0) ((c .before .is-stack) .ensures) ((c .if2) .taken) ∙ value-pair (tab ((s .args) .rows .now) ((s .args) .parts .now)) (argsOf (tab ((s .args) .rows .now) ((s .args) .parts .now)) ((s .args) .args .now) ((s .args) .m)) ((s .args) .by) ((s .args) .d) ((s .args) .by2) ((s .args) .d2) ((s .args) .m) ((s .args) .l) ((s .args) .r) (length-args (tab ((s .args) .rows .now) ((s .args) .parts .now)) ((s .args) .args .now) ((s .args) .m)) ((read2 .read-value) .ensures .0) ((read3 .read-value2) .ensures .0) ((read3 .read-value2) .ensures .1) ((pair2 .pair-up) .ensures) ((p2 .p) .given .1)
+    let i : eq-value-lts.Then2 (eq-value-claims t) (eq-value-at t) eq-value.Post = search in
+    let b : V-Is t = search in
+    let a : V-At t = search in
+    let p : eq-value-lts.After-p (eq-value-claims t) (eq-value-at t) eq-value.Post = search in
+    let u : V-Pair t = search in
+    let v = v-read t u in
+    let w = v-read2 t u in
+    let s = v-start t u in
+    let ok = pair-ok (s .args .k .m) (s .args .l) (s .args .r) (v .read-value .result) (w .read-value2 .result) (v .read-value .ensures .1) (w .read-value2 .ensures .1) (u .pair-up .ensures) (p .p .given .1) in
+    filled-not (tab (s .args .rows .now) (s .args .parts .now)) (s .args .args .now) (s .args .k .m) (s .args .k .by) (s .args .k .d) (s .args .k .by2) (s .args .k .d2) (s .args .r) (p .p .given .0 .0) (a .at .result) ok (a .at .ensures .0) (b .is-stack .ensures) (i .if2 .taken) ∙ value-pair (tab (s .args .rows .now) (s .args .parts .now)) (argsOf (tab (s .args .rows .now) (s .args .parts .now)) (s .args .args .now) (s .args .k .m)) (s .args .k .by) (s .args .k .d) (s .args .k .by2) (s .args .k .d2) (s .args .k .m) (s .args .l) (s .args .r) (length-args (tab (s .args .rows .now) (s .args .parts .now)) (s .args .args .now) (s .args .k .m)) (v .read-value .ensures .0) (w .read-value2 .ensures .0) (w .read-value2 .ensures .1) (u .pair-up .ensures) (p .p .given .1)
 
 eq-value-add-eq-value : (t : ℕ) → eq-value-lts.Need-add-eq-value (eq-value-claims t) (eq-value-at t) eq-value.Post
 eq-value-add-eq-value t c = search needs
 
 eq-value-eq-value-requires : (t : ℕ) → eq-value-lts.Need-eq-value-requires (eq-value-claims t) (eq-value-at t) eq-value.Post
 eq-value-eq-value-requires t c κs =
-    let s = c .before .before .before .before .before .before .before .before .before .before .before .before .before .before .before .before .before .before in
-    let read2 = c .before .before .before .before .before .before .before .before .before .before in
-    let read3 = c .before .before .before .before .before .before .before .before .before in
-    let pair2 = c .before .before .before .before .before .before .before .before in
-    let p2 = c .before .before .before .before .before .before in
-    let at2 = c .before .before .before .before in
-    let ok = pair-ok ((s .args) .m) ((s .args) .l) ((s .args) .r) ((read2 .read-value) .result) ((read3 .read-value2) .result) ((read2 .read-value) .ensures .1) ((read3 .read-value2) .ensures .1) ((pair2 .pair-up) .ensures) ((p2 .p) .given .1) in
-    let t0 = (s .pre) .0 in
-    let rl = (s .pre) .1 .1 in
-    let rr = (s .pre) .1 .2 in
-    let b = big-of ((p2 .p) .given .0 .0) ((s .args) .m) ok in
-    let q = (at2 .at) .ensures .1 in
-    let e = (at2 .at) .ensures .0 in
-    let f = few-arg (tab ((s .args) .rows .now) ((s .args) .parts .now)) ((s .args) .args .now) ((p2 .p) .given .0 .0) ((s .pre) .1 .0) ok in
-    (omega arith, (tabled-arg (tab ((s .args) .rows .now) ((s .args) .parts .now)) ((s .args) .args .now) ((p2 .p) .given .0 .0) ((at2 .at) .result) ((s .args) .r) ((s .pre) .1 .0) ok ((at2 .at) .ensures .0) (omega arith), omega arith, rr, spare-arg ((s .args) .m) ((s .args) .l) ((s .args) .r) _ _ ((at2 .at) .result + 1) ((p2 .p) .given .0 .0) ((s .pre) .1 .3) ok (omega arith)))
+    let a : V-At t = search in
+    let p : eq-value-lts.After-p (eq-value-claims t) (eq-value-at t) eq-value.Post = search in
+    let u : V-Pair t = search in
+    let v = v-read t u in
+    let w = v-read2 t u in
+    let s = v-start t u in
+    let ok = pair-ok (s .args .k .m) (s .args .l) (s .args .r) (v .read-value .result) (w .read-value2 .result) (v .read-value .ensures .1) (w .read-value2 .ensures .1) (u .pair-up .ensures) (p .p .given .1) in
+    let t0 = s .pre .0 in
+    let rl = s .pre .1 .1 in
+    let rr = s .pre .1 .2 in
+    let b = big-of (p .p .given .0 .0) (s .args .k .m) ok in
+    let q = a .at .ensures .1 in
+    let e = a .at .ensures .0 in
+    let f = few-arg (tab (s .args .rows .now) (s .args .parts .now)) (s .args .args .now) (p .p .given .0 .0) (s .pre .1 .0) ok in
+    (omega arith, (tabled-arg (tab (s .args .rows .now) (s .args .parts .now)) (s .args .args .now) (p .p .given .0 .0) (a .at .result) (s .args .r) (s .pre .1 .0) ok (a .at .ensures .0) (omega arith), omega arith, rr, spare-arg (s .args .k .m) (s .args .l) (s .args .r) _ (a .at .result + 1) (p .p .given .0 .0) (s .pre .1 .3) ok (omega arith)))
 
 eq-value-enum-known-p-2 : (t : ℕ) → eq-value-lts.Need-enum-known-p-2 (eq-value-claims t) (eq-value-at t) eq-value.Post
 eq-value-enum-known-p-2 t c = search
 
-eq-value-eq-parts-requires : (t : ℕ) → eq-value-lts.Need-eq-parts-requires (eq-value-claims t) (eq-value-at t) eq-value.Post
-eq-value-eq-parts-requires t c κs =
-    let s : eq-value-lts.Start (eq-value-claims t) (eq-value-at t) eq-value.Post = search in
-    let read2 : eq-value-lts.After-read-value (eq-value-claims t) (eq-value-at t) eq-value.Post = search in
-    let read3 : eq-value-lts.After-read-value2 (eq-value-claims t) (eq-value-at t) eq-value.Post = search in
-    let pair2 : eq-value-lts.After-pair-up (eq-value-claims t) (eq-value-at t) eq-value.Post = search in
+eq-value-cast-t34 : (t : ℕ) → eq-value-lts.Need-cast-t34 (eq-value-claims t) (eq-value-at t) eq-value.Post
+eq-value-cast-t34 t c =
     let p : eq-value-lts.After-p2 (eq-value-claims t) (eq-value-at t) eq-value.Post = search in
-    let ok = pair-ok ((s .args) .m) ((s .args) .l) ((s .args) .r) ((read2 .read-value) .result) ((read3 .read-value2) .result) ((read2 .read-value) .ensures .1) ((read3 .read-value2) .ensures .1) ((pair2 .pair-up) .ensures) ((p .p2) .given .1) in
-    let t0 = (s .pre) .0 in
-    let rl = (s .pre) .1 .1 in
-    let rr = (s .pre) .1 .2 in
+    let u : V-Pair t = search in
+    let v = v-read t u in
+    let w = v-read2 t u in
+    let s = v-start t u in
+    let ok = pair-ok (s .args .k .m) (s .args .l) (s .args .r) (v .read-value .result) (w .read-value2 .result) (v .read-value .ensures .1) (w .read-value2 .ensures .1) (u .pair-up .ensures) (p .p2 .given .1) in
     let o0 = ok .0 in
     let o1 = ok .1 in
     let o2 = ok .2 in
-    (omega arith, (((s .pre) .1 .0), omega arith, omega arith, ok .3, ok .4, o2, omega arith, omega arith, ((s .pre) .1 .3)))
+    record { fits = omega arith }
+
+eq-value-cast-t35 : (t : ℕ) → eq-value-lts.Need-cast-t35 (eq-value-claims t) (eq-value-at t) eq-value.Post
+eq-value-cast-t35 t c =
+    let p : eq-value-lts.After-p2 (eq-value-claims t) (eq-value-at t) eq-value.Post = search in
+    let u : V-Pair t = search in
+    let v = v-read t u in
+    let w = v-read2 t u in
+    let s = v-start t u in
+    let ok = pair-ok (s .args .k .m) (s .args .l) (s .args .r) (v .read-value .result) (w .read-value2 .result) (v .read-value .ensures .1) (w .read-value2 .ensures .1) (u .pair-up .ensures) (p .p2 .given .1) in
+    let o0 = ok .0 in
+    let o1 = ok .1 in
+    let o2 = ok .2 in
+    record { fits = omega arith }
+
+eq-value-cast-t36 : (t : ℕ) → eq-value-lts.Need-cast-t36 (eq-value-claims t) (eq-value-at t) eq-value.Post
+eq-value-cast-t36 t c =
+    let p : eq-value-lts.After-p2 (eq-value-claims t) (eq-value-at t) eq-value.Post = search in
+    let u : V-Pair t = search in
+    let v = v-read t u in
+    let w = v-read2 t u in
+    let s = v-start t u in
+    let ok = pair-ok (s .args .k .m) (s .args .l) (s .args .r) (v .read-value .result) (w .read-value2 .result) (v .read-value .ensures .1) (w .read-value2 .ensures .1) (u .pair-up .ensures) (p .p2 .given .1) in
+    let o0 = ok .0 in
+    let o1 = ok .1 in
+    let o2 = ok .2 in
+    record { fits = omega arith }
+
+eq-value-eq-parts-requires : (t : ℕ) → eq-value-lts.Need-eq-parts-requires (eq-value-claims t) (eq-value-at t) eq-value.Post
+eq-value-eq-parts-requires t c κs =
+    let p : eq-value-lts.After-p2 (eq-value-claims t) (eq-value-at t) eq-value.Post = search in
+    let u : V-Pair t = search in
+    let v = v-read t u in
+    let w = v-read2 t u in
+    let s = v-start t u in
+    let ok = pair-ok (s .args .k .m) (s .args .l) (s .args .r) (v .read-value .result) (w .read-value2 .result) (v .read-value .ensures .1) (w .read-value2 .ensures .1) (u .pair-up .ensures) (p .p2 .given .1) in
+    let t0 = s .pre .0 in
+    let rl = s .pre .1 .1 in
+    let rr = s .pre .1 .2 in
+    let o0 = ok .0 in
+    let o1 = ok .1 in
+    let o2 = ok .2 in
+    (omega arith, (s .pre .1 .0, omega arith, omega arith, ok .3, ok .4, o2, omega arith, omega arith, s .pre .1 .3))
 
 eq-value-enum-known-p-3 : (t : ℕ) → eq-value-lts.Need-enum-known-p-3 (eq-value-claims t) (eq-value-at t) eq-value.Post
 eq-value-enum-known-p-3 t c = search
 
 eq-value-eq-stack-requires : (t : ℕ) → eq-value-lts.Need-eq-stack-requires (eq-value-claims t) (eq-value-at t) eq-value.Post
 eq-value-eq-stack-requires t c κs =
-    let s : eq-value-lts.Start (eq-value-claims t) (eq-value-at t) eq-value.Post = search in
-    let read2 : eq-value-lts.After-read-value (eq-value-claims t) (eq-value-at t) eq-value.Post = search in
-    let read3 : eq-value-lts.After-read-value2 (eq-value-claims t) (eq-value-at t) eq-value.Post = search in
-    let pair2 : eq-value-lts.After-pair-up (eq-value-claims t) (eq-value-at t) eq-value.Post = search in
     let p : eq-value-lts.After-p3 (eq-value-claims t) (eq-value-at t) eq-value.Post = search in
-    let ok = pair-ok ((s .args) .m) ((s .args) .l) ((s .args) .r) ((read2 .read-value) .result) ((read3 .read-value2) .result) ((read2 .read-value) .ensures .1) ((read3 .read-value2) .ensures .1) ((pair2 .pair-up) .ensures) ((p .p3) .given .1) in
-    let t0 = (s .pre) .0 in
-    let rl = (s .pre) .1 .1 in
-    let rr = (s .pre) .1 .2 in
+    let u : V-Pair t = search in
+    let v = v-read t u in
+    let w = v-read2 t u in
+    let s = v-start t u in
+    let ok = pair-ok (s .args .k .m) (s .args .l) (s .args .r) (v .read-value .result) (w .read-value2 .result) (v .read-value .ensures .1) (w .read-value2 .ensures .1) (u .pair-up .ensures) (p .p3 .given .1) in
+    let t0 = s .pre .0 in
+    let rl = s .pre .1 .1 in
+    let rr = s .pre .1 .2 in
     let o0 = ok .0 in
     let o1 = ok .1 in
-    (omega arith, (tabled-low (tab ((s .args) .rows .now) ((s .args) .parts .now)) ((s .args) .args .now) ((p .p3) .given .0 .0) ((p .p3) .given .0 .1 .0) ((s .pre) .1 .0) (omega arith) (omega arith), omega arith, omega arith, spare-low ((s .args) .m) ((s .args) .l) ((s .args) .r) _ _ ((p .p3) .given .0 .0) ((p .p3) .given .0 .1 .0) ((s .pre) .1 .3) (omega arith) (omega arith)))
+    (omega arith, (tabled-low (tab (s .args .rows .now) (s .args .parts .now)) (s .args .args .now) (p .p3 .given .0 .0) (p .p3 .given .0 .1 .0) (s .pre .1 .0) (omega arith) (omega arith), omega arith, omega arith, spare-low (s .args .k .m) (s .args .l) (s .args .r) _ (p .p3 .given .0 .0) (p .p3 .given .0 .1 .0) (s .pre .1 .3) (omega arith) (omega arith)))
 
 eq-value-enum-known-p-4 : (t : ℕ) → eq-value-lts.Need-enum-known-p-4 (eq-value-claims t) (eq-value-at t) eq-value.Post
 eq-value-enum-known-p-4 t c = search
 
 eq-value-eq-code-requires : (t : ℕ) → eq-value-lts.Need-eq-code-requires (eq-value-claims t) (eq-value-at t) eq-value.Post
 eq-value-eq-code-requires t c κs =
-    let s : eq-value-lts.Start (eq-value-claims t) (eq-value-at t) eq-value.Post = search in
-    let read2 : eq-value-lts.After-read-value (eq-value-claims t) (eq-value-at t) eq-value.Post = search in
-    let read3 : eq-value-lts.After-read-value2 (eq-value-claims t) (eq-value-at t) eq-value.Post = search in
-    let pair2 : eq-value-lts.After-pair-up (eq-value-claims t) (eq-value-at t) eq-value.Post = search in
     let p : eq-value-lts.After-p4 (eq-value-claims t) (eq-value-at t) eq-value.Post = search in
-    let ok = pair-ok ((s .args) .m) ((s .args) .l) ((s .args) .r) ((read2 .read-value) .result) ((read3 .read-value2) .result) ((read2 .read-value) .ensures .1) ((read3 .read-value2) .ensures .1) ((pair2 .pair-up) .ensures) ((p .p4) .given .1) in
-    let t0 = (s .pre) .0 in
-    let rl = (s .pre) .1 .1 in
-    let rr = (s .pre) .1 .2 in
-    (omega arith, (((s .pre) .1 .0), rl, rr, ok .0, ok .1, ok .2, ok .3, ((s .pre) .1 .3)))
+    let u : V-Pair t = search in
+    let v = v-read t u in
+    let w = v-read2 t u in
+    let s = v-start t u in
+    let ok = pair-ok (s .args .k .m) (s .args .l) (s .args .r) (v .read-value .result) (w .read-value2 .result) (v .read-value .ensures .1) (w .read-value2 .ensures .1) (u .pair-up .ensures) (p .p4 .given .1) in
+    let t0 = s .pre .0 in
+    let rl = s .pre .1 .1 in
+    let rr = s .pre .1 .2 in
+    (omega arith, (s .pre .1 .0, rl, rr, ok .0, ok .1, ok .2, ok .3, s .pre .1 .3))
 
 eq-value-returns-3 : (t : ℕ) → eq-value-lts.Need-returns-3 (eq-value-claims t) (eq-value-at t) eq-value.Post
 eq-value-returns-3 t c =
-    let s : eq-value-lts.Start (eq-value-claims t) (eq-value-at t) eq-value.Post = search in
-    let read2 : eq-value-lts.After-read-value (eq-value-claims t) (eq-value-at t) eq-value.Post = search in
-    let read3 : eq-value-lts.After-read-value2 (eq-value-claims t) (eq-value-at t) eq-value.Post = search in
-    let pair2 : eq-value-lts.After-pair-up (eq-value-claims t) (eq-value-at t) eq-value.Post = search in
-    value-pair (tab _ _) (argsOf (tab _ _) _ _) _ _ _ _ _ _ _ (length-args (tab _ _) _ _) ((read2 .read-value) .ensures .0) ((read3 .read-value2) .ensures .0) ((read3 .read-value2) .ensures .1) ((pair2 .pair-up) .ensures) ((c .enum-told) .given .1)
+    let u : V-Pair t = search in
+    let v = v-read t u in
+    let w = v-read2 t u in
+    let s = v-start t u in
+    value-pair (tab _ _) (argsOf (tab _ _) _ _) _ _ _ _ _ _ _ (length-args (tab _ _) _ _) (v .read-value .ensures .0) (w .read-value2 .ensures .0) (w .read-value2 .ensures .1) (u .pair-up .ensures) (c .enum-told .given .1)
 
 eq-value-returns-4 : (t : ℕ) → eq-value-lts.Need-returns-4 (eq-value-claims t) (eq-value-at t) eq-value.Post
 eq-value-returns-4 t c =
-    let s : eq-value-lts.Start (eq-value-claims t) (eq-value-at t) eq-value.Post = search in
-    let read2 : eq-value-lts.After-read-value (eq-value-claims t) (eq-value-at t) eq-value.Post = search in
-    let read3 : eq-value-lts.After-read-value2 (eq-value-claims t) (eq-value-at t) eq-value.Post = search in
-    let pair2 : eq-value-lts.After-pair-up (eq-value-claims t) (eq-value-at t) eq-value.Post = search in
-    value-pair (tab _ _) (argsOf (tab _ _) _ _) _ _ _ _ _ _ _ (length-args (tab _ _) _ _) ((read2 .read-value) .ensures .0) ((read3 .read-value2) .ensures .0) ((read3 .read-value2) .ensures .1) ((pair2 .pair-up) .ensures) ((c .enum-told2) .given .1)
+    let u : V-Pair t = search in
+    let v = v-read t u in
+    let w = v-read2 t u in
+    let s = v-start t u in
+    value-pair (tab _ _) (argsOf (tab _ _) _ _) _ _ _ _ _ _ _ (length-args (tab _ _) _ _) (v .read-value .ensures .0) (w .read-value2 .ensures .0) (w .read-value2 .ensures .1) (u .pair-up .ensures) (c .enum-told2 .given .1)
 
 eq-value-same-length : (t : ℕ) → eq-value-lts.Need-same-length (eq-value-claims t) (eq-value-at t) eq-value.Post
 eq-value-same-length t c = search
 
+eq-value-returns-5 : (t : ℕ) → eq-value-lts.Need-returns-5 (eq-value-claims t) (eq-value-at t) eq-value.Post
+eq-value-returns-5 t c =
+    let e : eq-value-lts.After-eq-value (eq-value-claims t) (eq-value-at t) eq-value.Post = search in
+    let i : eq-value-lts.Else2 (eq-value-claims t) (eq-value-at t) eq-value.Post = search in
+    let b : V-Is t = search in
+    let a : V-At t = search in
+    let p : eq-value-lts.After-p (eq-value-claims t) (eq-value-at t) eq-value.Post = search in
+    let u : V-Pair t = search in
+    let v = v-read t u in
+    let w = v-read2 t u in
+    let s = v-start t u in
+    let ok = pair-ok (s .args .k .m) (s .args .l) (s .args .r) (v .read-value .result) (w .read-value2 .result) (v .read-value .ensures .1) (w .read-value2 .ensures .1) (u .pair-up .ensures) (p .p .given .1) in
+    filled-value (tab (s .args .rows .now) (s .args .parts .now)) (s .args .args .now) (s .args .k .m) (s .args .k .by) (s .args .k .d) (s .args .k .by2) (s .args .k .d2) (s .args .r) (p .p .given .0 .0) (a .at .result) ok (a .at .ensures .0) (b .is-stack .ensures) (i .if2 .left) (e .eq-value .ensures) ∙ value-pair (tab (s .args .rows .now) (s .args .parts .now)) (argsOf (tab (s .args .rows .now) (s .args .parts .now)) (s .args .args .now) (s .args .k .m)) (s .args .k .by) (s .args .k .d) (s .args .k .by2) (s .args .k .d2) (s .args .k .m) (s .args .l) (s .args .r) (length-args (tab (s .args .rows .now) (s .args .parts .now)) (s .args .args .now) (s .args .k .m)) (v .read-value .ensures .0) (w .read-value2 .ensures .0) (w .read-value2 .ensures .1) (u .pair-up .ensures) (p .p .given .1)
+
 eq-value-same-length-2 : (t : ℕ) → eq-value-lts.Need-same-length-2 (eq-value-claims t) (eq-value-at t) eq-value.Post
 eq-value-same-length-2 t c = search
 
-eq-value-returns-5 : (t : ℕ) → eq-value-lts.Need-returns-5 (eq-value-claims t) (eq-value-at t) eq-value.Post
-eq-value-returns-5 t c =
-    let s = c .before .before .before .before .before .before .before .before .before .before .before .before .before .before .before .before .before .before .before .before .before .before .before in
-    let read2 = c .before .before .before .before .before .before .before .before .before .before .before .before .before .before .before in
-    let read3 = c .before .before .before .before .before .before .before .before .before .before .before .before .before .before in
-    let pair2 = c .before .before .before .before .before .before .before .before .before .before .before .before .before in
-    let p2 = c .before .before .before .before .before .before .before .before .before .before .before in
-    let at2 = c .before .before .before .before .before .before .before .before .before in
-    let isst = c .before .before .before .before .before .before .before .before in
-    let if = c .before .before .before .before .before .before .before in
-    let eqva = c .before .before .before .before in
-    let ok = pair-ok ((s .args) .m) ((s .args) .l) ((s .args) .r) ((read2 .read-value) .result) ((read3 .read-value2) .result) ((read2 .read-value) .ensures .1) ((read3 .read-value2) .ensures .1) ((pair2 .pair-up) .ensures) ((p2 .p) .given .1) in
-    filled-value (tab ((s .args) .rows .now) ((s .args) .parts .now)) ((s .args) .args .now) ((s .args) .m) ((s .args) .by) ((s .args) .d) ((s .args) .by2) ((s .args) .d2) ((s .args) .r) ((p2 .p) .given .0 .0) ((at2 .at) .result) ok ((at2 .at) .ensures .0) ((isst .is-stack) .ensures) ((if .if2) .left) ((eqva .eq-value) .ensures) ∙ value-pair (tab ((s .args) .rows .now) ((s .args) .parts .now)) (argsOf (tab ((s .args) .rows .now) ((s .args) .parts .now)) ((s .args) .args .now) ((s .args) .m)) ((s .args) .by) ((s .args) .d) ((s .args) .by2) ((s .args) .d2) ((s .args) .m) ((s .args) .l) ((s .args) .r) (length-args (tab ((s .args) .rows .now) ((s .args) .parts .now)) ((s .args) .args .now) ((s .args) .m)) ((read2 .read-value) .ensures .0) ((read3 .read-value2) .ensures .0) ((read3 .read-value2) .ensures .1) ((pair2 .pair-up) .ensures) ((p2 .p) .given .1)
+eq-value-returns-6 : (t : ℕ) → eq-value-lts.Need-returns-6 (eq-value-claims t) (eq-value-at t) eq-value.Post
+eq-value-returns-6 t c =
+    let e : eq-value-lts.After-eq-parts (eq-value-claims t) (eq-value-at t) eq-value.Post = search in
+    let p : eq-value-lts.After-p2 (eq-value-claims t) (eq-value-at t) eq-value.Post = search in
+    let u : V-Pair t = search in
+    let v = v-read t u in
+    let w = v-read2 t u in
+    let s = v-start t u in
+    e .eq-parts .ensures ∙ value-pair (tab _ _) (argsOf (tab _ _) _ _) _ _ _ _ _ _ _ (length-args (tab _ _) _ _) (v .read-value .ensures .0) (w .read-value2 .ensures .0) (w .read-value2 .ensures .1) (u .pair-up .ensures) (p .p2 .given .1)
 
 eq-value-same-length-3 : (t : ℕ) → eq-value-lts.Need-same-length-3 (eq-value-claims t) (eq-value-at t) eq-value.Post
 eq-value-same-length-3 t c = search
 
+eq-value-returns-7 : (t : ℕ) → eq-value-lts.Need-returns-7 (eq-value-claims t) (eq-value-at t) eq-value.Post
+eq-value-returns-7 t c =
+    let e : eq-value-lts.After-eq-stack (eq-value-claims t) (eq-value-at t) eq-value.Post = search in
+    let p : eq-value-lts.After-p3 (eq-value-claims t) (eq-value-at t) eq-value.Post = search in
+    let u : V-Pair t = search in
+    let v = v-read t u in
+    let w = v-read2 t u in
+    let s = v-start t u in
+    e .eq-stack .ensures ∙ value-pair (tab _ _) (argsOf (tab _ _) _ _) _ _ _ _ _ _ _ (length-args (tab _ _) _ _) (v .read-value .ensures .0) (w .read-value2 .ensures .0) (w .read-value2 .ensures .1) (u .pair-up .ensures) (p .p3 .given .1)
+
 eq-value-same-length-4 : (t : ℕ) → eq-value-lts.Need-same-length-4 (eq-value-claims t) (eq-value-at t) eq-value.Post
 eq-value-same-length-4 t c = search
 
-eq-value-returns-6 : (t : ℕ) → eq-value-lts.Need-returns-6 (eq-value-claims t) (eq-value-at t) eq-value.Post
-eq-value-returns-6 t c =
-    let s = c .before .before .before .before .before .before .before .before .before .before .before .before .before .before .before .before .before .before .before .before in
-    let read2 = c .before .before .before .before .before .before .before .before .before .before .before .before in
-    let read3 = c .before .before .before .before .before .before .before .before .before .before .before in
-    let pair2 = c .before .before .before .before .before .before .before .before .before .before in
-    let p = c .before .before .before .before .before .before .before .before in
-    let eqpa = c .before .before .before .before in
-    (eqpa .eq-parts) .ensures ∙ value-pair (tab _ _) (argsOf (tab _ _) _ _) _ _ _ _ _ _ _ (length-args (tab _ _) _ _) ((read2 .read-value) .ensures .0) ((read3 .read-value2) .ensures .0) ((read3 .read-value2) .ensures .1) ((pair2 .pair-up) .ensures) ((p .p2) .given .1)
-
-eq-value-same-length-5 : (t : ℕ) → eq-value-lts.Need-same-length-5 (eq-value-claims t) (eq-value-at t) eq-value.Post
-eq-value-same-length-5 t c = search
-
-eq-value-same-length-6 : (t : ℕ) → eq-value-lts.Need-same-length-6 (eq-value-claims t) (eq-value-at t) eq-value.Post
-eq-value-same-length-6 t c = search
-
-eq-value-returns-7 : (t : ℕ) → eq-value-lts.Need-returns-7 (eq-value-claims t) (eq-value-at t) eq-value.Post
-eq-value-returns-7 t c =
-    let s = c .before .before .before .before .before .before .before .before .before .before .before .before .before .before .before .before .before .before .before .before in
-    let read2 = c .before .before .before .before .before .before .before .before .before .before .before .before in
-    let read3 = c .before .before .before .before .before .before .before .before .before .before .before in
-    let pair2 = c .before .before .before .before .before .before .before .before .before .before in
-    let p = c .before .before .before .before .before .before .before .before in
-    let eqst = c .before .before .before .before in
-    (eqst .eq-stack) .ensures ∙ value-pair (tab _ _) (argsOf (tab _ _) _ _) _ _ _ _ _ _ _ (length-args (tab _ _) _ _) ((read2 .read-value) .ensures .0) ((read3 .read-value2) .ensures .0) ((read3 .read-value2) .ensures .1) ((pair2 .pair-up) .ensures) ((p .p3) .given .1)
-
-eq-value-same-length-7 : (t : ℕ) → eq-value-lts.Need-same-length-7 (eq-value-claims t) (eq-value-at t) eq-value.Post
-eq-value-same-length-7 t c = search
-
-eq-value-same-length-8 : (t : ℕ) → eq-value-lts.Need-same-length-8 (eq-value-claims t) (eq-value-at t) eq-value.Post
-eq-value-same-length-8 t c = search
-
 eq-value-returns-8 : (t : ℕ) → eq-value-lts.Need-returns-8 (eq-value-claims t) (eq-value-at t) eq-value.Post
 eq-value-returns-8 t c =
-    let s = c .before .before .before .before .before .before .before .before .before .before .before .before .before .before .before .before .before .before .before .before in
-    let read2 = c .before .before .before .before .before .before .before .before .before .before .before .before in
-    let read3 = c .before .before .before .before .before .before .before .before .before .before .before in
-    let pair2 = c .before .before .before .before .before .before .before .before .before .before in
-    let p = c .before .before .before .before .before .before .before .before in
-    let eqco = c .before .before .before .before in
-    (eqco .eq-code) .ensures ∙ value-pair (tab _ _) (argsOf (tab _ _) _ _) _ _ _ _ _ _ _ (length-args (tab _ _) _ _) ((read2 .read-value) .ensures .0) ((read3 .read-value2) .ensures .0) ((read3 .read-value2) .ensures .1) ((pair2 .pair-up) .ensures) ((p .p4) .given .1)
+    let e : eq-value-lts.After-eq-code (eq-value-claims t) (eq-value-at t) eq-value.Post = search in
+    let p : eq-value-lts.After-p4 (eq-value-claims t) (eq-value-at t) eq-value.Post = search in
+    let u : V-Pair t = search in
+    let v = v-read t u in
+    let w = v-read2 t u in
+    let s = v-start t u in
+    e .eq-code .ensures ∙ value-pair (tab _ _) (argsOf (tab _ _) _ _) _ _ _ _ _ _ _ (length-args (tab _ _) _ _) (v .read-value .ensures .0) (w .read-value2 .ensures .0) (w .read-value2 .ensures .1) (u .pair-up .ensures) (p .p4 .given .1)
 
 pub +eq-code+eq-parts+eq-stack+eq-value-spec : {M : Type 1} → statement M
 +eq-code+eq-parts+eq-stack+eq-value-spec =
-    close μ-eq-code μ-eq-parts μ-eq-stack μ-eq-value (λ t. eq-code-lts.spec (eq-code-claims t)
-    (eq-code-at t)
-    eq-code.Post
-    (eq-code-letter-count-requires t)
-    (eq-code-letter-count-requires-2 t)
-    (eq-code-add-same-letters t)
-    (eq-code-add-same-letters-2 t)
-    (eq-code-same-letters-requires t)
-    (eq-code-add-eq-stack t)
-    (eq-code-add-eq-stack-2 t)
-    (eq-code-eq-stack-requires t)
-    (eq-code-add-eq-parts t)
-    (eq-code-add-eq-parts-2 t)
-    (eq-code-eq-parts-requires t)
-    (eq-code-same-length t)
-    (eq-code-same-length-2 t)
-    (eq-code-returns t)
-    (eq-code-same-length-3 t)
-    (eq-code-same-length-4 t)
-    (eq-code-returns-2 t)
-    (eq-code-returns-3 t))
-    (λ t. eq-parts-lts.spec (eq-parts-claims t)
-    (eq-parts-at t)
-    eq-parts.Post
-    eq-parts-Inv-loop
-    eq-parts-μ-loop
-    (eq-parts-loop-holds t)
-    (eq-parts-add-part t)
-    (eq-parts-part-requires t)
-    (eq-parts-add-part-2 t)
-    (eq-parts-part-requires-2 t)
-    (eq-parts-two-slots-requires t)
-    (eq-parts-enum-told t)
-    (eq-parts-same-length t)
-    (eq-parts-same-length-2 t)
-    (eq-parts-returns t)
-    (eq-parts-enum-known-h t)
-    (eq-parts-eq-value-requires t)
-    (eq-parts-same-length-3 t)
-    (eq-parts-same-length-4 t)
-    (eq-parts-returns-2 t)
-    (eq-parts-add-i t)
-    (eq-parts-loop-less t)
-    (eq-parts-loop-again t)
-    (eq-parts-same-length-5 t)
-    (eq-parts-same-length-6 t)
-    (eq-parts-returns-3 t))
-    (λ t. eq-stack-lts.spec (eq-stack-claims t)
-    (eq-stack-at t)
-    eq-stack.Post
-    eq-stack-Inv-loop
-    eq-stack-μ-loop
-    (eq-stack-same-stack-requires t)
-    (eq-stack-returns t)
-    (eq-stack-slice-write-left t)
-    (eq-stack-slice-write-right t)
-    (eq-stack-loop-holds t)
-    (eq-stack-next-pair-requires t)
-    (eq-stack-enum-told t)
-    (eq-stack-same-length t)
-    (eq-stack-same-length-2 t)
-    (eq-stack-returns-2 t)
-    (eq-stack-enum-told-2 t)
-    (eq-stack-same-length-3 t)
-    (eq-stack-same-length-4 t)
-    (eq-stack-returns-3 t)
-    (eq-stack-enum-known-s t)
-    (eq-stack-loop-less t)
-    (eq-stack-loop-again t)
-    (eq-stack-enum-known-s-2 t)
-    (eq-stack-mul-eq-value t)
-    (eq-stack-sub-eq-value t)
-    (eq-stack-part-eq-value-start t)
-    (eq-stack-part-eq-value-end t)
-    (eq-stack-mul-eq-value-2 t)
-    (eq-stack-sub-eq-value-2 t)
-    (eq-stack-part-eq-value-start-2 t)
-    (eq-stack-part-eq-value-end-2 t)
-    (eq-stack-eq-value-requires t)
-    (eq-stack-same-length-5 t)
-    (eq-stack-same-length-6 t)
-    (eq-stack-returns-4 t)
-    (eq-stack-loop-less-2 t)
-    (eq-stack-loop-again-2 t)
-    (eq-stack-enum-known-s-3 t)
-    (eq-stack-mul-eq-value-3 t)
-    (eq-stack-sub-eq-value-3 t)
-    (eq-stack-part-eq-value-start-3 t)
-    (eq-stack-part-eq-value-end-3 t)
-    (eq-stack-mul-eq-value-4 t)
-    (eq-stack-sub-eq-value-4 t)
-    (eq-stack-part-eq-value-start-4 t)
-    (eq-stack-part-eq-value-end-4 t)
-    (eq-stack-eq-value-requires-2 t)
-    (eq-stack-same-length-7 t)
-    (eq-stack-same-length-8 t)
-    (eq-stack-returns-5 t)
-    (eq-stack-loop-less-3 t)
-    (eq-stack-loop-again-3 t))
-    λ t. eq-value-lts.spec (eq-value-claims t)
-    (eq-value-at t)
-    eq-value.Post
-    (eq-value-same-place-requires t)
-    (eq-value-returns t)
-    (eq-value-read-value-requires t)
-    (eq-value-read-value-requires-2 t)
-    (eq-value-pair-up-requires t)
-    (eq-value-enum-told t)
-    (eq-value-enum-told-2 t)
-    (eq-value-enum-known-p t)
-    (eq-value-at-requires t)
-    (eq-value-is-stack-requires t)
-    (eq-value-returns-2 t)
-    (eq-value-add-eq-value t)
-    (eq-value-eq-value-requires t)
-    (eq-value-enum-known-p-2 t)
-    (eq-value-eq-parts-requires t)
-    (eq-value-enum-known-p-3 t)
-    (eq-value-eq-stack-requires t)
-    (eq-value-enum-known-p-4 t)
-    (eq-value-eq-code-requires t)
-    (eq-value-returns-3 t)
-    (eq-value-returns-4 t)
-    (eq-value-same-length t)
-    (eq-value-same-length-2 t)
-    (eq-value-returns-5 t)
-    (eq-value-same-length-3 t)
-    (eq-value-same-length-4 t)
-    (eq-value-returns-6 t)
-    (eq-value-same-length-5 t)
-    (eq-value-same-length-6 t)
-    (eq-value-returns-7 t)
-    (eq-value-same-length-7 t)
-    (eq-value-same-length-8 t)
-    (eq-value-returns-8 t)
+    close μ-eq-code μ-eq-parts μ-eq-stack μ-eq-value
+    (λ t. eq-code-lts.spec (eq-code-claims t) (eq-code-at t) eq-code.Post (eq-code-letter-count-requires t)
+    (eq-code-letter-count-requires-2 t) (eq-code-add-same-letters t) (eq-code-add-same-letters-2 t) (eq-code-same-letters-requires t)
+    (eq-code-cast-t16 t) (eq-code-add-t17 t) (eq-code-cast-t18 t) (eq-code-cast-t19 t) (eq-code-add-t20 t) (eq-code-cast-t21 t)
+    (eq-code-eq-stack-requires t) (eq-code-cast-t25 t) (eq-code-cast-t26 t) (eq-code-eq-parts-requires t) (eq-code-same-length t)
+    (eq-code-returns t) (eq-code-same-length-2 t) (eq-code-returns-2 t) (eq-code-returns-3 t))
+    (λ t. eq-parts-lts.spec (eq-parts-claims t) (eq-parts-at t) eq-parts.Post eq-parts-Inv-loop eq-parts-μ-loop (eq-parts-cast-p t)
+    (eq-parts-cast-q t) (eq-parts-cast-n t) (eq-parts-loop-holds t) (eq-parts-add-part t) (eq-parts-part-requires t)
+    (eq-parts-add-part-2 t) (eq-parts-part-requires-2 t) (eq-parts-two-slots-requires t) (eq-parts-enum-told t) (eq-parts-same-length t)
+    (eq-parts-returns t) (eq-parts-enum-known-h t) (eq-parts-eq-value-requires t) (eq-parts-same-length-2 t) (eq-parts-returns-2 t)
+    (eq-parts-add-i t) (eq-parts-loop-less t) (eq-parts-loop-again t) (eq-parts-same-length-3 t) (eq-parts-returns-3 t))
+    (λ t. eq-stack-lts.spec (eq-stack-claims t) (eq-stack-at t) eq-stack.Post eq-stack-Inv-loop eq-stack-μ-loop
+    (eq-stack-same-stack-requires t) (eq-stack-returns t) (eq-stack-store-requires t) (eq-stack-store-requires-2 t)
+    (eq-stack-loop-holds t) (eq-stack-next-pair-requires t) (eq-stack-enum-told t) (eq-stack-same-length t) (eq-stack-returns-2 t)
+    (eq-stack-enum-told-2 t) (eq-stack-same-length-2 t) (eq-stack-returns-3 t) (eq-stack-enum-known-s t) (eq-stack-loop-less t)
+    (eq-stack-loop-again t) (eq-stack-enum-known-s-2 t) (eq-stack-greater-requires t) (eq-stack-mul-eq-value t) (eq-stack-sub-eq-value t)
+    (eq-stack-part-eq-value-start t) (eq-stack-part-eq-value-end t) (eq-stack-eq-value-requires t) (eq-stack-same-length-3 t)
+    (eq-stack-returns-4 t) (eq-stack-loop-less-2 t) (eq-stack-loop-again-2 t) (eq-stack-enum-known-s-3 t) (eq-stack-greater-requires-2 t)
+    (eq-stack-mul-eq-value-2 t) (eq-stack-sub-eq-value-2 t) (eq-stack-part-eq-value-start-2 t) (eq-stack-part-eq-value-end-2 t)
+    (eq-stack-eq-value-requires-2 t) (eq-stack-same-length-4 t) (eq-stack-returns-5 t) (eq-stack-loop-less-3 t) (eq-stack-loop-again-3 t))
+    (λ t. eq-value-lts.spec (eq-value-claims t) (eq-value-at t) eq-value.Post (eq-value-same-place-requires t) (eq-value-returns t)
+    (eq-value-cast-read-value t) (eq-value-cast-read-value-2 t) (eq-value-cast-read-value-3 t) (eq-value-read-value-requires t)
+    (eq-value-cast-read-value-4 t) (eq-value-cast-read-value-5 t) (eq-value-read-value-requires-2 t) (eq-value-pair-up-requires t)
+    (eq-value-enum-told t) (eq-value-enum-told-2 t) (eq-value-enum-known-p t) (eq-value-at-requires t) (eq-value-is-stack-requires t)
+    (eq-value-returns-2 t) (eq-value-add-eq-value t) (eq-value-eq-value-requires t) (eq-value-enum-known-p-2 t) (eq-value-cast-t34 t)
+    (eq-value-cast-t35 t) (eq-value-cast-t36 t) (eq-value-eq-parts-requires t) (eq-value-enum-known-p-3 t) (eq-value-eq-stack-requires t)
+    (eq-value-enum-known-p-4 t) (eq-value-eq-code-requires t) (eq-value-returns-3 t) (eq-value-returns-4 t) (eq-value-same-length t)
+    (eq-value-returns-5 t) (eq-value-same-length-2 t) (eq-value-returns-6 t) (eq-value-same-length-3 t) (eq-value-returns-7 t)
+    (eq-value-same-length-4 t) (eq-value-returns-8 t))

@@ -1,8 +1,7 @@
-use mathlib.Core.Path.{_≡_, refl, sym, _∙_, ap}
-use Prim.Native.Nat.{_+_, _-_}
+use mathlib.Core.Path.{sym}
 use native.Mathlib.Omega.{arith}
-use lib.ListN.{length, replicate}
-use Rattle.types_rows.specs.Read.{tab, argsOf}
+use Rattle.types_rows.specs.Read.{tab}
+use Rattle.types_equal.proofs.Items.{spare-kept, length-first}
 use Rattle.types_equal.proofs.Plain.{link-few, tabled-plain, spare-plain, values-are}
 use borrow.Author.Needs.{needs}
 use Rattle.types_equal.proofs.equal_values.Statement.{statement}
@@ -14,31 +13,36 @@ link-of-requires c κs = search
 link-of-requires-2 : tie.Need-link-of-requires-2
 link-of-requires-2 c κs = search
 
-slice-aggregate-eq-value : tie.Need-slice-aggregate-eq-value
-slice-aggregate-eq-value c = search
+slice-relend-prefix-eq-value : tie.Need-slice-relend-prefix-eq-value
+slice-relend-prefix-eq-value c = search needs
 
-slice-aggregate-eq-value-2 : tie.Need-slice-aggregate-eq-value-2
-slice-aggregate-eq-value-2 c = search
+slice-aggregate-eq-value : tie.Need-slice-aggregate-eq-value
+slice-aggregate-eq-value c =
+    let s : tie.Start = search in
+    sym (length-first 1543 (s .args .pending .now) (s .pre .1))
 
 eq-value-requires : tie.Need-eq-value-requires
 eq-value-requires c κs =
+    let x : tie.After-link-of = search in
+    let y : tie.After-link-of2 = search in
     let s : tie.Start = search in
-    let link2 : tie.After-link-of = search in
-    let link3 : tie.After-link-of2 = search in
-    let fw = (s .pre) in
-    let a = link-few (tab ((s .args) .rows .now) ((s .args) .parts .now)) ((s .args) .rows .now) ((s .args) .n) ((link2 .link-of) .result) ((s .args) .l) ((link2 .link-of) .ensures) in
-    let b = link-few (tab ((s .args) .rows .now) ((s .args) .parts .now)) ((s .args) .rows .now) ((s .args) .n) ((link3 .link-of2) .result) ((s .args) .r) ((link3 .link-of2) .ensures) in
-    (tabled-plain (tab ((s .args) .rows .now) ((s .args) .parts .now)) ((s .args) .rows .now) ((s .args) .n) ((link2 .link-of) .result) ((link3 .link-of2) .result) ((s .args) .l) ((s .args) .r) fw ((link2 .link-of) .ensures) ((link3 .link-of2) .ensures), omega arith, omega arith, spare-plain (tab ((s .args) .rows .now) ((s .args) .parts .now)) ((s .args) .rows .now) ((s .args) .n) ((link2 .link-of) .result) ((link3 .link-of2) .result) ((s .args) .l) ((s .args) .r) fw ((link2 .link-of) .ensures) ((link3 .link-of2) .ensures))
+    let fw = s .pre .0 in
+    let a = link-few (tab (s .args .rows .now) (s .args .parts .now)) (s .args .rows .now) (s .args .n) (x .link-of .result) (s .args .l) (x .link-of .ensures) in
+    let b = link-few (tab (s .args .rows .now) (s .args .parts .now)) (s .args .rows .now) (s .args .n) (y .link-of2 .result) (s .args .r) (y .link-of2 .ensures) in
+    (tabled-plain (tab (s .args .rows .now) (s .args .parts .now)) (s .args .rows .now) (s .args .n) (x .link-of .result) (y .link-of2 .result) (s .args .l) (s .args .r) fw (x .link-of .ensures) (y .link-of2 .ensures), omega arith, omega arith, spare-kept 0 (x .link-of .result) (y .link-of2 .result) _ _ (spare-plain (tab (s .args .rows .now) (s .args .parts .now)) (s .args .rows .now) (s .args .n) (x .link-of .result) (y .link-of2 .result) (s .args .l) (s .args .r) fw (x .link-of .ensures) (y .link-of2 .ensures)) (length-first 1543 (s .args .pending .now) (s .pre .1)))
+
+same-length : tie.Need-same-length
+same-length c = search needs
 
 returns : tie.Need-returns
 returns c =
+    let e : tie.After-eq-value = search in
+    let x : tie.After-link-of = search in
+    let y : tie.After-link-of2 = search in
     let s : tie.Start = search in
-    let link2 : tie.After-link-of = search in
-    let link3 : tie.After-link-of2 = search in
-    let eqva : tie.After-eq-value = search in
-    values-are (tab _ _) _ _ _ _ _ _ ((link2 .link-of) .ensures) ((link3 .link-of2) .ensures) ((eqva .eq-value) .ensures)
+    values-are (tab _ _) _ _ _ _ _ _ (x .link-of .ensures) (y .link-of2 .ensures) (e .eq-value .ensures)
 
 pub equal-values-spec : {M : Type 1} → statement M
 equal-values-spec =
     tie.close
-    (tie.spec link-of-requires link-of-requires-2 slice-aggregate-eq-value slice-aggregate-eq-value-2 eq-value-requires returns)
+    (tie.spec link-of-requires link-of-requires-2 slice-relend-prefix-eq-value slice-aggregate-eq-value eq-value-requires same-length returns)

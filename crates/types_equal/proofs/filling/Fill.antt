@@ -33,7 +33,7 @@ use Rattle.types_equal.proofs.Items.{room-most}
 use Rattle.types_equal.proofs.Values.{length-letters, letters-at}
 use Rattle.types_equal.proofs.Plain.{plain-value, plain-stack, plain-parts, plain-code, link-few, link-type}
 
-pub big-most : (m : ℕ) → big m ≤ 68719476736
+pub big-most : (m : ℕ) → big m ≤ 134217728
 big-most zero = omega arith
 big-most (suc m) = omega arith
 
@@ -181,12 +181,12 @@ module _ (τ : RowTable) (n : ℕ) where
   pub tabled-args : (args : List ℕ) (l r c t : ℕ) → n ≤ 514 → allBelow n args ≡ true → l ≡ lower (n + 1) c → r ≡ lower (n + 1) t → Tabled τ args (length args) l r
   tabled-args args l r c t k e f g = record { top = n; few = k; left = link-few τ args n l c f; right = link-few τ args n r t g; given = λ j h. below-at n args j e h }
 
-  pub spare-args : (args : List ℕ) (l r c t : ℕ) → n ≤ 514 → l ≡ lower (n + 1) c → r ≡ lower (n + 1) t → Spare (length args) l r 1030 516
+  pub spare-args : (args : List ℕ) (l r c t : ℕ) → n ≤ 514 → l ≡ lower (n + 1) c → r ≡ lower (n + 1) t → Spare (length args) l r 1543
   spare-args args l r c t k f g =
       let a = link-few τ args n l c f in
       let b = link-few τ args n r t g in
       let d = room-most (length args) in
-      (omega arith, omega arith, omega arith, omega arith)
+      (omega arith, omega arith)
 
   pub fill-types : (args : List ℕ) (l r c t : ℕ) {o : Bool} → allBelow n args ≡ true → l ≡ lower (n + 1) c → r ≡ lower (n + 1) t → o ≡ fillsTo (argsOf τ args (length args)) (meanV τ l) (meanV τ r)
       → o ≡ fillsTo (map (λ (x : ℕ). getD (typesOf (rowsIn τ n)) x noArg) args) (typeAt value (typesOf (rowsIn τ n)) c) (typeAt value (typesOf (rowsIn τ n)) t)

@@ -22,64 +22,64 @@ use Rattle.types_equal.proofs.pending.Meets.{raised, no-args, meets-non
 
 -- ---- entries of the two sorts
 module _ (τ : RowTable) (A : List Arg) (by d : ℕ) where
-  pub own-type : (e : ℕ) → e < 65537 → entryType τ A by d e ≡ stackUnder τ A by d e
+  pub own-type : (e : ℕ) → e < 32768 → entryType τ A by d e ≡ stackUnder τ A by d e
   unfolding entryType
-  own-type e h = rw (lt-ltb e 65537 h) refl
+  own-type e h = rw (lt-ltb e 32768 h) refl
 
-  pub given-type : (h : ℕ) → entryType τ A by d (65537 + h) ≡ stackUnder τ [] d 0 h
+  pub given-type : (h : ℕ) → entryType τ A by d (32768 + h) ≡ stackUnder τ [] d 0 h
   unfolding entryType
-  given-type h = let q : (65537 + h) - 65537 ≡ h = omega arith in rw (le-ltb (65537 + h) 65537 (omega arith), q) refl
+  given-type h = let q : (32768 + h) - 32768 ≡ h = omega arith in rw (le-ltb (32768 + h) 32768 (omega arith), q) refl
 
 module _ (τ : RowTable) (A : List Arg) (d : ℕ) where
-  pub own-meets : (e : ℕ) → e < 65537 → entryMeets τ A d e ≡ meets A d (meanS τ e)
+  pub own-meets : (e : ℕ) → e < 32768 → entryMeets τ A d e ≡ meets A d (meanS τ e)
   unfolding entryMeets
-  own-meets e h = rw (lt-ltb e 65537 h) refl
+  own-meets e h = rw (lt-ltb e 32768 h) refl
 
-  pub given-meets : (h : ℕ) → entryMeets τ A d (65537 + h) ≡ true
+  pub given-meets : (h : ℕ) → entryMeets τ A d (32768 + h) ≡ true
   unfolding entryMeets
-  given-meets h = rw (le-ltb (65537 + h) 65537 (omega arith)) refl
+  given-meets h = rw (le-ltb (32768 + h) 32768 (omega arith)) refl
 
-own-weight : (e : ℕ) → e < 65537 → weight e ≡ e + 515
+own-weight : (e : ℕ) → e < 32768 → weight e ≡ e + 515
 unfolding weight
-own-weight e h = rw (lt-ltb e 65537 h) refl
+own-weight e h = rw (lt-ltb e 32768 h) refl
 
-given-weight : (h : ℕ) → weight (65537 + h) ≡ h
+given-weight : (h : ℕ) → weight (32768 + h) ≡ h
 unfolding weight
-given-weight h = let q : (65537 + h) - 65537 ≡ h = omega arith in rw (le-ltb (65537 + h) 65537 (omega arith), q) refl
+given-weight h = let q : (32768 + h) - 32768 ≡ h = omega arith in rw (le-ltb (32768 + h) 32768 (omega arith), q) refl
 
 -- ---- lower entries
-own-lower : (m e x : ℕ) → e < 65537 → x < e → Lower m e x
+own-lower : (m e x : ℕ) → e < 32768 → x < e → Lower m e x
 own-lower m e x h k =
     let p = own-weight e h in
     let q = own-weight x (omega arith) in
     (omega arith, λ l i f. let g = f .0 h in ((λ z. omega arith), (λ z. absurd (omega arith))))
 
-given-lower : (m h x : ℕ) → h ≤ 514 → x < h → Lower m (65537 + h) (65537 + x)
+given-lower : (m h x : ℕ) → h ≤ 514 → x < h → Lower m (32768 + h) (32768 + x)
 given-lower m h x a k =
     let p = given-weight h in
     let q = given-weight x in
     (omega arith, λ l i f. let g = f .1 (omega arith) in let u = g .2 in ((λ z. absurd (omega arith)), (λ z. (g .0, omega arith, omega arith))))
 
-arg-lower : (m e a : ℕ) → e < 65537 → 0 < m → suc a ≤ 514 → (weight (65538 + a) < weight e) × ((l i : ℕ) → Low m l i e → Low m l i (65538 + a))
+arg-lower : (m e a : ℕ) → e < 32768 → 0 < m → suc a ≤ 514 → (weight (32769 + a) < weight e) × ((l i : ℕ) → Low m l i e → Low m l i (32769 + a))
 arg-lower m e a h k b =
     let p = own-weight e h in
-    let z : 65538 + a ≡ 65537 + suc a = omega arith in
-    let q : weight (65538 + a) ≡ suc a = ap weight z ∙ given-weight (suc a) in
+    let z : 32769 + a ≡ 32768 + suc a = omega arith in
+    let q : weight (32769 + a) ≡ suc a = ap weight z ∙ given-weight (suc a) in
     (omega arith, λ l i f. let g = f .0 h in ((λ u. absurd (omega arith)), (λ u. (k, omega arith, omega arith))))
 
 -- ---- a row in its context
-module _ (τ : RowTable) (args : List ℕ) (m by d e : ℕ) (h : e < 65537) (g : Givens args m) where
+module _ (τ : RowTable) (args : List ℕ) (m by d e : ℕ) (h : e < 32768) (g : Givens args m) where
   abbrev own-args : List Arg
   own-args = argsOf τ args m
 
   arg-is : (j : ℕ) (b : Bool) → j < m → b ≡ isStackAt (τ .rows) (getD args j 0)
-      → stackUnder τ own-args by d e ≡ raise d (ofKind stack (getD own-args j noArg)) → meets own-args d (meanS τ e) ≡ fitsKind stack own-args j → FormOf τ own-args by d m e (cond b (One (65538 + getD args j 0)) Misfit)
+      → stackUnder τ own-args by d e ≡ raise d (ofKind stack (getD own-args j noArg)) → meets own-args d (meanS τ e) ≡ fitsKind stack own-args j → FormOf τ own-args by d m e (cond b (One (32769 + getD args j 0)) Misfit)
   unfolding stackUnder
   arg-is j true l f s t =
       let a : ℕ = getD args j 0 in
-      let z : 65538 + a ≡ 65537 + suc a = omega arith in
-      let y : entryType τ own-args by d (65538 + a) ≡ walk (acting [] d) 0 (meanS τ (suc a)) = ap (entryType τ own-args by d) z ∙ given-type τ own-args by d (suc a) in
-      let x : entryMeets τ own-args d (65538 + a) ≡ true = ap (entryMeets τ own-args d) z ∙ given-meets τ own-args d (suc a) in
+      let z : 32769 + a ≡ 32768 + suc a = omega arith in
+      let y : entryType τ own-args by d (32769 + a) ≡ walk (acting [] d) 0 (meanS τ (suc a)) = ap (entryType τ own-args by d) z ∙ given-type τ own-args by d (suc a) in
+      let x : entryMeets τ own-args d (32769 + a) ≡ true = ap (entryMeets τ own-args d) z ∙ given-meets τ own-args d (suc a) in
       let w = arg-lower m e a h (omega arith) (g j l) in (
         own-type τ own-args by d e h ∙ s ∙ ap (raise d) (arg-type τ args m j a l refl stack) ∙ sym (raised d (meanS τ (suc a))) ∙ sym y,
         own-meets τ own-args d e h ∙ t ∙ fits-stack τ args m j a l refl f ∙ sym x,
@@ -126,7 +126,7 @@ module _ (τ : RowTable) (args : List ℕ) (m by d h : ℕ) (b : h ≤ 514) wher
   abbrev given-args : List Arg
   given-args = argsOf τ args m
 
-  given-is : (s : Stk) → OkS 0 h s → stackUnder τ [] d 0 h ≡ typeS τ [] d 0 s → FormOf τ given-args by d m (65537 + h) (givenForm s)
+  given-is : (s : Stk) → OkS 0 h s → stackUnder τ [] d 0 h ≡ typeS τ [] d 0 s → FormOf τ given-args by d m (32768 + h) (givenForm s)
   given-is Nil ok f = (given-type τ given-args by d h ∙ f, given-meets τ given-args d h)
   given-is (StkVar i) ok f = (given-type τ given-args by d h ∙ f, given-meets τ given-args d h)
   given-is (StkFill j) ok f = absurd (not-suc-le-zero ok)
@@ -147,18 +147,18 @@ module _ (τ : RowTable) (args : List ℕ) (m by d h : ℕ) (b : h ≤ 514) wher
         w,
       )
 
-  pub given-form : (s k : Stk) → s ≡ stackAt (τ .rows) (placeS 0 d 0) h → OkS 0 h s → s ≡ k → FormOf τ given-args by d m (65537 + h) (givenForm k)
+  pub given-form : (s k : Stk) → s ≡ stackAt (τ .rows) (placeS 0 d 0) h → OkS 0 h s → s ≡ k → FormOf τ given-args by d m (32768 + h) (givenForm k)
   given-form s k f ok q = given-is k (subst (λ (z : Stk). OkS 0 h z) q ok) (stack-read τ [] d 0 0 h refl f q)
 
 -- ---- an entry of either sort
-pub entry-given : (τ : RowTable) (A : List Arg) (by d m e : ℕ) (o : Form) → 65537 ≤ e → FormOf τ A by d m (65537 + (e - 65537)) o → FormOf τ A by d m e o
-entry-given τ A by d m e o h f = let q : 65537 + (e - 65537) ≡ e = omega arith in subst (λ z. FormOf τ A by d m z o) q f
+pub entry-given : (τ : RowTable) (A : List Arg) (by d m e : ℕ) (o : Form) → 32768 ≤ e → FormOf τ A by d m (32768 + (e - 32768)) o → FormOf τ A by d m e o
+entry-given τ A by d m e o h f = let q : 32768 + (e - 32768) ≡ e = omega arith in subst (λ z. FormOf τ A by d m z o) q f
 
-pub form-at : (τ : RowTable) (A : List Arg) (by d m e : ℕ) (f k : Form) → FormOf τ A by d m e f → f ≡ k → FormOf τ A by d m e k
-form-at τ A by d m e f k h q = subst (λ (z : Form). FormOf τ A by d m e z) q h
+pub form-at : (τ : RowTable) (A : List Arg) (by d m e e₂ : ℕ) (f k : Form) → e ≡ e₂ → FormOf τ A by d m e f → f ≡ k → FormOf τ A by d m e₂ k
+form-at τ A by d m e e₂ f k p h q = subst (λ z. FormOf τ A by d m z k) p (subst (λ (z : Form). FormOf τ A by d m e z) q h)
 
 -- ---- what the readers need
-pub arg-row : (rows : List ℕ) (a : ℕ) {b : Bool} → b ≡ isStackAt rows a → b ≡ true → One (65538 + a) ≡ argForm rows a
+pub arg-row : (rows : List ℕ) (a : ℕ) {b : Bool} → b ≡ isStackAt rows a → b ≡ true → One (32769 + a) ≡ argForm rows a
 arg-row rows a e f = rw (sym e ∙ f) refl
 
 pub arg-other : (rows : List ℕ) (a : ℕ) {b : Bool} → b ≡ isStackAt rows a → b ≡ false → Misfit ≡ argForm rows a
@@ -173,8 +173,8 @@ ok-join m h x y ok q = subst (λ (z : Stk). OkS m h z) q ok
 pub fill-none : {B : Type 0} (h : ℕ) {j : ℕ} {s : Stk} → OkS 0 h s → s ≡ StkFill j → B
 fill-none h ok q = absurd (not-suc-le-zero (subst (λ (z : Stk). OkS 0 h z) q ok))
 
-pub below-mark : (h : ℕ) → h ≤ 65536 → h < 65537
+pub below-mark : (h : ℕ) → h ≤ 32767 → h < 32768
 below-mark h b = omega arith
 
-pub given-low : (e : ℕ) → e ≤ 66051 → e - 65537 ≤ 514
+pub given-low : (e : ℕ) → e ≤ 33282 → e - 32768 ≤ 514
 given-low e b = omega arith

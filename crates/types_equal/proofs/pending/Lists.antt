@@ -89,21 +89,21 @@ module _ (τ : RowTable) (A : List Arg) (by d : ℕ) where
 
 -- ---- how far an entry may stand
 pub low-fits : (m l i e : ℕ) → Low m l i e → i ≤ l + room m
-low-fits m l i e f = go m f (ltb e 65537) refl
+low-fits m l i e f = go m f (ltb e 32768) refl
   where
-    go : (m : ℕ) → Low m l i e → (t : Bool) → ltb e 65537 ≡ t → i ≤ l + room m
-    go m f true h = let g = f .0 (ltb-true e 65537 h) in omega arith
-    go zero f false h = absurd (not-suc-le-zero (f .1 (ltb-false e 65537 h) .0))
-    go (suc m) f false h = let g = f .1 (ltb-false e 65537 h) .2 in let k = ltb-false e 65537 h in omega arith
+    go : (m : ℕ) → Low m l i e → (t : Bool) → ltb e 32768 ≡ t → i ≤ l + room m
+    go m f true h = let g = f .0 (ltb-true e 32768 h) in omega arith
+    go zero f false h = absurd (not-suc-le-zero (f .1 (ltb-false e 32768 h) .0))
+    go (suc m) f false h = let g = f .1 (ltb-false e 32768 h) .2 in let k = ltb-false e 32768 h in omega arith
 
-pub low-most : (m l i e : ℕ) → l ≤ 65536 → Low m l i e → e ≤ 66051
-low-most m l i e b f = go (ltb e 65537) refl
+pub low-most : (m l i e : ℕ) → Low m l i e → e ≤ 33282
+low-most m l i e f = go (ltb e 32768) refl
   where
-    go : (t : Bool) → ltb e 65537 ≡ t → e ≤ 66051
-    go true h = let g = ltb-true e 65537 h in omega arith
-    go false h = f .1 (ltb-false e 65537 h) .1
+    go : (t : Bool) → ltb e 32768 ≡ t → e ≤ 33282
+    go true h = let g = ltb-true e 32768 h in omega arith
+    go false h = f .1 (ltb-false e 32768 h) .1
 
-low-down : (m l i x : ℕ) → Low m l (suc i) x → Low m l i x
+pub low-down : (m l i x : ℕ) → Low m l (suc i) x → Low m l i x
 low-down m l i x f = ((λ z. let g = f .0 z in omega arith), (λ z. let g = f .1 z in let u = g .2 in (g .0, g .1, omega arith)))
 
 -- ---- what holds while the next item is sought: n entries of `out` are as much as the top entries of ws
@@ -270,27 +270,6 @@ module _ (τ : RowTable) (A : List Arg) (by d : ℕ) (m : ℕ) (ws : List ℕ) (
 pub next-end : (τ : RowTable) (A : List Arg) (by d m : ℕ) (ws : List ℕ) (top : ℕ) (out : List ℕ) (n : ℕ) → n ≡ 0 → Means τ A by d ws top out n → NextIs τ A by d m ws top out End
 unfolding pendingType pendingMeets
 next-end τ A by d m ws top out n e g = (sym (g .type) ∙ ap (pendingType τ A by d out) e, sym (g .fits) ∙ ap (pendingMeets τ A d out) e)
-
--- ---- where the last entry stands in the array
-pub pred : (n : ℕ) → 0 < n → n ≡ suc (n - 1)
-pred n h = omega arith
-
-module _ (m : ℕ) (ws : List ℕ) (top : ℕ) (out : List ℕ) (n i : ℕ) (e : n ≡ suc i) (g : Kept m ws top out n) (a : room m < length ws) (b : length ws ≤ 65536) (p : Pends m (length ws - suc (room m)) ws top) where
-  pub here : (i < length out) × (getD out i 0 ≤ 66051) × (length out ≤ 65536)
-  here =
-      let l : ℕ = length ws - suc (room m) in
-      let f = last-low m ws top out n i e g l p in
-      let h = low-fits m l i (getD out i 0) f in
-      let k = g .long in
-      (omega arith, low-most m l i (getD out i 0) (omega arith) f, omega arith)
-
-  pub here-two : (x : ℕ) → Lower m (getD out i 0) x → n < length out
-  here-two x w =
-      let l : ℕ = length ws - suc (room m) in
-      let f = w .1 l i (last-low m ws top out n i e g l p) in
-      let h = low-fits m l (suc i) x f in
-      let k = g .long in
-      omega arith
 
 pub none-left : (n : ℕ) → n ≤ 0 → n ≡ 0
 none-left n h = omega arith

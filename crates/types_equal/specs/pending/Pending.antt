@@ -1,8 +1,8 @@
 -- A stack row under way: the rows that are still to be read, and what the next item is.
-use Prim.Native.Nat.{ℕ, zero, suc, _+_, _-_, _*_, _≤_, _<_}
+use Prim.Native.Nat.{ℕ, zero, suc, _+_, _-_, _*_, _/_, _%_, _≤_, _<_}
 use mathlib.Core.Path.{_≡_}
 use mathlib.Core.Bool.{Bool, true, false, _&&_, cond}
-use mathlib.Core.List.{List, [], _∷_}
+use mathlib.Core.List.{List, [], _∷_, map}
 use lib.Dec.{ltb}
 use lib.ListN.{getD}
 use Rattle.syntax.specs.Syntax.{Kind, value, stack}
@@ -16,11 +16,21 @@ use Rattle.types_equal.specs.declared.pending.Form.the-variants.{Skip, O
 use Rattle.types_equal.specs.declared.pending.Next.{Next}
 use Rattle.types_equal.specs.declared.pending.Next.the-variants.{End, OwnNext, GivenNext, VarNext, Wrong}
 
--- ---- an entry: a row in its context, or, from 65537 on, a row of an argument, raised by d
+-- ---- two lists in one: entry k of the left one in the low 16 bits of word k, of the right one in the high 16 bits
+-- the half of a word: the right list's if the flag is true
+unfoldable pub half : Bool → ℕ → ℕ
+half false w = w % 65536
+half true w = w / 65536
+
+-- one of the two lists
+unfoldable pub side : Bool → List ℕ → List ℕ
+side b ws = map (half b) ws
+
+-- ---- an entry: a row in its context, or, from 32768 on, a row of an argument, raised by d
 module _ (τ : RowTable) (A : List Arg) (by d : ℕ) where
   -- the stack type that an entry stands for
   unfoldable pub entryType : ℕ → Ty stack
-  entryType e = cond (ltb e 65537) (stackUnder τ A by d e) (stackUnder τ [] d 0 (e - 65537))
+  entryType e = cond (ltb e 32768) (stackUnder τ A by d e) (stackUnder τ [] d 0 (e - 32768))
 
   -- the first n entries, the last of them on top
   unfoldable pub pendingType : List ℕ → ℕ → Ty stack
@@ -31,7 +41,7 @@ module _ (τ : RowTable) (A : List Arg) (by d : ℕ) where
 module _ (τ : RowTable) (A : List Arg) (d : ℕ) where
   -- no argument of the wrong kind fills a variable of an entry
   unfoldable pub entryMeets : ℕ → Bool
-  entryMeets e = cond (ltb e 65537) (meets A d (meanS τ e)) true
+  entryMeets e = cond (ltb e 32768) (meets A d (meanS τ e)) true
 
   -- nor of the first n entries
   unfoldable pub pendingMeets : List ℕ → ℕ → Bool
@@ -41,7 +51,7 @@ module _ (τ : RowTable) (A : List Arg) (d : ℕ) where
 -- ---- how far the entries reach: rows fall, so entry i and its row together are at most the row l that was read first; m arguments
 -- entry i of the list, e, within that bound
 abbrev pub Low : ℕ → ℕ → ℕ → ℕ → Type 0
-Low m l i e = (e < 65537 → i + e ≤ l) × (65537 ≤ e → (0 < m) × (e ≤ 66051) × (i + e ≤ 66051 + l))
+Low m l i e = (e < 32768 → i + e ≤ l) × (32768 ≤ e → (0 < m) × (e ≤ 33282) × (i + e ≤ 33282 + l))
 
 -- the first n entries are within it
 abbrev pub Pends : ℕ → ℕ → List ℕ → ℕ → Type 0
@@ -59,7 +69,7 @@ Givens args m = (j : ℕ) → j < m → suc (getD args j 0) ≤ 514
 -- ---- what falls while entries are read
 -- an entry falls from a row in its context to one of an argument, and then by rows
 unfoldable pub weight : ℕ → ℕ
-weight e = cond (ltb e 65537) (e + 515) (e - 65537)
+weight e = cond (ltb e 32768) (e + 515) (e - 32768)
 
 -- 3 to the n
 unfoldable pub power : ℕ → ℕ
@@ -74,7 +84,7 @@ mass ws (suc n) = power (weight (getD ws n 0)) + mass ws n
 -- ---- an entry by its form
 -- an argument row in the place of its variable
 abbrev pub argForm : List ℕ → ℕ → Form
-argForm rows a = cond (isStackAt rows a) (One (65538 + a)) Misfit
+argForm rows a = cond (isStackAt rows a) (One (32769 + a)) Misfit
 
 -- a row in its context
 abbrev pub ownForm : List ℕ → List ℕ → Stk → Form
@@ -89,8 +99,8 @@ abbrev pub givenForm : Stk → Form
 givenForm Nil = Skip
 givenForm (StkVar k) = VarTop k
 givenForm (StkFill j) = Skip
-givenForm (Push t x) = GivenTop t (65537 + x)
-givenForm (Join x y) = Two (65537 + x) (65537 + y)
+givenForm (Push t x) = GivenTop t (32768 + x)
+givenForm (Join x y) = Two (32768 + x) (32768 + y)
 
 -- x is lower than e
 abbrev pub Lower : ℕ → ℕ → ℕ → Type 0

@@ -61,8 +61,9 @@ label-none nb zero l h = refl
 label-none nb (suc zero) l h = refl
 label-none nb (suc (suc k)) l h = absurd (omega arith)
 
-pub label-there : (nb k l out : ℕ) → 2 ≤ k → out ≡ cond (ltb l nb) 0 4 → out ≡ labelLeast nb k l
-label-there nb k l out h o = let e : ltb k 2 ≡ false = le-ltb k 2 h in rw e o
+-- l was read as m
+pub label-at : (nb k m l out : ℕ) → 2 ≤ k → out ≡ cond (ltb m nb) 0 4 → m ≡ l → out ≡ labelLeast nb k l
+label-at nb k m l out h o q = let e : ltb k 2 ≡ false = le-ltb k 2 h in rw (e, ← q) o
 
 -- ---- operands
 module _ (rs : List ℕ) (n nb : ℕ) where
@@ -99,12 +100,12 @@ module _ (rs : List ℕ) (n nb : ℕ) where
     unfolding operandAt span
     operand-plain m k l f em ek el z o = rw (← em, ← ek, ← el, z) (o ∙ sym (plain-least k l (cell 4 os v 2)))
 
-    pub operand-inst : (m k l t f g h w out : ℕ) → m ≡ cell 4 os v 1 → k ≡ cell 4 os v 0 → l ≡ getD ns v 0 → t ≡ cell 4 os v 2 → (m ≡ 0 → ⊥) → f ≡ labelLeast nb k l → g ≡ refsLeast rs n (listRefs Argument (span xs (8 * v) m)) → h ≡ refLeast rs n codeRow t → w ≡ least g h → out ≡ least f w → out ≡ operandsLeast rs n nb (operandAt (operandTable os ns xs) v ∷ [])
+    pub operand-inst : (m k l b t f g h w out : ℕ) → m ≡ cell 4 os v 1 → k ≡ cell 4 os v 0 → l ≡ getD ns v 0 → b ≡ cell 4 os v 3 → t ≡ cell 4 os v 2 → (m ≡ 0 → ⊥) → f ≡ labelLeast nb k l → g ≡ refsLeast rs n (listRefs Argument (span xs b m)) → h ≡ refLeast rs n codeRow t → w ≡ least g h → out ≡ least f w → out ≡ operandsLeast rs n nb (operandAt (operandTable os ns xs) v ∷ [])
     unfolding operandAt span
-    operand-inst zero k l t f g h w out em ek el et z ef eg eh ew o = absurd (z refl)
-    operand-inst (suc m) k l t f g h w out em ek el et z ef eg eh ew o =
-        let e : g ≡ refsLeast rs n (map (ref anyRow) (span xs (8 * v) (suc m))) = eg ∙ ap (refsLeast rs n) (arguments (span xs (8 * v) (suc m))) in
-        rw (← em, ← ek, ← el, ← et) (o ∙ (ap₂ least ef (ew ∙ ap₂ least e eh) ∙ sym (inst-least k l t (getD xs (8 * v) 0) (span xs (suc (8 * v)) m))))
+    operand-inst zero k l b t f g h w out em ek el eb et z ef eg eh ew o = absurd (z refl)
+    operand-inst (suc m) k l b t f g h w out em ek el eb et z ef eg eh ew o =
+        let e : g ≡ refsLeast rs n (map (ref anyRow) (span xs b (suc m))) = eg ∙ ap (refsLeast rs n) (arguments (span xs b (suc m))) in
+        rw (← em, ← ek, ← el, ← eb, ← et) (o ∙ (ap₂ least ef (ew ∙ ap₂ least e eh) ∙ sym (inst-least k l t (getD xs b 0) (span xs (suc b) m))))
 
 -- the loop over operands: f, and what is left from i on, make the whole
 module _ (rs : List ℕ) (n nb : ℕ) (ω : OperandTable) (v m : ℕ) where

@@ -117,7 +117,7 @@ share-requires c κs =
     let d = loaded p in
     let q = h .has-shared .ensures .0 (not-false (h .has-shared .result) (search)) in
     let n = d .few-rows in
-    ((in-order p, n, q .rows, q .parts, omega (arith, start-of (done p) .pre)), ((d .counted, d .int-row, d .junk-row), (d .clear, d .small-rows)))
+    ((in-order p, n, q .rows, q .parts, omega (arith, start-of (done p) .pre .0), start-of (done p) .pre .1), ((d .counted, d .int-row, d .junk-row), (d .clear, d .small-rows)))
 
 third-pass-requires : tie.Need-third-pass-requires
 third-pass-requires c κs =
@@ -125,7 +125,7 @@ third-pass-requires c κs =
     let p = laid s in
     let d = loaded₂ s in
     let k = s .share .kept .1 .1 .1 .0 in
-    (in-order₂ s, shared-tables (text p) (storeIn (at p) (image₂ s) (numbers p)) (useSection (at p) (image₂ s)) (topSection (at p) (image₂ s)) (done p .load .result) d (sharedSection (at p) (image₂ s)) (slotSection (at p) (image₂ s)) (shared₂ s), d .small-instrs, d .few-instrs, d .few-blocks, d .first, ends (text p) (storeIn (at p) (image₂ s) (numbers p)) (useSection (at p) (image₂ s)) (topSection (at p) (image₂ s)) (done p .load .result) d, rw k (start-of (done p) .pre))
+    (in-order₂ s, shared-tables (text p) (storeIn (at p) (image₂ s) (numbers p)) (useSection (at p) (image₂ s)) (topSection (at p) (image₂ s)) (done p .load .result) d (sharedSection (at p) (image₂ s)) (slotSection (at p) (image₂ s)) (shared₂ s), d .small-instrs, d .few-instrs, d .few-blocks, d .first, ends (text p) (storeIn (at p) (image₂ s) (numbers p)) (useSection (at p) (image₂ s)) (topSection (at p) (image₂ s)) (done p .load .result) d, rw k (start-of (done p) .pre .0), omega (arith, s .share .kept .1 .1 .1 .1 .0, start-of (done p) .pre .1))
 
 returns-4 : tie.Need-returns-4
 returns-4 c =

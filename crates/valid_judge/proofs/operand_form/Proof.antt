@@ -4,6 +4,7 @@ use Rattle.image.specs.Sections.{instrSection}
 use Rattle.valid_typing.specs.Image.{typesAt, operandsIn, lettersIn}
 use Rattle.valid_judge.proofs.operand_form.Statement.{statement}
 use Rattle.valid_judge.proofs.operand_form.Tie as tie
+use borrow.Author.Needs.{needs}
 
 jump-form-requires : tie.Need-jump-form-requires
 jump-form-requires c κs =
@@ -37,5 +38,4 @@ returns-2 c =
 pub operand-form-spec : {M : Type 1} → statement M
 operand-form-spec =
     tie.close
-    (tie.spec
-    (λ c κs. search) jump-form-requires (λ c. search) (λ c. search) returns value-form-requires (λ c. search) (λ c. search) returns-2)
+    (tie.spec (λ c κs. search needs) jump-form-requires (λ c. search needs) (λ c. search needs) returns value-form-requires (λ c. search needs) (λ c. search needs) returns-2)

@@ -5,12 +5,13 @@ use Rattle.image.specs.Sections.{instrSection}
 use Rattle.valid_typing.specs.Image.{typesAt, lettersIn}
 use Rattle.valid_judge.proofs.plain_form.Statement.{statement}
 use Rattle.valid_judge.proofs.plain_form.Tie as tie
+use borrow.Author.Needs.{needs}
 
 heap-form-requires : tie.Need-heap-form-requires
 heap-form-requires c κs =
     let s : tie.Start = search in
     let i1 : tie.Then1 = search in
-    (s .pre .0, s .pre .1, s .pre .2, s .pre .4, s .pre .8, λ x. absurd (omega (arith, x, i1 .if1 .taken, s .pre .10)), s .pre .9)
+    (s .pre .0, s .pre .1, s .pre .2, s .pre .4, s .pre .8, λ x. absurd (omega (arith, x, i1 .if1 .taken, s .pre .10)), s .pre .9, s .pre .12)
 
 returns : tie.Need-returns
 returns c =
@@ -25,7 +26,7 @@ sp-form-requires c κs =
     let s : tie.Start = search in
     let i1 : tie.Else1 = search in
     let i2 : tie.Then2 = search in
-    (s .pre .0, s .pre .1, s .pre .2, s .pre .4, s .pre .5, s .pre .7, s .pre .8, omega (arith, i1 .if1 .left), omega (arith, i2 .if2 .taken))
+    (s .pre .0, s .pre .1, s .pre .2, s .pre .4, s .pre .5, s .pre .7, s .pre .8, omega (arith, i1 .if1 .left), omega (arith, i2 .if2 .taken), s .pre .12)
 
 returns-2 : tie.Need-returns-2
 returns-2 c =
@@ -40,7 +41,7 @@ item-form-requires c κs =
     let s : tie.Start = search in
     let i2 : tie.Else2 = search in
     let i3 : tie.Then3 = search in
-    (s .pre .0, s .pre .1, s .pre .2, s .pre .3, s .pre .4, omega (arith, s .pre .5, s .pre .7), s .pre .6, s .pre .8, omega (arith, i2 .if2 .left), omega (arith, i3 .if3 .taken))
+    (s .pre .0, s .pre .1, s .pre .2, s .pre .3, s .pre .4, omega (arith, s .pre .5, s .pre .7), s .pre .6, s .pre .8, omega (arith, i2 .if2 .left), omega (arith, i3 .if3 .taken), s .pre .12)
 
 returns-3 : tie.Need-returns-3
 returns-3 c =
@@ -54,7 +55,7 @@ heap-form-requires-2 : tie.Need-heap-form-requires-2
 heap-form-requires-2 c κs =
     let s : tie.Start = search in
     let i3 : tie.Else3 = search in
-    (s .pre .0, s .pre .1, s .pre .2, s .pre .4, s .pre .8, λ x. omega (arith, i3 .if3 .left, s .pre .11), s .pre .9)
+    (s .pre .0, s .pre .1, s .pre .2, s .pre .4, s .pre .8, λ x. omega (arith, i3 .if3 .left, s .pre .11), s .pre .9, s .pre .12)
 
 returns-4 : tie.Need-returns-4
 returns-4 c =
@@ -67,6 +68,4 @@ returns-4 c =
 pub plain-form-spec : {M : Type 1} → statement M
 plain-form-spec =
     tie.close
-    (tie.spec
-    heap-form-requires (λ c. search) returns sp-form-requires (λ c. search) (λ c. search) returns-2 item-form-requires (λ c. search)
-    (λ c. search) (λ c. search) returns-3 heap-form-requires-2 (λ c. search) returns-4)
+    (tie.spec heap-form-requires (λ c. search needs) (λ c. search needs) returns sp-form-requires (λ c. search needs) (λ c. search needs) (λ c. search needs) returns-2 item-form-requires (λ c. search needs) (λ c. search needs) (λ c. search needs) (λ c. search needs) returns-3 heap-form-requires-2 (λ c. search needs) (λ c. search needs) returns-4)

@@ -73,7 +73,7 @@ code-block-requires c κs =
     let w = code-low (sharedSection (a .p) l) (slotSection (a .p) l) (a .c .rows) (r .at .result) (h .link .result) (h .link .ensures) (v .read-value .ensures .0) (y .v .given .1) (v .read-value .ensures .1) in
     let i = code-in (sharedSection (a .p) l) (slotSection (a .p) l) (a .c .rows) (r .at .result) (h .link .result) (h .link .ensures) (v .read-value .ensures .0) (y .v .given .1) (v .read-value .ensures .1) in
     let x = few-items (sharedSection (a .p) l) (slotSection (a .p) l) (a .c .rows) (r .at .result) (h .link .result) (h .link .ensures) (v .read-value .ensures .0) (y .v .given .1) _ (f .line-fault .result) [] (f .line-fault .ensures _) (k .if1 .left) in
-    ((q .0, q .1, (λ j a b. q .2 j (omega (arith, b, e, q .5))), omega (arith, e, q .5, q .3), omega (arith, n, q .4), q .6, q .7, q .8), (w .2, omega (arith, i .0, i .1), w .0, w .1, x))
+    ((q .0, q .1, (λ j a b. q .2 j (omega (arith, b, e, q .5))), omega (arith, e, q .5, q .3), omega (arith, n, q .4), q .6, q .7, q .8, q .9), (w .2, omega (arith, i .0, i .1), w .0, w .1, x))
 
 returns-3 : tie.Need-returns-3
 unfolding part
@@ -100,4 +100,4 @@ block-spec =
     (λ c. search needs) (λ c κs. search needs) (λ c. search needs) (λ c. search needs) (λ c. search needs) (λ c. search needs)
     read-value-requires (λ c. search needs) (λ c κs. search needs) returns (λ c κs. search needs) (λ c κs. search needs) returns-2
     (λ c κs. search needs) (λ c. search needs) (λ c. search needs) code-block-requires (λ c. search needs) (λ c. search needs)
-    (λ c. search needs) returns-3)
+    (λ c. search needs) (λ c. search needs) returns-3)

@@ -26,12 +26,12 @@ abbrev types : Places → List ℕ → ℕ → List Arg
 types p l n = typesOf (rowsIn (rowTable p l) n)
 
 abbrev Inv-loop : tie.InvT-loop
-Inv-loop image literals regs₀ sp₀ work₀ t k b₀ regs sp work b =
-    ((length regs ≡ length regs₀) × (length sp ≡ length sp₀) × (length work ≡ length work₀))
+Inv-loop image literals regs₀ sp₀ work₀ pending₀ t k b₀ regs sp work pending b =
+    ((length regs ≡ length regs₀) × (length sp ≡ length sp₀) × (length work ≡ length work₀) × (length pending ≡ length pending₀))
     × ((P : Program) → HoldsAt t image k P → P .blocks ≡ blocksOf (types t image (k .rows)) (blocksIn t image literals k) → blocksLeft P (types t image (k .rows)) (blockSection t image) (instrSection t image) (operandsIn t image literals) (k .instrs) (k .rows) (k .blocks) b ≡ lowestLine 0 (passThree P))
 
 abbrev μ-loop : tie.MeasureT-loop
-μ-loop image literals regs₀ sp₀ work₀ t k b₀ regs sp work b = k .blocks - b
+μ-loop image literals regs₀ sp₀ work₀ pending₀ t k b₀ regs sp work pending b = k .blocks - b
 
 abbrev Start : Type 0
 Start = tie.Start Inv-loop μ-loop
@@ -72,7 +72,7 @@ loop-holds c =
     let a = s .args in
     let l = a .image .now in
     let z = pos-of-ne-zero (k .if1 .left) in
-    ((refl, refl, refl), λ P h e. sym (whole P (types (a .p) l (a .c .rows)) (blockSection (a .p) l) (instrSection (a .p) l) (operandsIn (a .p) l (a .literals .now)) (a .c .instrs) (a .c .rows) (a .c .blocks) (length-all (rowTable (a .p) l) (a .c .rows)) (h .types) e z (s .pre .5 z)))
+    ((refl, refl, refl, refl), λ P h e. sym (whole P (types (a .p) l (a .c .rows)) (blockSection (a .p) l) (instrSection (a .p) l) (operandsIn (a .p) l (a .literals .now)) (a .c .instrs) (a .c .rows) (a .c .blocks) (length-all (rowTable (a .p) l) (a .c .rows)) (h .types) e z (s .pre .5 z)))
 
 block-requires : tie.Need-block-requires Inv-loop μ-loop
 block-requires c κs =
@@ -82,7 +82,7 @@ block-requires c κs =
     let w : g .loop .b < s .args .c .blocks = search in
     let i = g .loop .inv .0 in
     let m = s .pre .4 in
-    (s .pre .0, s .pre .1, s .pre .2 (pos-of-ne-zero (k .if1 .left)), s .pre .3, omega arith, s .pre .6 (g .loop .b) w .1, omega (arith, i .0, s .pre .7), omega (arith, i .1, s .pre .8), omega (arith, i .2, s .pre .9))
+    (s .pre .0, s .pre .1, s .pre .2 (pos-of-ne-zero (k .if1 .left)), s .pre .3, omega arith, s .pre .6 (g .loop .b) w .1, omega (arith, i .0, s .pre .7), omega (arith, i .1, s .pre .8), omega (arith, i .2, s .pre .9), omega (arith, i .3, s .pre .10))
 
 same-length : tie.Need-same-length Inv-loop μ-loop
 same-length c =
@@ -101,6 +101,12 @@ same-length-3 c =
     let g : At-loop = search in
     let t : After-block = search in
     t .block .kept .1 .1 .1 .1 .1 .1 .1 .0 ∙ g .loop .inv .0 .2
+
+same-length-4 : tie.Need-same-length-4 Inv-loop μ-loop
+same-length-4 c =
+    let g : At-loop = search in
+    let t : After-block = search in
+    t .block .kept .1 .1 .1 .1 .1 .1 .1 .1 .0 ∙ g .loop .inv .0 .3
 
 returns-2 : tie.Need-returns-2 Inv-loop μ-loop
 returns-2 c =
@@ -121,7 +127,7 @@ loop-again c =
     let i = g .loop .inv .0 in
     let a = s .args in
     let l = a .image .now in
-    ((t .block .kept .1 .1 .1 .1 .1 .0 ∙ i .0, t .block .kept .1 .1 .1 .1 .1 .1 .0 ∙ i .1, t .block .kept .1 .1 .1 .1 .1 .1 .1 .0 ∙ i .2), λ P h e. sym (block-next P (types (a .p) l (a .c .rows)) (blockSection (a .p) l) (instrSection (a .p) l) (operandsIn (a .p) l (a .literals .now)) (a .c .instrs) (a .c .rows) (a .c .blocks) (g .loop .b) w (s .pre .6 (g .loop .b) w .0) (t .block .result) (t .block .ensures P h) (search)) ∙ g .loop .inv .1 P h e)
+    ((t .block .kept .1 .1 .1 .1 .1 .0 ∙ i .0, t .block .kept .1 .1 .1 .1 .1 .1 .0 ∙ i .1, t .block .kept .1 .1 .1 .1 .1 .1 .1 .0 ∙ i .2, t .block .kept .1 .1 .1 .1 .1 .1 .1 .1 .0 ∙ i .3), λ P h e. sym (block-next P (types (a .p) l (a .c .rows)) (blockSection (a .p) l) (instrSection (a .p) l) (operandsIn (a .p) l (a .literals .now)) (a .c .instrs) (a .c .rows) (a .c .blocks) (g .loop .b) w (s .pre .6 (g .loop .b) w .0) (t .block .result) (t .block .ensures P h) (search)) ∙ g .loop .inv .1 P h e)
 
 returns-3 : tie.Need-returns-3 Inv-loop μ-loop
 returns-3 c =
@@ -136,7 +142,7 @@ pub pass-three-spec : {M : Type 1} → statement M
 pass-three-spec =
     tie.close
     (tie.spec
-    Inv-loop μ-loop add-on-line (λ c κs. search needs) returns loop-holds block-requires same-length same-length-2 same-length-3 returns-2
+    Inv-loop μ-loop add-on-line (λ c κs. search needs) returns loop-holds block-requires same-length same-length-2 same-length-3 same-length-4 returns-2
     (λ c. search needs) (λ c. search needs) loop-again (λ c κs. search needs)
     (λ c. let g : At-loop = search in g .loop .inv .0 .0) (λ c. let g : At-loop = search in g .loop .inv .0 .1)
-    (λ c. let g : At-loop = search in g .loop .inv .0 .2) returns-3)
+    (λ c. let g : At-loop = search in g .loop .inv .0 .2) (λ c. let g : At-loop = search in g .loop .inv .0 .3) returns-3)

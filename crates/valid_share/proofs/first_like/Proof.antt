@@ -1,70 +1,57 @@
 use borrow.Author.Needs.{needs}
 use native.Mathlib.Omega.{arith}
-use mathlib.Core.Path.{refl}
+use mathlib.Core.Path.{_≡_, refl, _∙_}
+use lib.ListN.{length}
 use Prim.Native.Nat.{_-_, _≤_}
 use Rattle.valid_share.proofs.first_like.Statement.{statement}
 use Rattle.valid_share.proofs.first_like.Tie as tie
-use Rattle.valid_share.proofs.first_like.Reads as reads
-use Rattle.valid_share.proofs.first_like.Lts as lts
-use Rattle.valid_share.proofs.row_hash.below.Reads as below-reads
-use Rattle.valid_share.proofs.row_hash.chain_of.Reads as chain-of-reads
-use Rattle.valid_share.proofs.stands_for.Reads as stands-for-reads
 
 abbrev Inv-loop : tie.InvT-loop
-Inv-loop rows parts m first work chains r h c₀ c = c ≤ r
+Inv-loop rows parts m first work₀ chains r h c₀ work c = (c ≤ r) × (length work ≡ length work₀)
 
 abbrev μ-loop : tie.MeasureT-loop
-μ-loop rows parts m first work chains r h c₀ c = c
-
-chain-of-requires : tie.Need-chain-of-requires Inv-loop μ-loop
-chain-of-requires c κs = search needs
-
-add-below : tie.Need-add-below Inv-loop μ-loop
-add-below c = search needs
-
-below-requires : tie.Need-below-requires Inv-loop μ-loop
-below-requires c κs = search needs
+μ-loop rows parts m first work₀ chains r h c₀ work c = c
 
 loop-holds : tie.Need-loop-holds Inv-loop μ-loop
 loop-holds c =
-    let h = (c .below) .ensures in
-    omega arith
-
-sub-stands-for : tie.Need-sub-stands-for Inv-loop μ-loop
-sub-stands-for c = search needs
+    let below2 : tie.After-below Inv-loop μ-loop = search in
+    let h = (below2 .below) .ensures in
+    (omega arith, refl)
 
 stands-for-requires : tie.Need-stands-for-requires Inv-loop μ-loop
 stands-for-requires c κs =
-    let t = (c .loop-test) .taken in
-    let i = (c .before .loop) .inv in
-    let h = (c .before .before .before .before .before .before .before .before .before .pre) .2 in
-    ((c .before .before .before .before .before .before .before .before .before .pre) .0, (c .before .before .before .before .before .before .before .before .before .pre) .1, omega arith, (c .before .before .before .before .before .before .before .before .before .pre) .2, (c .before .before .before .before .before .before .before .before .before .pre) .3, (c .before .before .before .before .before .before .before .before .before .pre) .4)
-
-sub-result : tie.Need-sub-result Inv-loop μ-loop
-sub-result c = search needs
+    let s : tie.Start Inv-loop μ-loop = search in
+    let loopt : tie.In-loop Inv-loop μ-loop = search in
+    let loop2 : tie.At-loop Inv-loop μ-loop = search in
+    let t = (loopt .loop-test) .taken in
+    let i = (loop2 .loop) .inv .0 in
+    let h = (s .pre) .2 in
+    ((s .pre) .0, (s .pre) .1, omega arith, (s .pre) .2, (s .pre) .3, (s .pre) .4, omega (arith, s .pre .5, loop2 .loop .inv .1))
 
 returns : tie.Need-returns Inv-loop μ-loop
 returns c =
-    let t = (c .before .before .loop-test) .taken in
-    let i = (c .before .before .before .loop) .inv in
-    ((c .before .stands-for) .ensures ((c .if1) .taken), omega arith)
-
-add-below-2 : tie.Need-add-below-2 Inv-loop μ-loop
-add-below-2 c = search needs
-
-below-requires-2 : tie.Need-below-requires-2 Inv-loop μ-loop
-below-requires-2 c κs = search needs
+    let loopt : tie.In-loop Inv-loop μ-loop = search in
+    let loop2 : tie.At-loop Inv-loop μ-loop = search in
+    let stand : tie.After-stands-for Inv-loop μ-loop = search in
+    let if2 : tie.Then1 Inv-loop μ-loop = search in
+    let t = (loopt .loop-test) .taken in
+    let i = (loop2 .loop) .inv .0 in
+    ((stand .stands-for) .ensures ((if2 .if1) .taken), omega arith)
 
 loop-less : tie.Need-loop-less Inv-loop μ-loop
 loop-less c =
-    let h = (c .below2) .ensures in
+    let below : tie.After-below2 Inv-loop μ-loop = search in
+    let h = (below .below2) .ensures in
     omega arith
 
 loop-again : tie.Need-loop-again Inv-loop μ-loop
 loop-again c =
-    let h = (c .below2) .ensures in
-    let i = (c .before .before .before .before .loop) .inv in
-    omega arith
+    let below : tie.After-below2 Inv-loop μ-loop = search in
+    let loop2 : tie.At-loop Inv-loop μ-loop = search in
+    let stand : tie.After-stands-for Inv-loop μ-loop = search in
+    let h = (below .below2) .ensures in
+    let i = (loop2 .loop) .inv .0 in
+    (omega arith, stand .stands-for .kept .1 .1 .1 .1 .0 ∙ loop2 .loop .inv .1)
 
 returns-2 : tie.Need-returns-2 Inv-loop μ-loop
 returns-2 c = (refl, omega arith)
@@ -72,19 +59,4 @@ returns-2 c = (refl, omega arith)
 pub first-like-spec : {M : Type 1} → statement M
 first-like-spec =
     tie.close
-    (tie.spec
-    Inv-loop
-    μ-loop
-    chain-of-requires
-    add-below
-    below-requires
-    loop-holds
-    sub-stands-for
-    stands-for-requires
-    sub-result
-    returns
-    add-below-2
-    below-requires-2
-    loop-less
-    loop-again
-    returns-2)
+    (tie.spec Inv-loop μ-loop (λ c κs. search needs) (λ c. search needs) (λ c κs. search needs) loop-holds (λ c. search needs) stands-for-requires (λ c. search needs) (λ c. search needs) returns (λ c. search needs) (λ c κs. search needs) loop-less loop-again (λ c. search needs) returns-2)

@@ -4,23 +4,16 @@ use Rattle.valid_share.proofs.Laws.{like-stacks, like-values}
 use borrow.Author.Needs.{needs}
 use Rattle.valid_share.proofs.same_type.Statement.{statement}
 use Rattle.valid_share.proofs.same_type.Tie as tie
-use Rattle.valid_share.proofs.same_type.Reads as reads
-use Rattle.valid_share.proofs.same_type.Lts as lts
-use Rattle.types_equal.proofs.equal_stacks.Reads as equal-stacks-reads
-use Rattle.types_equal.proofs.equal_values.Reads as equal-values-reads
-use Rattle.types_rows.proofs.is_stack.Reads as is-stack-reads
-
-is-stack-requires : tie.Need-is-stack-requires
-is-stack-requires c κs = search needs
-
-is-stack-requires-2 : tie.Need-is-stack-requires-2
-is-stack-requires-2 c κs = search needs
-
-equal-stacks-requires : tie.Need-equal-stacks-requires
-equal-stacks-requires c κs = search needs
 
 returns : tie.Need-returns
-returns c = like-stacks (tab ((c .before .before .before .before .before .before .before .args) .rows .now) ((c .before .before .before .before .before .before .before .args) .parts .now)) ((c .before .before .before .before .before .before .before .args) .m) ((c .before .before .before .before .before .before .before .args) .c) ((c .before .before .before .before .before .before .before .args) .r) ((c .before .before .before .before .before .before .before .pre) .1) ((c .before .before .before .before .before .before .before .pre) .2) ((c .before .before .before .before .is-stack) .ensures) ((c .before .before .before .is-stack2) .ensures) ((c .before .before .if1) .taken) ((c .before .if2) .taken) ((c .equal-stacks) .ensures)
+returns c =
+    let s : tie.Start = search in
+    let issta : tie.After-is-stack = search in
+    let issta2 : tie.After-is-stack2 = search in
+    let if3 : tie.Then1 = search in
+    let if4 : tie.Then2 = search in
+    let equal2 : tie.After-equal-stacks = search in
+    like-stacks (tab ((s .args) .rows .now) ((s .args) .parts .now)) ((s .args) .m) ((s .args) .c) ((s .args) .r) ((s .pre) .1) ((s .pre) .2) ((issta .is-stack) .ensures) ((issta2 .is-stack2) .ensures) ((if3 .if1) .taken) ((if4 .if2) .taken) ((equal2 .equal-stacks) .ensures)
 
 returns-2 : tie.Need-returns-2
 returns-2 c = λ z. none-true z
@@ -28,21 +21,17 @@ returns-2 c = λ z. none-true z
 returns-3 : tie.Need-returns-3
 returns-3 c = λ z. none-true z
 
-equal-values-requires : tie.Need-equal-values-requires
-equal-values-requires c κs = search needs
-
 returns-4 : tie.Need-returns-4
-returns-4 c = like-values (tab ((c .before .before .before .before .before .before .before .args) .rows .now) ((c .before .before .before .before .before .before .before .args) .parts .now)) ((c .before .before .before .before .before .before .before .args) .m) ((c .before .before .before .before .before .before .before .args) .c) ((c .before .before .before .before .before .before .before .args) .r) ((c .before .before .before .before .before .before .before .pre) .1) ((c .before .before .before .before .before .before .before .pre) .2) ((c .before .before .before .before .is-stack) .ensures) ((c .before .before .before .is-stack2) .ensures) ((c .before .before .if1) .left) ((c .before .if3) .left) ((c .equal-values) .ensures)
+returns-4 c =
+    let s : tie.Start = search in
+    let issta : tie.After-is-stack = search in
+    let issta2 : tie.After-is-stack2 = search in
+    let if2 : tie.Else1 = search in
+    let if4 : tie.Else3 = search in
+    let equal2 : tie.After-equal-values = search in
+    like-values (tab ((s .args) .rows .now) ((s .args) .parts .now)) ((s .args) .m) ((s .args) .c) ((s .args) .r) ((s .pre) .1) ((s .pre) .2) ((issta .is-stack) .ensures) ((issta2 .is-stack2) .ensures) ((if2 .if1) .left) ((if4 .if3) .left) ((equal2 .equal-values) .ensures)
 
 pub same-type-spec : {M : Type 1} → statement M
 same-type-spec =
     tie.close
-    (tie.spec
-    is-stack-requires
-    is-stack-requires-2
-    equal-stacks-requires
-    returns
-    returns-2
-    returns-3
-    equal-values-requires
-    returns-4)
+    (tie.spec (λ c κs. search needs) (λ c κs. search needs) (λ c κs. search needs) (λ c. search needs) returns returns-2 returns-3 (λ c κs. search needs) (λ c. search needs) returns-4)

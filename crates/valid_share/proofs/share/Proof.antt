@@ -12,7 +12,7 @@ unfolding part
 find-first-requires c κs =
     let s : tie.Start = search in
     let a = s .args in
-    (search, s .pre .1 .0 .0, search, lower-rows (tab (rowSection (a .p) (a .image .now)) (partSection (a .p) (a .image .now))) (a .n) (s .pre .1 .1 .0))
+    (search, s .pre .1 .0 .0, search, lower-rows (tab (rowSection (a .p) (a .image .now)) (partSection (a .p) (a .image .now))) (a .n) (s .pre .1 .1 .0), s .pre .0 .5)
 
 returns : tie.Need-returns
 unfolding part

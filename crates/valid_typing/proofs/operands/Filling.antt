@@ -135,19 +135,20 @@ module _ (ω : OperandTable) (v : ℕ) where
   unfolding operandAt
   plain-at k c m e f d z = rw (← e, ← f, ← d, z) (unfold span operandOf in refl)
 
-  inst-of : (b : Base) (c t : ℕ) → (c ≡ 0 → ⊥) → operandOf b (span (ω .args) (8 * v) c) t ≡ inst b (span (ω .args) (8 * v) c) t
+  inst-of : (b : Base) (a c t : ℕ) → (c ≡ 0 → ⊥) → operandOf b (span (ω .args) a c) t ≡ inst b (span (ω .args) a c) t
   unfolding span operandOf
-  inst-of b zero t z = absurd (z refl)
-  inst-of b (suc c) t z = refl
+  inst-of b a zero t z = absurd (z refl)
+  inst-of b a (suc c) t z = refl
 
-  pub inst-at : (k c m t : ℕ) → k ≡ cell 4 (ω .operands) v 0 → c ≡ cell 4 (ω .operands) v 1 → m ≡ getD (ω .numbers) v 0 → t ≡ cell 4 (ω .operands) v 2 → (c ≡ 0 → ⊥) → operandAt ω v ≡ inst (baseOf k m) (span (ω .args) (8 * v) c) t
+  pub inst-at : (k c m t a : ℕ) → k ≡ cell 4 (ω .operands) v 0 → c ≡ cell 4 (ω .operands) v 1 → m ≡ getD (ω .numbers) v 0 → t ≡ cell 4 (ω .operands) v 2 → a ≡ cell 4 (ω .operands) v 3 → (c ≡ 0 → ⊥) → operandAt ω v ≡ inst (baseOf k m) (span (ω .args) a c) t
   unfolding operandAt
-  inst-at k c m t e f d g z = rw (← e, ← f, ← d, ← g) (inst-of (baseOf k m) c t z)
+  inst-at k c m t a e f d g h z = rw (← e, ← f, ← d, ← g, ← h) (inst-of (baseOf k m) a c t z)
 
   pub few-args : (k c m t : ℕ) → k ≡ cell 4 (ω .operands) v 0 → c ≡ cell 4 (ω .operands) v 1 → m ≡ getD (ω .numbers) v 0 → t ≡ cell 4 (ω .operands) v 2 → (c ≡ 0 → ⊥) → Short (operandAt ω v) → c ≤ 8
   few-args k c m t e f d g z s =
-      let h : length (span (ω .args) (8 * v) c) ≤ 8 = subst (λ (o : Operand). Short o) (inst-at k c m t e f d g z) s in
-      let q = length-span (ω .args) (8 * v) c in
+      let a : ℕ = cell 4 (ω .operands) v 3 in
+      let h : length (span (ω .args) a c) ≤ 8 = subst (λ (o : Operand). Short o) (inst-at k c m t a e f d g refl z) s in
+      let q = length-span (ω .args) a c in
       omega arith
 
 module _ (P : Program) (Δ : List Kind) (f : Fault) (g : Ty stack) where

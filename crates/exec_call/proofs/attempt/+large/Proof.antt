@@ -38,7 +38,7 @@ unfitted : (t : ℕ) (w : After-large t) → call-of t w .call-in .result .fits 
 unfitted t w = search
 
 never : (t : ℕ) (w : After-call-in t) → w .call-in .result .fits ≡ false → ⊥
-never t w z = true≢false (sym (w .call-in .ensures .0 (enough (replicate 249204 0) (replicate 16400 0) (omega (arith, zeros-are 249204)) (omega (arith, zeros-are 16400)))) ∙ z)
+never t w z = true≢false (sym (w .call-in .ensures .0 (enough (replicate 150900 0) (replicate 16400 0) (omega (arith, zeros-are 150900)) (omega (arith, zeros-are 16400)))) ∙ z)
 
 large-slice-aggregate-call-in : (t : ℕ) → large-lts.Need-slice-aggregate-call-in (
   call-in-reads.Asked,
@@ -70,7 +70,7 @@ large-call-in-requires : (t : ℕ) → large-lts.Need-call-in-requires (
   large-below t,
   large.Post,
 ) (large-at t) large.Post
-large-call-in-requires t c κs = plan-large _ _ (omega (arith, zeros-are 249204)) (omega (arith, zeros-are 8208))
+large-call-in-requires t c κs = plan-large _ _ (omega (arith, zeros-are 150900)) (omega (arith, zeros-are 8208))
 
 large-same-length : (t : ℕ) → large-lts.Need-same-length (
   call-in-reads.Asked,

@@ -129,7 +129,7 @@ small-call-in-requires : (t : ℕ) → small-lts.Need-call-in-requires (
   call-in-reads.Asked,
   call-in-reads.Learnt,
 ) (small-at t) small.Post
-small-call-in-requires t c κs = plan-small _ _ (omega (arith, zeros-are 5899)) (omega (arith, zeros-are 5899)) (omega (arith, zeros-are 776))
+small-call-in-requires t c κs = plan-small _ _ (omega (arith, zeros-are 4423)) (omega (arith, zeros-are 4423)) (omega (arith, zeros-are 712))
 
 small-same-length-7 : (t : ℕ) → small-lts.Need-same-length-7 (
   small-below t,

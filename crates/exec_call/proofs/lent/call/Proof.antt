@@ -1,4 +1,4 @@
-use mathlib.Core.Path.{_≡_, ap, sym, _∙_}
+use mathlib.Core.Path.{_≡_, refl, ap, sym, _∙_}
 use mathlib.Core.Bool.{Bool, true, false, true≢false}
 use native.Mathlib.Omega.{arith}
 use lib.ListN.{length}
@@ -8,8 +8,10 @@ use Rattle.exec_machine.specs.Step.{stateOf}
 use Rattle.exec_outcome.specs.declared.Outcome.{Outcome}
 use Rattle.exec_outcome.specs.Answers.{outcomeIs}
 use Rattle.load.proofs.Laws as load
-use Rattle.exec_call.specs.Tries.{enough, calledIn}
-use Rattle.exec_call.proofs.Laws.{enough-is, plan-large}
+use Rattle.image.specs.Enough.{enough}
+use Rattle.image.proofs.Enough.{enough-is}
+use Rattle.exec_call.specs.Tries.{calledIn}
+use Rattle.exec_call.proofs.Laws.{plan-large}
 use borrow.Author.Needs.{needs}
 use Rattle.exec_call.proofs.lent.call.Statement.{statement}
 use Rattle.exec_call.proofs.lent.call.Tie as tie
@@ -30,7 +32,7 @@ returns c =
     let f : tie.After-refuse = search in
     let e = not-true (t .is-enough .result) (search) in
     let a = start-of t .args in
-    ap (λ (o : Outcome). outcomeIs o (a .rk .now) (a .rn .now) (a .sk .now) (a .sn .now) (a .hk .now) (a .hn .now)) (f .refuse .ensures) ∙ sym (ap (by t) (sym (t .is-enough .ensures) ∙ e))
+    (ap (λ (o : Outcome). outcomeIs o (a .rk .now) (a .rn .now) (a .sk .now) (a .sn .now) (a .hk .now) (a .hn .now)) (f .refuse .ensures) ∙ sym (ap (by t) (sym (t .is-enough .ensures) ∙ e)), λ w. refl)
 
 long : (t : tie.After-call-in) → enough (length (start-of (test-of t) .args .image .now)) (length (start-of (test-of t) .args .numbers .now)) (length (start-of (test-of t) .args .plan .now)) ≡ true
 long t = sym (test-of t .is-enough .ensures) ∙ not-false (test-of t .is-enough .result) (search)
@@ -44,7 +46,7 @@ call-in-requires c κs =
 returns-2 : tie.Need-returns-2
 returns-2 c =
     let t : tie.After-call-in = search in
-    t .call-in .ensures .1 .done (search) ∙ sym (ap (by (test-of t)) (long t))
+    (t .call-in .ensures .1 .done (search) ∙ sym (ap (by (test-of t)) (long t)), λ w. absurd (true≢false (sym (long t) ∙ w)))
 
 returns-3 : tie.Need-returns-3
 returns-3 c =

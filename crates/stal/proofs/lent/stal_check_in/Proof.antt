@@ -6,8 +6,8 @@ use Rattle.stal.proofs.lent.stal_check_in.Tie as tie
 returns : tie.Need-returns
 returns c =
     let t : tie.After-check-in = search in
-    let v : tie.After-verdict-of = search in
-    tells-in _ _ _ _ (t .check-in .ensures) (v .verdict-of .ensures)
+    let v : tie.After-put-verdict = search in
+    (tells-in _ _ _ _ (t .check-in .ensures .0) (v .put-verdict .ensures), t .check-in .ensures .1)
 
 pub stal-check-in-spec : {M : Type 1} → statement M
 stal-check-in-spec = tie.close (tie.spec (λ c κs. search needs) (λ c κs. search needs) (λ c. search) (λ c. search) (λ c. search) (λ c. search) returns)

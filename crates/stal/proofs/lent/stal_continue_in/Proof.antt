@@ -3,18 +3,17 @@ use borrow.Author.Needs.{needs}
 use Rattle.stal.proofs.lent.stal_continue_in.Statement.{statement}
 use Rattle.stal.proofs.lent.stal_continue_in.Tie as tie
 
-abbrev call-of : tie.After-reply-of → tie.After-resume
-call-of t = search
+abbrev call-of : tie.After-put-place → tie.After-resume
+call-of w = search
 
 returns : tie.Need-returns
 returns c =
-    let v : tie.After-reply-of = search in
-    let t = call-of v in
-    called (t .resume .result) (v .reply-of .result) _ _ _ _ _ _ _ (t .resume .ensures) (v .reply-of .ensures)
+    let v : tie.After-put-reply = search in
+    let w : tie.After-put-place = search in
+    let t = call-of w in
+    (called (t .resume .result) _ _ _ _ _ _ _ _ _ _ _ (t .resume .ensures .0) (w .put-place .ensures) (v .put-reply .ensures), t .resume .ensures .1)
 
 pub stal-continue-in-spec : {M : Type 1} → statement M
 stal-continue-in-spec =
     tie.close
-    (tie.spec (λ c κs. search needs) (λ c κs. search needs)
-    (λ c. search) (λ c. search) (λ c. search) (λ c. search) (λ c. search) (λ c. search) (λ c. search) (λ c. search) (λ c. search)
-    returns)
+    (tie.spec (λ c κs. search needs) (λ c κs. search needs) (λ c κs. search needs) (λ c. search) (λ c. search) (λ c. search) (λ c. search) (λ c. search) (λ c. search) (λ c. search) (λ c. search) (λ c. search) returns)

@@ -1,6 +1,6 @@
 use mathlib.Core.Path.{refl}
 use native.Mathlib.Omega.{arith}
-use native.Mathlib.Numerals.{add-one, add-two}
+use native.Mathlib.Numerals.{add-one, add-two, add-three}
 use lib.ListN.{length-set}
 use borrow.Author.Needs.{needs}
 use Rattle.text_decode.proofs.line.put_operand.Statement.{statement}
@@ -35,6 +35,15 @@ mul-operands-3 c = search needs
 slice-write-operands-3 : tie.Need-slice-write-operands-3
 slice-write-operands-3 c = simp length-set (omega arith)
 
+add-operands-3 : tie.Need-add-operands-3
+add-operands-3 c = search needs
+
+mul-operands-4 : tie.Need-mul-operands-4
+mul-operands-4 c = search needs
+
+slice-write-operands-4 : tie.Need-slice-write-operands-4
+slice-write-operands-4 c = simp length-set (omega arith)
+
 mul-numbers : tie.Need-mul-numbers
 mul-numbers c = search needs
 
@@ -48,7 +57,7 @@ same-length-2 : tie.Need-same-length-2
 same-length-2 c = search needs
 
 returns : tie.Need-returns
-returns c = (simp (add-one, add-two), refl)
+returns c = (simp (add-one, add-two, add-three), refl)
 
 pub put-operand-spec : {M : Type 1} → statement M
 put-operand-spec =
@@ -63,6 +72,9 @@ put-operand-spec =
     add-operands-2
     mul-operands-3
     slice-write-operands-3
+    add-operands-3
+    mul-operands-4
+    slice-write-operands-4
     mul-numbers
     slice-write-numbers
     same-length

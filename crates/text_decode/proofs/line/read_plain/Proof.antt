@@ -9,7 +9,7 @@ use Rattle.text_decode.specs.line.Fields.{fieldsFrom, readSlots}
 use Rattle.text_decode.specs.line.Answers.{operandsIn, slotsOf}
 use Rattle.text_decode.proofs.line.FieldLaws.{form-slots, form-most}
 use Rattle.text_decode.proofs.line.LineLaws.{most-few, plain-no-slots, plain-no-operands, plain-too-few, plain-is}
-use Rattle.text_decode.proofs.line.StopLaws.{entry-end}
+use Rattle.text_decode.proofs.line.StopLaws.{entry-carried, entry-end}
 use borrow.Author.Needs.{needs}
 use Rattle.text_decode.proofs.line.read_plain.Statement.{statement}
 use Rattle.text_decode.proofs.line.read_plain.Tie as tie
@@ -33,7 +33,7 @@ returns c =
     let x : tie.After-read-slots = search in
     let n : tie.After-no-entry = search in
     let a = s .args in
-    (plain-no-slots (a .code) (lineIn (a .rest .now)) (a .at + 1) (a .v) (s .pre .1) (s .pre .2) (s .pre .3) (operandsIn (a .p) (a .image .now) (a .numbers .now)) (x .read-slots .result) (x .read-slots .ensures .says ∙ form-slots (a .code) (f .form-at .result) (fieldsFrom (lineIn (a .rest .now)) (a .at + 1)) (f .form-at .ensures)) (n .no-entry .result) (n .no-entry .ensures) (not-true (x .read-slots .result .ok) (search)), entry-end (a .rest .now) (n .no-entry .result) (n .no-entry .ensures), nothing (a .p .operands) (a .p .uses) (a .image .now))
+    (plain-no-slots (a .code) (lineIn (a .rest .now)) (a .at + 1) (a .v) (a .a) (s .pre .1) (s .pre .2) (s .pre .3) (operandsIn (a .p) (a .image .now) (a .numbers .now)) (x .read-slots .result) (x .read-slots .ensures .says ∙ form-slots (a .code) (f .form-at .result) (fieldsFrom (lineIn (a .rest .now)) (a .at + 1)) (f .form-at .ensures)) (n .no-entry .result) (n .no-entry .ensures) (not-true (x .read-slots .result .ok) (search)), entry-carried (a .rest .now) (n .no-entry .result) (n .no-entry .ensures), entry-end (a .rest .now) (n .no-entry .result) (n .no-entry .ensures), nothing (a .p .operands) (a .p .uses) (a .image .now))
 
 read-operands-requires : tie.Need-read-operands-requires
 read-operands-requires c κs =
@@ -43,7 +43,7 @@ read-operands-requires c κs =
     let m = most-few (s .args .code) in
     let w = form-most (s .args .code) (f .form-at .result) (f .form-at .ensures) in
     let r = s .pre .4 in
-    (s .pre .0, record { kinds = omega (arith, r .kinds); bases = omega (arith, r .bases); rows = omega (arith, r .rows) }, omega arith, x .read-slots .ensures .stop)
+    (s .pre .0, record { kinds = omega (arith, r .kinds); bases = omega (arith, r .bases); rows = omega (arith, r .rows); small = omega (arith, r .small) }, omega arith, x .read-slots .ensures .stop)
 
 returns-2 : tie.Need-returns-2
 returns-2 c =
@@ -53,7 +53,7 @@ returns-2 c =
     let f = form-of o in
     let x = slots-of o in
     let a = s .args in
-    (plain-no-operands (a .code) (lineIn (a .rest .now)) (a .at + 1) (a .v) (s .pre .1) (s .pre .2) (s .pre .3) (operandsIn (a .p) (a .image .now) (a .numbers .now)) (x .read-slots .result) (x .read-slots .ensures .says ∙ form-slots (a .code) (f .form-at .result) (fieldsFrom (lineIn (a .rest .now)) (a .at + 1)) (f .form-at .ensures)) (slots-ok o) (f .form-at .result .most) (form-most (a .code) (f .form-at .result) (f .form-at .ensures)) (operandsIn (a .p) (o .read-operands .last .1 .1 .1 .0) (o .read-operands .last .1 .1 .1 .1 .1 .0)) (o .read-operands .result) (o .read-operands .ensures .0) (n .no-entry2 .result) (n .no-entry2 .ensures) (not-true (o .read-operands .result .ok) (search)), entry-end (a .rest .now) (n .no-entry2 .result) (n .no-entry2 .ensures), o .read-operands .ensures .2)
+    (plain-no-operands (a .code) (lineIn (a .rest .now)) (a .at + 1) (a .v) (a .a) (s .pre .1) (s .pre .2) (s .pre .3) (operandsIn (a .p) (a .image .now) (a .numbers .now)) (x .read-slots .result) (x .read-slots .ensures .says ∙ form-slots (a .code) (f .form-at .result) (fieldsFrom (lineIn (a .rest .now)) (a .at + 1)) (f .form-at .ensures)) (slots-ok o) (f .form-at .result .most) (form-most (a .code) (f .form-at .result) (f .form-at .ensures)) (operandsIn (a .p) (o .read-operands .last .1 .1 .1 .0) (o .read-operands .last .1 .1 .1 .1 .1 .0)) (o .read-operands .result) (o .read-operands .ensures .0) (n .no-entry2 .result) (n .no-entry2 .ensures) (not-true (o .read-operands .result .ok) (search)), entry-carried (a .rest .now) (n .no-entry2 .result) (n .no-entry2 .ensures), entry-end (a .rest .now) (n .no-entry2 .result) (n .no-entry2 .ensures), o .read-operands .ensures .3)
 
 returns-3 : tie.Need-returns-3
 returns-3 c =
@@ -65,7 +65,7 @@ returns-3 c =
     let f = form-of o in
     let x = slots-of o in
     let a = s .args in
-    (plain-too-few (a .code) (lineIn (a .rest .now)) (a .at + 1) (a .v) (s .pre .1) (s .pre .2) (s .pre .3) (operandsIn (a .p) (a .image .now) (a .numbers .now)) (x .read-slots .result) (x .read-slots .ensures .says ∙ form-slots (a .code) (f .form-at .result) (fieldsFrom (lineIn (a .rest .now)) (a .at + 1)) (f .form-at .ensures)) (slots-ok o) (f .form-at .result .most) (form-most (a .code) (f .form-at .result) (f .form-at .ensures)) (operandsIn (a .p) (o .read-operands .last .1 .1 .1 .0) (o .read-operands .last .1 .1 .1 .1 .1 .0)) (o .read-operands .result) (o .read-operands .ensures .0) ok (n .no-entry3 .result) (n .no-entry3 .ensures) (w .fewest .result) (w .fewest .ensures) (search), entry-end (a .rest .now) (n .no-entry3 .result) (n .no-entry3 .ensures), o .read-operands .ensures .2)
+    (plain-too-few (a .code) (lineIn (a .rest .now)) (a .at + 1) (a .v) (a .a) (s .pre .1) (s .pre .2) (s .pre .3) (operandsIn (a .p) (a .image .now) (a .numbers .now)) (x .read-slots .result) (x .read-slots .ensures .says ∙ form-slots (a .code) (f .form-at .result) (fieldsFrom (lineIn (a .rest .now)) (a .at + 1)) (f .form-at .ensures)) (slots-ok o) (f .form-at .result .most) (form-most (a .code) (f .form-at .result) (f .form-at .ensures)) (operandsIn (a .p) (o .read-operands .last .1 .1 .1 .0) (o .read-operands .last .1 .1 .1 .1 .1 .0)) (o .read-operands .result) (o .read-operands .ensures .0) ok (n .no-entry3 .result) (n .no-entry3 .ensures) (w .fewest .result) (w .fewest .ensures) (search), entry-carried (a .rest .now) (n .no-entry3 .result) (n .no-entry3 .ensures), entry-end (a .rest .now) (n .no-entry3 .result) (n .no-entry3 .ensures), o .read-operands .ensures .3)
 
 returns-4 : tie.Need-returns-4
 returns-4 c =
@@ -76,7 +76,7 @@ returns-4 c =
     let f = form-of o in
     let x = slots-of o in
     let a = s .args in
-    (plain-is (a .code) (lineIn (a .rest .now)) (a .at + 1) (a .v) (s .pre .1) (s .pre .2) (s .pre .3) (operandsIn (a .p) (a .image .now) (a .numbers .now)) (x .read-slots .result) (x .read-slots .ensures .says ∙ form-slots (a .code) (f .form-at .result) (fieldsFrom (lineIn (a .rest .now)) (a .at + 1)) (f .form-at .ensures)) (slots-ok o) (f .form-at .result .most) (form-most (a .code) (f .form-at .result) (f .form-at .ensures)) (operandsIn (a .p) (o .read-operands .last .1 .1 .1 .0) (o .read-operands .last .1 .1 .1 .1 .1 .0)) (o .read-operands .result) (o .read-operands .ensures .0) ok (w .fewest .result) (w .fewest .ensures) (search), λ q. o .read-operands .ensures .1 ok, o .read-operands .ensures .2)
+    (plain-is (a .code) (lineIn (a .rest .now)) (a .at + 1) (a .v) (a .a) (s .pre .1) (s .pre .2) (s .pre .3) (operandsIn (a .p) (a .image .now) (a .numbers .now)) (x .read-slots .result) (x .read-slots .ensures .says ∙ form-slots (a .code) (f .form-at .result) (fieldsFrom (lineIn (a .rest .now)) (a .at + 1)) (f .form-at .ensures)) (slots-ok o) (f .form-at .result .most) (form-most (a .code) (f .form-at .result) (f .form-at .ensures)) (operandsIn (a .p) (o .read-operands .last .1 .1 .1 .0) (o .read-operands .last .1 .1 .1 .1 .1 .0)) (o .read-operands .result) (o .read-operands .ensures .0) ok (w .fewest .result) (w .fewest .ensures) (search), o .read-operands .ensures .1, λ q. o .read-operands .ensures .2 ok, o .read-operands .ensures .3)
 
 pub read-plain-spec : {M : Type 1} → statement M
 read-plain-spec =

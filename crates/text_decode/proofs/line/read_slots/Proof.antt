@@ -1,51 +1,59 @@
 use mathlib.Core.Path.{refl}
+use mathlib.Core.Bool.{true}
 use mathlib.Core.List.{[], _∷_}
 use Prim.Native.Nat.{_+_}
 use Rattle.text_lines.specs.Parts.{lineIn}
-use Rattle.text_decode.proofs.line.FieldLaws.{slots-are}
+use Rattle.text_decode.specs.line.Answers.{SlotIs}
+use Rattle.text_decode.proofs.line.FieldLaws.{slots-are, two-slots}
 use borrow.Author.Needs.{needs}
 use Rattle.text_decode.proofs.line.read_slots.Statement.{statement}
 use Rattle.text_decode.proofs.line.read_slots.Tie as tie
-use Rattle.text_decode.proofs.line.read_slots.Reads as reads
-use Rattle.text_decode.proofs.line.read_slots.Lts as lts
-use Rattle.text_decode.proofs.line.both.Reads as both-reads
-use Rattle.text_decode.proofs.line.read_slot.Reads as read-slot-reads
 
-read-slot-requires : tie.Need-read-slot-requires
-read-slot-requires c κs = (c .before .pre)
-
-read-slot-requires-2 : tie.Need-read-slot-requires-2
-read-slot-requires-2 c κs = (c .read-slot) .ensures .stop
-
-read-slot-requires-3 : tie.Need-read-slot-requires-3
-read-slot-requires-3 c κs = (c .read-slot2) .ensures .stop
-
-read-slot-requires-4 : tie.Need-read-slot-requires-4
-read-slot-requires-4 c κs = (c .read-slot3) .ensures .stop
-
-both-requires : tie.Need-both-requires
-both-requires c κs = search needs
-
-both-requires-2 : tie.Need-both-requires-2
-both-requires-2 c κs = search needs
-
-both-requires-3 : tie.Need-both-requires-3
-both-requires-3 c κs = search needs
-
+-- the form has two plain fields at most
 returns : tie.Need-returns
 returns c =
-    let f = ((c .before .before .before .before .before .before .before .before .args) .f) in
-    record { says = slots-are (lineIn (((c .before .before .before .before .before .before .before .before .args) .rest) .now)) (((c .before .before .before .before .before .before .before .before .args) .at) + 1) (f .a ∷ f .b ∷ f .c ∷ f .d ∷ []) (f .a) (f .b) (f .c) (f .d) ((c .before .before .before .before .before .before .read-slot) .result) ((c .before .before .before .before .before .read-slot2) .result) ((c .before .before .before .before .read-slot3) .result) ((c .before .before .before .read-slot4) .result) ((c .before .before .both) .result) ((c .before .both2) .result) ((c .both3) .result) refl ((c .before .before .before .before .before .before .read-slot) .ensures .says) ((c .before .before .before .before .before .read-slot2) .ensures .says) ((c .before .before .before .before .read-slot3) .ensures .says) ((c .before .before .before .read-slot4) .ensures .says) ((c .before .before .both) .ensures) ((c .before .both2) .ensures) ((c .both3) .ensures); stop = (c .before .before .before .read-slot4) .ensures .stop }
+    let s : tie.Start = search in
+    let x : tie.After-read-slot = search in
+    let y : tie.After-read-slot2 = search in
+    let t : tie.After-both = search in
+    let f = s .args .f in
+    record {
+      says = two-slots (lineIn (s .args .rest .now)) (s .args .at + 1) (f .a) (f .b) (f .c) (f .d) (x .read-slot .result) (y .read-slot2 .result) (t .both .result) (x .read-slot .ensures .says) (y .read-slot2 .ensures .says) (t .both .ensures) (search) (search);
+      stop = y .read-slot2 .ensures .stop;
+    }
+
+abbrev start-of : tie.After-read-slot3 → tie.Start
+start-of z = search
+
+abbrev first-of : tie.After-read-slot3 → tie.After-read-slot
+first-of z = search
+
+abbrev second-of : tie.After-read-slot3 → tie.After-read-slot2
+second-of z = search
+
+abbrev both-of : tie.After-read-slot3 → tie.After-both
+both-of z = search
+
+returns-2 : tie.Need-returns-2
+returns-2 c =
+    let v : tie.After-both3 = search in
+    let u : tie.After-both2 = search in
+    let w : tie.After-read-slot4 = search in
+    let z : tie.After-read-slot3 = search in
+    let s = start-of z in
+    let x = first-of z in
+    let y = second-of z in
+    let t = both-of z in
+    let f = s .args .f in
+    record {
+      says = slots-are (lineIn (s .args .rest .now)) (s .args .at + 1) (f .a ∷ f .b ∷ f .c ∷ f .d ∷ []) (f .a) (f .b) (f .c) (f .d) (x .read-slot .result) (y .read-slot2 .result) (z .read-slot3 .result) (w .read-slot4 .result) (t .both .result) (u .both2 .result) (v .both3 .result) refl (x .read-slot .ensures .says) (y .read-slot2 .ensures .says) (z .read-slot3 .ensures .says) (w .read-slot4 .ensures .says) (t .both .ensures) (u .both2 .ensures) (v .both3 .ensures);
+      stop = w .read-slot4 .ensures .stop;
+    }
 
 pub read-slots-spec : {M : Type 1} → statement M
 read-slots-spec =
     tie.close
     (tie.spec
-    read-slot-requires
-    read-slot-requires-2
-    read-slot-requires-3
-    read-slot-requires-4
-    both-requires
-    both-requires-2
-    both-requires-3
-    returns)
+    (λ c κs. search) (λ c κs. let x : tie.After-read-slot = search in x .read-slot .ensures .stop) (λ c κs. search needs) returns
+    (λ c κs. let y : tie.After-read-slot2 = search in y .read-slot2 .ensures .stop) (λ c κs. let z : tie.After-read-slot3 = search in z .read-slot3 .ensures .stop)
+    (λ c κs. search needs) (λ c κs. search needs) returns-2)

@@ -1,73 +1,80 @@
 use Prim.Native.Nat.{_+_, _-_, _*_, _≤_}
 use native.Mathlib.Omega.{arith}
 use borrow.Author.Needs.{needs}
-use Rattle.text_decode.proofs.state.Room.{few-rows, few-parts, few-operands, few-numbers, few-args, few-instrs, by-blocks}
+use Rattle.text_decode.proofs.state.Room.{by-plenty, few-rows, few-parts, few-operands, few-numbers, few-args, few-instrs, by-blocks}
 use Rattle.text_decode.proofs.state.has_room.Statement.{statement}
 use Rattle.text_decode.proofs.state.has_room.Tie as tie
 
-abbrev start-of : tie.Else4 → tie.Start
+abbrev start-of : tie.Else5 → tie.Start
 start-of e = search
 
-first-of : (e : tie.Else4) → 4 * (start-of e .args .u .rows + 1) ≤ start-of e .args .p .blocks - start-of e .args .p .rows
+first-of : (e : tie.Else5) → 4 * (start-of e .args .u .rows + 1) ≤ start-of e .args .p .blocks - start-of e .args .p .rows
 first-of e = search
 
-second-of : (e : tie.Else4) → 17 * (start-of e .args .u .rows + 1) ≤ start-of e .args .p .operands - start-of e .args .p .parts
+second-of : (e : tie.Else5) → 17 * (start-of e .args .u .rows + 1) ≤ start-of e .args .p .operands - start-of e .args .p .parts
 second-of e = search
 
-third-of : (e : tie.Else4) → 4 * (start-of e .args .u .operands + 16) ≤ start-of e .args .p .args - start-of e .args .p .operands
+third-of : (e : tie.Else5) → 4 * (start-of e .args .u .operands + 16) ≤ start-of e .args .p .args - start-of e .args .p .operands
 third-of e = search
 
 returns : tie.Need-returns
 returns c =
     let s : tie.Start = search in
-    few-rows (s .args .p) (s .args .numbers) (s .args .u) (search)
+    by-plenty (s .args .p) (s .args .numbers) (s .args .u) (s .pre .2 (search)) (s .pre .1)
 
 returns-2 : tie.Need-returns-2
 returns-2 c =
     let s : tie.Start = search in
-    few-parts (s .args .p) (s .args .numbers) (s .args .u) (search)
+    few-rows (s .args .p) (s .args .numbers) (s .args .u) (search)
 
 returns-3 : tie.Need-returns-3
 returns-3 c =
     let s : tie.Start = search in
-    few-operands (s .args .p) (s .args .numbers) (s .args .u) (search)
+    few-parts (s .args .p) (s .args .numbers) (s .args .u) (search)
 
 returns-4 : tie.Need-returns-4
 returns-4 c =
     let s : tie.Start = search in
-    few-numbers (s .args .p) (s .args .numbers) (s .args .u) (search)
+    few-operands (s .args .p) (s .args .numbers) (s .args .u) (search)
 
 returns-5 : tie.Need-returns-5
 returns-5 c =
     let s : tie.Start = search in
-    few-args (s .args .p) (s .args .numbers) (s .args .u) (search)
-
-sub-if6 : tie.Need-sub-if6
-sub-if6 c =
-    let s : tie.Start = search in
-    omega (arith, s .pre .0 .1)
+    few-numbers (s .args .p) (s .args .numbers) (s .args .u) (search)
 
 returns-6 : tie.Need-returns-6
 returns-6 c =
-    let s : tie.Start = search in
-    few-instrs (s .args .p) (s .args .numbers) (s .args .u) (search)
+    let e : tie.Else5 = search in
+    let s = start-of e in
+    few-args (s .args .p) (s .args .numbers) (s .args .u) (search)
 
-sub-result : tie.Need-sub-result
-sub-result c =
-    let e : tie.Else4 = search in
+sub-if7 : tie.Need-sub-if7
+sub-if7 c =
+    let e : tie.Else5 = search in
     omega (arith, start-of e .pre .0 .1)
 
 returns-7 : tie.Need-returns-7
 returns-7 c =
-    let e : tie.Else4 = search in
+    let e : tie.Else5 = search in
     let s = start-of e in
-    by-blocks (s .args .p) (s .args .numbers) (s .args .u) (first-of e) (second-of e) (third-of e) (e .if4 .left) (search) (search)
+    few-instrs (s .args .p) (s .args .numbers) (s .args .u) (search)
+
+sub-result : tie.Need-sub-result
+sub-result c =
+    let e : tie.Else5 = search in
+    omega (arith, start-of e .pre .0 .1)
+
+returns-8 : tie.Need-returns-8
+returns-8 c =
+    let e : tie.Else5 = search in
+    let s = start-of e in
+    by-blocks (s .args .p) (s .args .numbers) (s .args .u) (first-of e) (second-of e) (third-of e) (e .if5 .left) (search) (search) (s .pre .1 .args)
 
 pub has-room-spec : {M : Type 1} → statement M
 has-room-spec =
     tie.close
     (tie.spec
-    (λ c. search needs) (λ c. search needs) (λ c. search needs) returns (λ c. search needs) (λ c. search needs) (λ c. search needs) returns-2
-    (λ c. search needs) (λ c. search needs) (λ c. search needs) returns-3 (λ c. search needs) returns-4 (λ c. search needs) (λ c. search needs)
-    (λ c. search needs) returns-5 sub-if6 (λ c. let s : tie.Start = search in omega (arith, s .pre .1)) (λ c. let s : tie.Start = search in omega (arith, s .pre .1)) returns-6
-    (λ c. let s : tie.Start = search in omega (arith, s .pre .1)) (λ c. let s : tie.Start = search in omega (arith, s .pre .1)) sub-result returns-7)
+    returns (λ c. search needs) (λ c. search needs) (λ c. search needs) returns-2 (λ c. search needs) (λ c. search needs) (λ c. search needs) returns-3
+    (λ c. search needs) (λ c. search needs) (λ c. search needs) returns-4 (λ c. search needs) returns-5 (λ c. let e : tie.Else5 = search in omega (arith, start-of e .pre .0 .1)) (λ c. let e : tie.Else5 = search in omega (arith, start-of e .pre .1))
+    returns-6 sub-if7 (λ c. let e : tie.Else5 = search in omega (arith, start-of e .pre .1)) (λ c. let e : tie.Else5 = search in omega (arith, start-of e .pre .1)) returns-7
+    (λ c. let e : tie.Else5 = search in omega (arith, start-of e .pre .1)) (λ c. let e : tie.Else5 = search in omega (arith, start-of e .pre .1)) sub-result returns-8)

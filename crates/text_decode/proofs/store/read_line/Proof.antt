@@ -75,8 +75,8 @@ returns-2 c =
     let s = start-of n in
     let a = s .args in
     let w = r .read-rest .last in
-    let q = no-line-is (a .text .now) (lineIn (a .text .now)) (a .u) (storeIn (a .p) (a .image .now) (a .numbers .now)) (storeIn (a .p) (w .1 .1 .1 .0) (w .1 .1 .1 .1 .1 .0)) (o .no-line2 .result) (o .no-line2 .ensures) (bad-in (lineIn (a .text .now)) (a .u) (a .p) (a .image .now) (a .numbers .now) (s .pre .0) (n .name-code .result) (fieldsFrom (lineIn (a .text .now)) (end-of n .field-end .result + 1)) (fields-are n) (w .1 .1 .1 .0) (w .1 .1 .1 .1 .1 .0) (r .read-rest .ensures .2) (r .read-rest .result) (r .read-rest .ensures .0) f) in
-    (q .0, q .1, fields-outside (a .p) (a .image .now) (w .1 .1 .1 .0) (s .pre .0) (r .read-rest .ensures .2))
+    let q = no-line-is (a .text .now) (lineIn (a .text .now)) (a .u) (storeIn (a .p) (a .image .now) (a .numbers .now)) (storeIn (a .p) (w .1 .1 .1 .0) (w .1 .1 .1 .1 .1 .0)) (o .no-line2 .result) (o .no-line2 .ensures) (bad-in (lineIn (a .text .now)) (a .u) (a .p) (a .image .now) (a .numbers .now) (s .pre .0) (n .name-code .result) (fieldsFrom (lineIn (a .text .now)) (end-of n .field-end .result + 1)) (fields-are n) (w .1 .1 .1 .0) (w .1 .1 .1 .1 .1 .0) (r .read-rest .ensures .3) (r .read-rest .result) (r .read-rest .ensures .0) f) in
+    (q .0, q .1, fields-outside (a .p) (a .image .now) (w .1 .1 .1 .0) (s .pre .0) (r .read-rest .ensures .3))
 
 put-line-requires : tie.Need-put-line-requires
 put-line-requires c κs =
@@ -85,7 +85,7 @@ put-line-requires c κs =
     let s = start-of n in
     let l = r .read-rest .last .1 .1 .1 .0 in
     let o = s .pre .0 in
-    let w = r .read-rest .ensures .2 in
+    let w = r .read-rest .ensures .3 in
     (ordered-as (s .args .p) (s .args .image .now) l (w .size) o, code-of r, rw (ap length (rows-kept (s .args .p) (s .args .image .now) l o w)) (s .pre .1 .rows), rw (ap length (instrs-kept (s .args .p) (s .args .image .now) l o w)) (s .pre .1 .instrs), rw (ap length (blocks-kept (s .args .p) (s .args .image .now) l o w)) (s .pre .1 .blocks), s .pre .2)
 
 add-t11 : tie.Need-add-t11
@@ -93,7 +93,7 @@ add-t11 c =
     let r : tie.After-read-rest = search in
     let ok = not-false (r .read-rest .result .ok) (search) in
     let s = start-of (name-of r) in
-    let e = r .read-rest .ensures .1 ok in
+    let e = r .read-rest .ensures .2 ok in
     let h = s .pre .3 .ended in
     omega (arith, s .good .0 .0)
 
@@ -107,8 +107,8 @@ returns-3 c =
     let a = s .args in
     let w = r .read-rest .last in
     let l₂ = t .put-line .last .1 .1 .0 in
-    let o₁ = ordered-as (a .p) (a .image .now) (w .1 .1 .1 .0) (r .read-rest .ensures .2 .size) (s .pre .0) in
-    (good-in (lineIn (a .text .now)) (a .u) (a .p) (a .image .now) (a .numbers .now) (s .pre .0) (n .name-code .result) (fieldsFrom (lineIn (a .text .now)) (end-of n .field-end .result + 1)) (fields-are n) (w .1 .1 .1 .0) (w .1 .1 .1 .1 .1 .0) (r .read-rest .ensures .2) (r .read-rest .result) (r .read-rest .ensures .0) o₁ l₂ (t .put-line .ensures .1) (t .put-line .result) ok (s .pre .1) (code-of r) (t .put-line .ensures .0), λ h. r .read-rest .ensures .1 ok, good-outside (lineIn (a .text .now)) (a .u) (a .p) (a .image .now) (a .numbers .now) (s .pre .0) (n .name-code .result) (fieldsFrom (lineIn (a .text .now)) (end-of n .field-end .result + 1)) (fields-are n) (w .1 .1 .1 .0) (w .1 .1 .1 .1 .1 .0) (r .read-rest .ensures .2) (r .read-rest .result) (r .read-rest .ensures .0) o₁ l₂ (t .put-line .ensures .1) (t .put-line .result))
+    let o₁ = ordered-as (a .p) (a .image .now) (w .1 .1 .1 .0) (r .read-rest .ensures .3 .size) (s .pre .0) in
+    (good-in (lineIn (a .text .now)) (a .u) (a .p) (a .image .now) (a .numbers .now) (s .pre .0) (n .name-code .result) (fieldsFrom (lineIn (a .text .now)) (end-of n .field-end .result + 1)) (fields-are n) (w .1 .1 .1 .0) (w .1 .1 .1 .1 .1 .0) (r .read-rest .ensures .3) (r .read-rest .result) (r .read-rest .ensures .0) o₁ l₂ (t .put-line .ensures .1) (t .put-line .result) ok (r .read-rest .ensures .1 .0) (s .pre .1) (code-of r) (t .put-line .ensures .0), λ h. r .read-rest .ensures .2 ok, good-outside (lineIn (a .text .now)) (a .u) (a .p) (a .image .now) (a .numbers .now) (s .pre .0) (n .name-code .result) (fieldsFrom (lineIn (a .text .now)) (end-of n .field-end .result + 1)) (fields-are n) (w .1 .1 .1 .0) (w .1 .1 .1 .1 .1 .0) (r .read-rest .ensures .3) (r .read-rest .result) (r .read-rest .ensures .0) o₁ l₂ (t .put-line .ensures .1) (t .put-line .result))
 
 pub read-line-spec : {M : Type 1} → statement M
 read-line-spec =

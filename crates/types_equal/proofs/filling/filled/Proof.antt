@@ -1,12 +1,31 @@
-use Prim.Native.Nat.{_-_}
+use mathlib.Core.Path.{sym}
 use native.Mathlib.Omega.{arith}
 use lib.ListN.{length}
 use Rattle.types_rows.specs.Read.{tab, meanV, argsOf}
+use Rattle.types_equal.proofs.Items.{spare-kept, length-first}
 use Rattle.types_equal.proofs.Plain.{link-few}
 use Rattle.types_equal.proofs.filling.Fill.{tabled-args, spare-args, fill-types, code-form, fill-left, fill-right, code-low, codes-of, closed-code}
 use borrow.Author.Needs.{needs}
 use Rattle.types_equal.proofs.filling.filled.Statement.{statement}
 use Rattle.types_equal.proofs.filling.filled.Tie as tie
+
+abbrev code-of : tie.After-w → tie.After-v
+code-of c = search
+
+abbrev read2-of : tie.After-w → tie.After-read-value2
+read2-of c = search
+
+abbrev read-of : tie.After-w → tie.After-read-value
+read-of c = search
+
+abbrev link2-of : tie.After-w → tie.After-link-of2
+link2-of c = search
+
+abbrev link-of : tie.After-w → tie.After-link-of
+link-of c = search
+
+abbrev start-of : tie.After-w → tie.Start
+start-of c = search
 
 link-of-requires : tie.Need-link-of-requires
 link-of-requires c κs = search
@@ -52,39 +71,44 @@ returns-2 c =
     let v2 : tie.After-v = search in
     fill-types (tab _ _) _ _ _ _ _ _ ((s .pre) .1) ((link2 .link-of) .ensures) ((link3 .link-of2) .ensures) (fill-right (tab _ _) _ ((read3 .read-value2) .ensures .0) (argsOf (tab _ _) _ _) _ ((v2 .v) .given .0 .0) ((v2 .v) .given .0 .1 .0) (code-form (tab _ _) _ ((read2 .read-value) .ensures .0) ((v2 .v) .given .1)) ((read3 .read-value2) .ensures .1) ((c .match2) .keys2))
 
-slice-aggregate-fill-code : tie.Need-slice-aggregate-fill-code
-slice-aggregate-fill-code c = search
+slice-relend-prefix-fill-code : tie.Need-slice-relend-prefix-fill-code
+slice-relend-prefix-fill-code c = search needs
 
-slice-aggregate-fill-code-2 : tie.Need-slice-aggregate-fill-code-2
-slice-aggregate-fill-code-2 c = search
+slice-aggregate-fill-code : tie.Need-slice-aggregate-fill-code
+slice-aggregate-fill-code c =
+    let s : tie.Start = search in
+    sym (length-first 1543 (s .args .pending .now) (s .pre .3))
 
 fill-code-requires : tie.Need-fill-code-requires
 fill-code-requires c κs =
-    let s = c .before .before .before .before .before .before .before .before .before .before .before .before .before .before .before in
-    let link2 = c .before .before .before .before .before .before .before .before .before .before .before in
-    let link3 = c .before .before .before .before .before .before .before .before .before .before in
-    let read2 = c .before .before .before .before .before .before .before .before .before in
-    let read3 = c .before .before .before .before .before .before .before .before in
-    let v2 = c .before .before .before .before .before .before in
-    let w2 = c .before .before .before in
-    let x = code-low ((link2 .link-of) .result) ((v2 .v) .given .1) ((read2 .read-value) .ensures .1) in
-    let y = code-low ((link3 .link-of2) .result) ((w2 .w) .given .1) ((read3 .read-value2) .ensures .1) in
-    (tabled-args (tab ((s .args) .rows .now) ((s .args) .parts .now)) ((s .args) .n) ((s .args) .args .now) ((link2 .link-of) .result) ((link3 .link-of2) .result) ((s .args) .c) ((s .args) .t) ((s .pre) .0) ((s .pre) .1) ((link2 .link-of) .ensures) ((link3 .link-of2) .ensures), x .0, x .1, y .0, y .1, spare-args (tab ((s .args) .rows .now) ((s .args) .parts .now)) ((s .args) .n) ((s .args) .args .now) ((link2 .link-of) .result) ((link3 .link-of2) .result) ((s .args) .c) ((s .args) .t) ((s .pre) .0) ((link2 .link-of) .ensures) ((link3 .link-of2) .ensures), closed-code (tab ((s .args) .rows .now) ((s .args) .parts .now)) ((s .args) .args .now) ((s .args) .n) ((s .args) .c) ((link2 .link-of) .result) ((v2 .v) .given .0 .0) ((v2 .v) .given .0 .1 .0) ((link2 .link-of) .ensures) (code-form (tab ((s .args) .rows .now) ((s .args) .parts .now)) ((link2 .link-of) .result) ((read2 .read-value) .ensures .0) ((v2 .v) .given .1)) ((s .pre) .2))
+    let y : tie.After-w = search in
+    let x = code-of y in
+    let q = read2-of y in
+    let p = read-of y in
+    let m = link2-of y in
+    let l = link-of y in
+    let s = start-of y in
+    let f = code-low (l .link-of .result) (x .v .given .1) (p .read-value .ensures .1) in
+    let g = code-low (m .link-of2 .result) (y .w .given .1) (q .read-value2 .ensures .1) in
+    (tabled-args (tab (s .args .rows .now) (s .args .parts .now)) (s .args .n) (s .args .args .now) (l .link-of .result) (m .link-of2 .result) (s .args .c) (s .args .t) (s .pre .0) (s .pre .1) (l .link-of .ensures) (m .link-of2 .ensures), f .0, f .1, g .0, g .1, spare-kept (length (s .args .args .now)) (l .link-of .result) (m .link-of2 .result) _ _ (spare-args (tab (s .args .rows .now) (s .args .parts .now)) (s .args .n) (s .args .args .now) (l .link-of .result) (m .link-of2 .result) (s .args .c) (s .args .t) (s .pre .0) (l .link-of .ensures) (m .link-of2 .ensures)) (length-first 1543 (s .args .pending .now) (s .pre .3)), closed-code (tab (s .args .rows .now) (s .args .parts .now)) (s .args .args .now) (s .args .n) (s .args .c) (l .link-of .result) (x .v .given .0 .0) (x .v .given .0 .1 .0) (l .link-of .ensures) (code-form (tab (s .args .rows .now) (s .args .parts .now)) (l .link-of .result) (p .read-value .ensures .0) (x .v .given .1)) (s .pre .2))
+
+same-length : tie.Need-same-length
+same-length c = search needs
 
 returns-3 : tie.Need-returns-3
 returns-3 c =
-    let s = c .before .before .before .before .before .before .before .before .before .before .before .before .before .before .before .before .before .before in
-    let link2 = c .before .before .before .before .before .before .before .before .before .before .before .before .before .before in
-    let link3 = c .before .before .before .before .before .before .before .before .before .before .before .before .before in
-    let read2 = c .before .before .before .before .before .before .before .before .before .before .before .before in
-    let read3 = c .before .before .before .before .before .before .before .before .before .before .before in
-    let v2 = c .before .before .before .before .before .before .before .before .before in
-    let w2 = c .before .before .before .before .before .before in
-    let fill2 = c .before .before in
-    fill-types (tab _ _) _ _ _ _ _ _ ((s .pre) .1) ((link2 .link-of) .ensures) ((link3 .link-of2) .ensures) (codes-of (tab _ _) _ _ _ ((v2 .v) .given .0 .0) ((v2 .v) .given .0 .1 .0) ((w2 .w) .given .0 .0) ((w2 .w) .given .0 .1 .0) (code-form (tab _ _) _ ((read2 .read-value) .ensures .0) ((v2 .v) .given .1)) (code-form (tab _ _) _ ((read3 .read-value2) .ensures .0) ((w2 .w) .given .1)) ((fill2 .fill-code) .ensures))
+    let f : tie.After-fill-code = search in
+    let y : tie.After-w = search in
+    let x = code-of y in
+    let q = read2-of y in
+    let p = read-of y in
+    let m = link2-of y in
+    let l = link-of y in
+    let s = start-of y in
+    fill-types (tab _ _) _ _ _ _ _ _ (s .pre .1) (l .link-of .ensures) (m .link-of2 .ensures) (codes-of (tab _ _) _ _ _ (x .v .given .0 .0) (x .v .given .0 .1 .0) (y .w .given .0 .0) (y .w .given .0 .1 .0) (code-form (tab _ _) _ (p .read-value .ensures .0) (x .v .given .1)) (code-form (tab _ _) _ (q .read-value2 .ensures .0) (y .w .given .1)) (f .fill-code .ensures))
 
 pub filled-spec : {M : Type 1} → statement M
 filled-spec =
     tie.close
     (tie.spec link-of-requires link-of-requires-2 read-value-requires read-value-requires-2 enum-known-v returns enum-known-w returns-2
-    slice-aggregate-fill-code slice-aggregate-fill-code-2 fill-code-requires returns-3)
+    slice-relend-prefix-fill-code slice-aggregate-fill-code fill-code-requires same-length returns-3)

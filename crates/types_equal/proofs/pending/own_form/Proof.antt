@@ -7,7 +7,7 @@ use Rattle.types_equal.proofs.pending.own_form.Statement.{statement}
 use Rattle.types_equal.proofs.pending.own_form.Tie as tie
 
 read-stack-requires : tie.Need-read-stack-requires
-read-stack-requires c κs = search
+read-stack-requires c κs = search needs
 
 enum-told : tie.Need-enum-told
 enum-told c = search

@@ -1,34 +1,57 @@
-use Prim.Native.Nat.{_-_}
-use lib.ListN.{length}
-use Rattle.types_rows.specs.Read.{tab}
-use Rattle.types_equal.proofs.stack_pairs.Stacks.{duo-by}
 use borrow.Author.Needs.{needs}
+use native.Mathlib.Omega.{arith}
+use mathlib.Core.Path.{sym}
+use mathlib.Core.Bool.{true, false}
+use Rattle.types_rows.specs.Read.{tab}
+use Rattle.types_equal.specs.pending.Pending.{side}
+use Rattle.types_equal.proofs.stack_pairs.Stacks.{duo-by}
 use Rattle.types_equal.proofs.stack_pairs.next_pair.Statement.{statement}
 use Rattle.types_equal.proofs.stack_pairs.next_pair.Tie as tie
 
+cast-next-item : tie.Need-cast-next-item
+cast-next-item c = search needs
+
+cast-next-item-2 : tie.Need-cast-next-item-2
+cast-next-item-2 c = search needs
+
+cast-next-item-3 : tie.Need-cast-next-item-3
+cast-next-item-3 c = search needs
+
 next-item-requires : tie.Need-next-item-requires
-next-item-requires c κs = search
+next-item-requires c κs =
+    let s : tie.Start = search in
+    (s .pre .0, s .pre .2, s .pre .3, s .pre .4, s .pre .5)
+
+cast-next-item-4 : tie.Need-cast-next-item-4
+cast-next-item-4 c = search needs
+
+cast-next-item-5 : tie.Need-cast-next-item-5
+cast-next-item-5 c = search needs
 
 next-item-requires-2 : tie.Need-next-item-requires-2
-next-item-requires-2 c κs = search needs
+next-item-requires-2 c κs =
+    let s : tie.Start = search in
+    let a : tie.After-next-item = search in
+    let k = a .next-item .kept .1 .1 .1 .1 .1 .0 in
+    let p3 = s .pre .3 in
+    let p4 = s .pre .4 in
+    (s .pre .1, (λ j h. absurd (omega arith)), omega arith, omega arith, rw (k, a .next-item .ensures .1) (s .pre .6))
 
 two-items-requires : tie.Need-two-items-requires
 two-items-requires c κs = search
 
 same-length : tie.Need-same-length
-same-length c = search
-
-same-length-2 : tie.Need-same-length-2
-same-length-2 c = search
+same-length c = search needs
 
 returns : tie.Need-returns
 returns c =
     let s : tie.Start = search in
-    let next2 : tie.After-next-item = search in
-    let next3 : tie.After-next-item2 = search in
-    λ ps. duo-by (tab ((s .args) .rows .now) ps) ((s .args) .args .now) ((s .args) .m) ((s .args) .by) ((s .args) .d) ((s .args) .by2) ((s .args) .d2) ((s .args) .left .now) ((s .args) .i) ((s .args) .right .now) ((s .args) .j) ((next2 .next-item) .last .1 .1 .1 .1 .1 .0) ((next3 .next-item2) .last .1 .1 .1 .1 .1 .0) _ ((s .pre) .1 .1 .2) ((next2 .next-item) .result) ((next3 .next-item2) .result) ((c .two-items) .result) ((next2 .next-item) .ensures ps) ((next3 .next-item2) .ensures ps) ((c .two-items) .ensures)
+    let a : tie.After-next-item = search in
+    let b : tie.After-next-item2 = search in
+    λ ps. duo-by (tab (s .args .rows .now) ps) (s .args .args .now) (s .args .k .m) (s .args .k .by) (s .args .k .d) (s .args .k .by2) (s .args .k .d2) (side false (s .args .pending .now)) (s .args .i) (side true (s .args .pending .now)) (s .args .j) (side false (b .next-item2 .last .1 .1 .1 .1 .1 .0)) (side true (b .next-item2 .last .1 .1 .1 .1 .1 .0)) _ (s .pre .6) (a .next-item .result) (b .next-item2 .result) (c .two-items .result) (rw (b .next-item2 .ensures .1) (a .next-item .ensures .0 ps)) (rw (sym (a .next-item .ensures .1)) (b .next-item2 .ensures .0 ps)) (c .two-items .ensures)
 
 pub next-pair-spec : {M : Type 1} → statement M
 next-pair-spec =
     tie.close
-    (tie.spec next-item-requires next-item-requires-2 two-items-requires same-length same-length-2 returns)
+    (tie.spec cast-next-item cast-next-item-2 cast-next-item-3 next-item-requires cast-next-item-4 cast-next-item-5 next-item-requires-2
+    two-items-requires same-length returns)

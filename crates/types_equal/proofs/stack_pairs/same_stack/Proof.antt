@@ -5,6 +5,15 @@ use Rattle.types_equal.proofs.stack_pairs.Stacks.{s-place, s-given}
 use Rattle.types_equal.proofs.stack_pairs.same_stack.Statement.{statement}
 use Rattle.types_equal.proofs.stack_pairs.same_stack.Tie as tie
 
+cast-read-stack : tie.Need-cast-read-stack
+cast-read-stack c = search needs
+
+cast-read-stack-2 : tie.Need-cast-read-stack-2
+cast-read-stack-2 c = search needs
+
+cast-read-stack-3 : tie.Need-cast-read-stack-3
+cast-read-stack-3 c = search needs
+
 read-stack-requires : tie.Need-read-stack-requires
 read-stack-requires c κs = search
 
@@ -46,5 +55,5 @@ returns-3 c = none-true
 pub same-stack-spec : {M : Type 1} → statement M
 same-stack-spec =
     tie.close
-    (tie.spec read-stack-requires enum-known-s same-place-requires returns at-requires is-stack-requires add-same-place
-    same-place-requires-2 returns-2 returns-3)
+    (tie.spec cast-read-stack cast-read-stack-2 cast-read-stack-3 read-stack-requires enum-known-s same-place-requires returns at-requires
+    is-stack-requires add-same-place same-place-requires-2 returns-2 returns-3)

@@ -1,58 +1,46 @@
 -- `types_pass_two::instr_refs::operand_fault` meets its contract. Without arguments and with them.
+use mathlib.Core.Path.{_≡_, refl}
 use Rattle.types_pass_two.proofs.instr_refs.Operands.{operand-plain, operand-inst}
 use borrow.Author.Needs.{needs}
 use Rattle.types_pass_two.proofs.instr_refs.operand_fault.Statement.{statement}
 use Rattle.types_pass_two.proofs.instr_refs.operand_fault.Tie as tie
 
-cell4-requires : tie.Need-cell4-requires
-cell4-requires c κs = search needs
-
-cell4-requires-2 : tie.Need-cell4-requires-2
-cell4-requires-2 c κs = search needs
-
-number-at-requires : tie.Need-number-at-requires
-number-at-requires c κs = search needs
-
-label-fault-requires : tie.Need-label-fault-requires
-label-fault-requires c κs = search needs
-
 returns : tie.Need-returns
-returns c = operand-plain ((c .before .before .before .before .before .before .before .before .before .args) .rows .now) ((c .before .before .before .before .before .before .before .before .before .args) .n) ((c .before .before .before .before .before .before .before .before .before .args) .nb) ((c .before .before .before .before .before .before .before .before .before .args) .operands .now) ((c .before .before .before .before .before .before .before .before .before .args) .numbers .now) ((c .before .before .before .before .before .before .before .before .before .args) .args .now) ((c .before .before .before .before .before .before .before .before .before .args) .v) ((c .before .before .before .before .cell4) .result) ((c .before .before .before .cell42) .result) ((c .before .before .number-at) .result) ((c .before .label-fault) .result) ((c .before .before .before .before .cell4) .ensures .0) ((c .before .before .before .cell42) .ensures .0) ((c .before .before .number-at) .ensures) ((c .if1) .taken) ((c .before .label-fault) .ensures)
+returns c =
+    let s : tie.Start = search in
+    let m : tie.After-operand-entry = search in
+    let k : tie.After-operand-entry2 = search in
+    let f : tie.After-label-fault = search in
+    let a = s .args in
+    operand-plain (a .rows .now) (a .n) (a .nb) (a .operands .now) (a .numbers .now) (a .args .now) (a .v) (m .operand-entry .result) (k .operand-entry2 .result) _ (f .label-fault .result) (m .operand-entry .ensures .0) (k .operand-entry2 .ensures .0) refl (search) (f .label-fault .ensures)
 
-mul-list-fault : tie.Need-mul-list-fault
-mul-list-fault c = search needs
+abbrev start-of : tie.After-operand-entry3 → tie.Start
+start-of b = search
 
-list-fault-requires : tie.Need-list-fault-requires
-list-fault-requires c κs = search needs
+abbrev count-of : tie.After-operand-entry3 → tie.After-operand-entry
+count-of b = search
 
-cell4-requires-3 : tie.Need-cell4-requires-3
-cell4-requires-3 c κs = search needs
+abbrev kind-of : tie.After-operand-entry3 → tie.After-operand-entry2
+kind-of b = search
 
-code-ref-requires : tie.Need-code-ref-requires
-code-ref-requires c κs = search needs
-
-lower-requires : tie.Need-lower-requires
-lower-requires c κs = search needs
-
-lower-requires-2 : tie.Need-lower-requires-2
-lower-requires-2 c κs = search needs
+abbrev label-of : tie.After-operand-entry3 → tie.After-label-fault
+label-of b = search
 
 returns-2 : tie.Need-returns-2
-returns-2 c = operand-inst ((c .before .before .before .before .before .before .before .before .before .before .before .before .before .before .args) .rows .now) ((c .before .before .before .before .before .before .before .before .before .before .before .before .before .before .args) .n) ((c .before .before .before .before .before .before .before .before .before .before .before .before .before .before .args) .nb) ((c .before .before .before .before .before .before .before .before .before .before .before .before .before .before .args) .operands .now) ((c .before .before .before .before .before .before .before .before .before .before .before .before .before .before .args) .numbers .now) ((c .before .before .before .before .before .before .before .before .before .before .before .before .before .before .args) .args .now) ((c .before .before .before .before .before .before .before .before .before .before .before .before .before .before .args) .v) ((c .before .before .before .before .before .before .before .before .before .cell4) .result) ((c .before .before .before .before .before .before .before .before .cell42) .result) ((c .before .before .before .before .before .before .before .number-at) .result) ((c .before .before .before .cell43) .result) ((c .before .before .before .before .before .before .label-fault) .result) ((c .before .before .before .before .list-fault) .result) ((c .before .before .code-ref) .result) ((c .before .lower) .result) ((c .lower2) .result) ((c .before .before .before .before .before .before .before .before .before .cell4) .ensures .0) ((c .before .before .before .before .before .before .before .before .cell42) .ensures .0) ((c .before .before .before .before .before .before .before .number-at) .ensures) ((c .before .before .before .cell43) .ensures .0) ((c .before .before .before .before .before .if1) .left) ((c .before .before .before .before .before .before .label-fault) .ensures) ((c .before .before .before .before .list-fault) .ensures) ((c .before .before .code-ref) .ensures) ((c .before .lower) .ensures) ((c .lower2) .ensures)
+returns-2 c =
+    let o : tie.After-lower2 = search in
+    let w : tie.After-lower = search in
+    let h : tie.After-code-ref = search in
+    let t : tie.After-operand-entry4 = search in
+    let g : tie.After-list-fault = search in
+    let b : tie.After-operand-entry3 = search in
+    let some-args : (count-of b .operand-entry .result) ≡ 0 → ⊥ = search in
+    let a = start-of b .args in
+    operand-inst (a .rows .now) (a .n) (a .nb) (a .operands .now) (a .numbers .now) (a .args .now) (a .v) _ _ _ _ _ _ _ _ _ _ (count-of b .operand-entry .ensures .0) (kind-of b .operand-entry2 .ensures .0) refl (b .operand-entry3 .ensures .0) (t .operand-entry4 .ensures .0) some-args (label-of b .label-fault .ensures) (g .list-fault .ensures) (h .code-ref .ensures) (w .lower .ensures) (o .lower2 .ensures)
 
 pub operand-fault-spec : {M : Type 1} → statement M
 operand-fault-spec =
     tie.close
     (tie.spec
-    cell4-requires
-    cell4-requires-2
-    number-at-requires
-    label-fault-requires
-    returns
-    mul-list-fault
-    list-fault-requires
-    cell4-requires-3
-    code-ref-requires
-    lower-requires
-    lower-requires-2
-    returns-2)
+    (λ c κs. search needs) (λ c κs. search needs) (λ c κs. search needs) returns
+    (λ c κs. search needs) (λ c κs. search needs) (λ c κs. search needs) (λ c κs. search needs) (λ c κs. search needs) (λ c κs. search needs) returns-2)

@@ -82,7 +82,7 @@ large-large-requires : (t : ℕ) → large-lts.Need-large-requires (
 large-large-requires t c κs =
     let w : large-lts.After-check-in (check-in-reads.Asked, check-in-reads.Learnt, large-below t, large.Post) (large-at t) large.Post = search in
     let z : w .check-in .result .fits ≡ false = search in
-    absurd (true≢false (sym (w .check-in .ensures .enough (zeros-long 259998 259998 (omega arith), zeros-long 16400 16400 (omega arith))) ∙ z))
+    absurd (true≢false (sym (w .check-in .ensures .enough (zeros-long 161694 161694 (omega arith), zeros-long 16400 16400 (omega arith))) ∙ z))
 
 large-same-length-3 : (t : ℕ) → large-lts.Need-same-length-3 (
   check-in-reads.Asked,

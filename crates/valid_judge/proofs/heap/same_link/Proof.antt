@@ -8,27 +8,36 @@ use Rattle.valid_typing.specs.Typing.{typesIn}
 use borrow.Author.Needs.{needs}
 use Rattle.valid_judge.proofs.heap.same_link.Statement.{statement}
 use Rattle.valid_judge.proofs.heap.same_link.Tie as tie
-use Rattle.valid_judge.proofs.heap.same_link.Reads as reads
-use Rattle.valid_judge.proofs.heap.same_link.Lts as lts
-use Rattle.valid_typing.proofs.same_rows.Reads as same-rows-reads
 
 same-rows-requires : tie.Need-same-rows-requires
-same-rows-requires c κs = (c .before .before .before .pre)
+same-rows-requires c κs =
+    let s : tie.Start = search in
+    s .pre
 
 returns : tie.Need-returns
 returns c =
-    let q : 0 ≡ (c .before .before .before .before .args) .u - 1 = omega (arith, (c .before .if1) .taken) in
-    (c .same-rows) .ensures ∙ ap (λ (r : ℕ). same (typeAt value (typesIn ((c .before .before .before .before .args) .rows .now) ((c .before .before .before .before .args) .parts .now) ((c .before .before .before .before .args) .n)) r) (typeAt value (typesIn ((c .before .before .before .before .args) .rows .now) ((c .before .before .before .before .args) .parts .now) ((c .before .before .before .before .args) .n)) ((c .before .before .before .before .args) .t))) q
+    let s : tie.Start = search in
+    let if2 : tie.Then1 = search in
+    let samer : tie.After-same-rows = search in
+    let q : 0 ≡ (s .args) .u - 1 = omega (arith, (if2 .if1) .taken) in
+    (samer .same-rows) .ensures ∙ ap (λ (r : ℕ). same (typeAt value (typesIn ((s .args) .rows .now) ((s .args) .parts .now) ((s .args) .n)) r) (typeAt value (typesIn ((s .args) .rows .now) ((s .args) .parts .now) ((s .args) .n)) ((s .args) .t))) q
 
 sub-same-rows : tie.Need-sub-same-rows
-sub-same-rows c = omega (arith, (c .if1) .left)
+sub-same-rows c =
+    let if2 : tie.Else1 = search in
+    omega (arith, (if2 .if1) .left)
 
 same-rows-requires-2 : tie.Need-same-rows-requires-2
-same-rows-requires-2 c κs = (c .before .before .before .pre)
+same-rows-requires-2 c κs =
+    let s : tie.Start = search in
+    s .pre
 
 returns-2 : tie.Need-returns-2
-returns-2 c = (c .same-rows2) .ensures
+returns-2 c =
+    let samer : tie.After-same-rows2 = search in
+    (samer .same-rows2) .ensures
 
 pub same-link-spec : {M : Type 1} → statement M
 same-link-spec =
-    tie.close (tie.spec same-rows-requires returns sub-same-rows same-rows-requires-2 returns-2)
+    tie.close
+    (tie.spec same-rows-requires (λ c. search needs) returns sub-same-rows same-rows-requires-2 (λ c. search needs) returns-2)

@@ -14,17 +14,17 @@ use borrow.Author.Needs.{needs}
 use Rattle.valid_judge.proofs.heap.stop.Statement.{statement}
 use Rattle.valid_judge.proofs.heap.stop.Tie as tie
 
-abbrev start-of : tie.After-least → tie.Start
-start-of t = search
-
-abbrev formed-row-of : tie.After-least → tie.After-formed-row
-formed-row-of t = search
+abbrev if-none-of : tie.After-least → tie.After-if-none
+if-none-of t = search
 
 abbrev link-at-of : tie.After-least → tie.After-link-at
 link-at-of t = search
 
-abbrev if-none-of : tie.After-least → tie.After-if-none
-if-none-of t = search
+abbrev formed-row-of : tie.After-least → tie.After-formed-row
+formed-row-of t = search
+
+abbrev start-of : tie.After-least → tie.Start
+start-of t = search
 
 link-at-requires : tie.Need-link-at-requires
 link-at-requires c κs =
@@ -57,7 +57,7 @@ same-link-requires : tie.Need-same-link-requires
 unfolding part
 same-link-requires c κs =
     let s : tie.Start = search in
-    s .pre .1
+    (s .pre .1, s .pre .3)
 
 returns-2 : tie.Need-returns-2
 unfolding part
@@ -94,7 +94,4 @@ returns-3 c =
 pub stop-spec : {M : Type 1} → statement M
 stop-spec =
     tie.close
-    (tie.spec
-    link-at-requires formed-row-requires (λ c κs. search needs) (λ c κs. search needs) returns given-row-requires (λ c. search needs)
-    (λ c. search needs) (λ c. search needs) (λ c. search needs) (λ c. search needs) (λ c. search needs) (λ c. search needs)
-    (λ c. search needs) same-link-requires returns-2 returns-3)
+    (tie.spec link-at-requires formed-row-requires (λ c κs. search needs) (λ c κs. search needs) returns given-row-requires (λ c. search needs) (λ c. search needs) (λ c. search needs) (λ c. search needs) (λ c. search needs) (λ c. search needs) (λ c. search needs) (λ c. search needs) same-link-requires (λ c. search needs) returns-2 (λ c. search needs) returns-3)

@@ -14,47 +14,75 @@ use Rattle.valid_judge.proofs.heap.Laws.{least-known}
 use borrow.Author.Needs.{needs}
 use Rattle.valid_judge.proofs.heap.store.Statement.{statement}
 use Rattle.valid_judge.proofs.heap.store.Tie as tie
-use Rattle.valid_judge.proofs.heap.store.Reads as reads
-use Rattle.valid_judge.proofs.heap.store.Lts as lts
-use Rattle.valid_context.proofs.least.Reads as least-reads
-use Rattle.valid_judge.proofs.heap.if_none.Reads as if-none-reads
-use Rattle.valid_judge.proofs.heap.link_at.Reads as link-at-reads
-use Rattle.valid_judge.proofs.heap.same_link.Reads as same-link-reads
-use Rattle.valid_typing.proofs.component.Reads as component-reads
+
+abbrev start-of : tie.After-same-link → tie.Start
+start-of t = search
+
+abbrev component-of : tie.After-same-link → tie.After-component
+component-of t = search
+
+abbrev link-at-of : tie.After-same-link → tie.After-link-at
+link-at-of t = search
+
+abbrev if-none-of : tie.After-same-link → tie.After-if-none
+if-none-of t = search
+
+abbrev least-of : tie.After-same-link → tie.After-least
+least-of t = search
+
+abbrev else1-of : tie.After-same-link → tie.Else1
+else1-of t = search
 
 component-requires : tie.Need-component-requires
-component-requires c κs = (c .before .before .before .pre)
+component-requires c κs =
+    let s : tie.Start = search in
+    (s .pre .0)
 
 link-at-requires : tie.Need-link-at-requires
-link-at-requires c κs = (c .before .before .before .before .pre) .few
-
-if-none-requires : tie.Need-if-none-requires
-if-none-requires c κs = search needs
-
-least-requires : tie.Need-least-requires
-least-requires c κs = search needs
+link-at-requires c κs =
+    let s : tie.Start = search in
+    (s .pre .0) .few
 
 returns : tie.Need-returns
-returns c = λ Δ P s e. st-stops P Δ (held s (regsOf (typesIn ((c .before .before .before .before .before .before .before .before .args) .rows .now) ((c .before .before .before .before .before .before .before .before .args) .parts .now) ((c .before .before .before .before .before .before .before .before .args) .n)) ((c .before .before .before .before .before .before .before .before .args) .regs .now))) ((c .before .before .before .before .before .before .before .before .args) .d) ((c .before .before .before .before .before .before .before .before .args) .i) ((c .before .before .before .before .before .before .before .before .args) .s) ((c .before .before .before .before .component) .result .fault) (ifNone 9 ((c .before .before .before .link-at) .result)) _ _ ((c .before .before .before .before .component) .ensures .0 P Δ) (known-told P Δ (typesIn ((c .before .before .before .before .before .before .before .before .args) .rows .now) ((c .before .before .before .before .before .before .before .before .args) .parts .now) ((c .before .before .before .before .before .before .before .before .args) .n)) (regsOf (typesIn ((c .before .before .before .before .before .before .before .before .args) .rows .now) ((c .before .before .before .before .before .before .before .before .args) .parts .now) ((c .before .before .before .before .before .before .before .before .args) .n)) ((c .before .before .before .before .before .before .before .before .args) .regs .now)) ((c .before .before .before .before .before .before .before .before .args) .s) ((c .before .before .before .link-at) .result) ((c .before .before .before .link-at) .ensures .0 ((c .before .before .before .before .before .before .before .before .args) .rows .now) ((c .before .before .before .before .before .before .before .before .args) .parts .now) (c .before .before .before .before .before .before .before .before .pre))) (λ z. (c .if1) .taken ((least-known ((c .before .before .before .before .component) .result .fault) 9 ((c .before .before .before .link-at) .result) ((c .before .before .if-none) .ensures) ((c .before .least) .ensures)) ∙ z)) ∙ ap (λ (k : ℕ). answer k (held s (regsOf (typesIn ((c .before .before .before .before .before .before .before .before .args) .rows .now) ((c .before .before .before .before .before .before .before .before .args) .parts .now) ((c .before .before .before .before .before .before .before .before .args) .n)) ((c .before .before .before .before .before .before .before .before .args) .regs .now)))) (sym (least-known ((c .before .before .before .before .component) .result .fault) 9 ((c .before .before .before .link-at) .result) ((c .before .before .if-none) .ensures) ((c .before .least) .ensures)))
+returns c =
+    let s2 : tie.Start = search in
+    let compo : tie.After-component = search in
+    let linka : tie.After-link-at = search in
+    let if2 : tie.Then1 = search in
+    let ifnon : tie.After-if-none = search in
+    let least2 : tie.After-least = search in
+    λ Δ P s e. st-stops P Δ (held s (regsOf (typesIn ((s2 .args) .rows .now) ((s2 .args) .parts .now) ((s2 .args) .n)) ((s2 .args) .regs .now))) ((s2 .args) .d) ((s2 .args) .i) ((s2 .args) .s) ((compo .component) .result .fault) (ifNone 9 ((linka .link-at) .result)) _ _ ((compo .component) .ensures .0 P Δ) (known-told P Δ (typesIn ((s2 .args) .rows .now) ((s2 .args) .parts .now) ((s2 .args) .n)) (regsOf (typesIn ((s2 .args) .rows .now) ((s2 .args) .parts .now) ((s2 .args) .n)) ((s2 .args) .regs .now)) ((s2 .args) .s) ((linka .link-at) .result) ((linka .link-at) .ensures .0 ((s2 .args) .rows .now) ((s2 .args) .parts .now) (s2 .pre .0))) (λ z. (if2 .if1) .taken ((least-known ((compo .component) .result .fault) 9 ((linka .link-at) .result) ((ifnon .if-none) .ensures) ((least2 .least) .ensures)) ∙ z)) ∙ ap (λ (k : ℕ). answer k (held s (regsOf (typesIn ((s2 .args) .rows .now) ((s2 .args) .parts .now) ((s2 .args) .n)) ((s2 .args) .regs .now)))) (sym (least-known ((compo .component) .result .fault) 9 ((linka .link-at) .result) ((ifnon .if-none) .ensures) ((least2 .least) .ensures)))
 
 same-link-requires : tie.Need-same-link-requires
-same-link-requires c κs = (c .before .before .before .before .before .before .before .before .pre)
+same-link-requires c κs =
+    let s : tie.Start = search in
+    s .pre
 
 returns-2 : tie.Need-returns-2
-returns-2 c = λ Δ P s e. st-goes P Δ (held s (regsOf (typesIn ((c .before .before .before .before .before .before .before .before .before .before .args) .rows .now) ((c .before .before .before .before .before .before .before .before .before .before .args) .parts .now) ((c .before .before .before .before .before .before .before .before .before .before .args) .n)) ((c .before .before .before .before .before .before .before .before .before .before .args) .regs .now))) ((c .before .before .before .before .before .before .before .before .before .before .args) .d) ((c .before .before .before .before .before .before .before .before .before .before .args) .i) ((c .before .before .before .before .before .before .before .before .before .before .args) .s) ((c .before .before .before .before .before .before .component) .result .fault) (ifNone 9 ((c .before .before .before .before .before .link-at) .result)) _ _ true ((c .before .before .before .before .before .before .component) .ensures .0 P Δ) (known-told P Δ (typesIn ((c .before .before .before .before .before .before .before .before .before .before .args) .rows .now) ((c .before .before .before .before .before .before .before .before .before .before .args) .parts .now) ((c .before .before .before .before .before .before .before .before .before .before .args) .n)) (regsOf (typesIn ((c .before .before .before .before .before .before .before .before .before .before .args) .rows .now) ((c .before .before .before .before .before .before .before .before .before .before .args) .parts .now) ((c .before .before .before .before .before .before .before .before .before .before .args) .n)) ((c .before .before .before .before .before .before .before .before .before .before .args) .regs .now)) ((c .before .before .before .before .before .before .before .before .before .before .args) .s) ((c .before .before .before .before .before .link-at) .result) ((c .before .before .before .before .before .link-at) .ensures .0 ((c .before .before .before .before .before .before .before .before .before .before .args) .rows .now) ((c .before .before .before .before .before .before .before .before .before .before .args) .parts .now) (c .before .before .before .before .before .before .before .before .before .before .pre))) (sym (least-known ((c .before .before .before .before .before .before .component) .result .fault) 9 ((c .before .before .before .before .before .link-at) .result) ((c .before .before .before .before .if-none) .ensures) ((c .before .before .before .least) .ensures)) ∙ (c .before .before .if1) .left) (sym ((c .if2) .taken) ∙ (c .before .same-link) .ensures)
+returns-2 c =
+    let if4 : tie.Then2 = search in
+    let samel : tie.After-same-link = search in
+    let s2 = start-of samel in
+    let compo = component-of samel in
+    let linka = link-at-of samel in
+    let ifnon = if-none-of samel in
+    let least2 = least-of samel in
+    let if3 = else1-of samel in
+    λ Δ P s e. st-goes P Δ (held s (regsOf (typesIn ((s2 .args) .rows .now) ((s2 .args) .parts .now) ((s2 .args) .n)) ((s2 .args) .regs .now))) ((s2 .args) .d) ((s2 .args) .i) ((s2 .args) .s) ((compo .component) .result .fault) (ifNone 9 ((linka .link-at) .result)) _ _ true ((compo .component) .ensures .0 P Δ) (known-told P Δ (typesIn ((s2 .args) .rows .now) ((s2 .args) .parts .now) ((s2 .args) .n)) (regsOf (typesIn ((s2 .args) .rows .now) ((s2 .args) .parts .now) ((s2 .args) .n)) ((s2 .args) .regs .now)) ((s2 .args) .s) ((linka .link-at) .result) ((linka .link-at) .ensures .0 ((s2 .args) .rows .now) ((s2 .args) .parts .now) (s2 .pre .0))) (sym (least-known ((compo .component) .result .fault) 9 ((linka .link-at) .result) ((ifnon .if-none) .ensures) ((least2 .least) .ensures)) ∙ (if3 .if1) .left) (sym ((if4 .if2) .taken) ∙ (samel .same-link) .ensures)
 
 returns-3 : tie.Need-returns-3
-returns-3 c = λ Δ P s e. st-goes P Δ (held s (regsOf (typesIn ((c .before .before .before .before .before .before .before .before .before .before .args) .rows .now) ((c .before .before .before .before .before .before .before .before .before .before .args) .parts .now) ((c .before .before .before .before .before .before .before .before .before .before .args) .n)) ((c .before .before .before .before .before .before .before .before .before .before .args) .regs .now))) ((c .before .before .before .before .before .before .before .before .before .before .args) .d) ((c .before .before .before .before .before .before .before .before .before .before .args) .i) ((c .before .before .before .before .before .before .before .before .before .before .args) .s) ((c .before .before .before .before .before .before .component) .result .fault) (ifNone 9 ((c .before .before .before .before .before .link-at) .result)) _ _ false ((c .before .before .before .before .before .before .component) .ensures .0 P Δ) (known-told P Δ (typesIn ((c .before .before .before .before .before .before .before .before .before .before .args) .rows .now) ((c .before .before .before .before .before .before .before .before .before .before .args) .parts .now) ((c .before .before .before .before .before .before .before .before .before .before .args) .n)) (regsOf (typesIn ((c .before .before .before .before .before .before .before .before .before .before .args) .rows .now) ((c .before .before .before .before .before .before .before .before .before .before .args) .parts .now) ((c .before .before .before .before .before .before .before .before .before .before .args) .n)) ((c .before .before .before .before .before .before .before .before .before .before .args) .regs .now)) ((c .before .before .before .before .before .before .before .before .before .before .args) .s) ((c .before .before .before .before .before .link-at) .result) ((c .before .before .before .before .before .link-at) .ensures .0 ((c .before .before .before .before .before .before .before .before .before .before .args) .rows .now) ((c .before .before .before .before .before .before .before .before .before .before .args) .parts .now) (c .before .before .before .before .before .before .before .before .before .before .pre))) (sym (least-known ((c .before .before .before .before .before .before .component) .result .fault) 9 ((c .before .before .before .before .before .link-at) .result) ((c .before .before .before .before .if-none) .ensures) ((c .before .before .before .least) .ensures)) ∙ (c .before .before .if1) .left) (sym ((c .if2) .left) ∙ (c .before .same-link) .ensures)
+returns-3 c =
+    let if4 : tie.Else2 = search in
+    let samel : tie.After-same-link = search in
+    let s2 = start-of samel in
+    let compo = component-of samel in
+    let linka = link-at-of samel in
+    let ifnon = if-none-of samel in
+    let least2 = least-of samel in
+    let if3 = else1-of samel in
+    λ Δ P s e. st-goes P Δ (held s (regsOf (typesIn ((s2 .args) .rows .now) ((s2 .args) .parts .now) ((s2 .args) .n)) ((s2 .args) .regs .now))) ((s2 .args) .d) ((s2 .args) .i) ((s2 .args) .s) ((compo .component) .result .fault) (ifNone 9 ((linka .link-at) .result)) _ _ false ((compo .component) .ensures .0 P Δ) (known-told P Δ (typesIn ((s2 .args) .rows .now) ((s2 .args) .parts .now) ((s2 .args) .n)) (regsOf (typesIn ((s2 .args) .rows .now) ((s2 .args) .parts .now) ((s2 .args) .n)) ((s2 .args) .regs .now)) ((s2 .args) .s) ((linka .link-at) .result) ((linka .link-at) .ensures .0 ((s2 .args) .rows .now) ((s2 .args) .parts .now) (s2 .pre .0))) (sym (least-known ((compo .component) .result .fault) 9 ((linka .link-at) .result) ((ifnon .if-none) .ensures) ((least2 .least) .ensures)) ∙ (if3 .if1) .left) (sym ((if4 .if2) .left) ∙ (samel .same-link) .ensures)
 
 pub store-spec : {M : Type 1} → statement M
 store-spec =
     tie.close
-    (tie.spec
-    component-requires
-    link-at-requires
-    if-none-requires
-    least-requires
-    returns
-    same-link-requires
-    returns-2
-    returns-3)
+    (tie.spec component-requires link-at-requires (λ c κs. search needs) (λ c κs. search needs) returns same-link-requires (λ c. search needs) returns-2 (λ c. search needs) returns-3)

@@ -44,6 +44,4 @@ returns-2 c =
 pub branch-spec : {M : Type 1} → statement M
 branch-spec =
     tie.close
-    (tie.spec
-    (λ c. search needs) (λ c. search) (λ c. search) (λ c. search needs) (λ c. search needs) (λ c. search) (λ c. search) (λ c. search)
-    integer-requires target-requires (λ c κs. search) (λ c. search) returns (λ c. search) returns-2)
+    (tie.spec (λ c. search needs) (λ c. search needs) (λ c. search needs) (λ c. search needs) (λ c. search needs) (λ c. search needs) (λ c. search needs) (λ c. search needs) integer-requires target-requires (λ c κs. search needs) (λ c. search needs) returns (λ c. search needs) returns-2)

@@ -20,5 +20,4 @@ returns c =
     λ P h. jumps P (lettersIn (a .p) l (a .w)) (contextOf (typesAt (a .p) l (a .c .rows)) (a .regs .now) (a .sp .now) (a .d)) (operandAt (operandsIn (a .p) l (a .literals .now)) (a .v)) (t-target .target .result .fault) (t-target .target .result .item) (t-target .target .ensures P h)
 
 pub jump-spec : {M : Type 1} → statement M
-jump-spec = tie.close (tie.spec
-    target-requires (λ c. search) returns)
+jump-spec = tie.close (tie.spec target-requires (λ c. search needs) returns)

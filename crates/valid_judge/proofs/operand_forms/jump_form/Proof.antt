@@ -53,6 +53,4 @@ returns-2 c =
 pub jump-form-spec : {M : Type 1} → statement M
 jump-form-spec =
     tie.close
-    (tie.spec
-    (λ c. search needs) (λ c. search) (λ c. search) (λ c. search needs) (λ c κs. search needs) jump-requires (λ c. search) returns
-    (λ c κs. search needs) branch-requires (λ c. search) returns-2)
+    (tie.spec (λ c. search needs) (λ c. search needs) (λ c. search needs) (λ c. search needs) (λ c κs. search needs) jump-requires (λ c. search needs) returns (λ c κs. search needs) branch-requires (λ c. search needs) returns-2)

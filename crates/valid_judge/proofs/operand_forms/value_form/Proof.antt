@@ -12,23 +12,23 @@ use borrow.Author.Needs.{needs}
 use Rattle.valid_judge.proofs.operand_forms.value_form.Statement.{statement}
 use Rattle.valid_judge.proofs.operand_forms.value_form.Tie as tie
 
-abbrev entry3-of : tie.After-entry4 → tie.After-entry3
-entry3-of t = search
-
-abbrev else1-of : tie.After-entry4 → tie.Else1
-else1-of t = search
-
-abbrev else2-of : tie.After-entry4 → tie.Else2
-else2-of t = search
-
-abbrev start-of : tie.After-entry3 → tie.Start
-start-of t = search
+abbrev entry2-of : tie.After-entry3 → tie.After-entry2
+entry2-of t = search
 
 abbrev entry-of : tie.After-entry3 → tie.After-entry
 entry-of t = search
 
-abbrev entry2-of : tie.After-entry3 → tie.After-entry2
-entry2-of t = search
+abbrev start-of : tie.After-entry3 → tie.Start
+start-of t = search
+
+abbrev else2-of : tie.After-entry4 → tie.Else2
+else2-of t = search
+
+abbrev else1-of : tie.After-entry4 → tie.Else1
+else1-of t = search
+
+abbrev entry3-of : tie.After-entry4 → tie.After-entry3
+entry3-of t = search
 
 compute-requires : tie.Need-compute-requires
 unfolding part
@@ -106,7 +106,4 @@ returns-3 c =
 pub value-form-spec : {M : Type 1} → statement M
 value-form-spec =
     tie.close
-    (tie.spec
-    (λ c. search needs) (λ c. search) (λ c. search) (λ c. search needs) (λ c κs. search needs) (λ c κs. search needs)
-    (λ c κs. search needs) compute-requires (λ c. search) (λ c. search) returns move-to-requires (λ c. search) (λ c. search) returns-2
-    (λ c κs. search needs) make-tuple-requires (λ c. search) (λ c. search) returns-3)
+    (tie.spec (λ c. search needs) (λ c. search needs) (λ c. search needs) (λ c. search needs) (λ c κs. search needs) (λ c κs. search needs) (λ c κs. search needs) compute-requires (λ c. search needs) (λ c. search needs) returns move-to-requires (λ c. search needs) (λ c. search needs) returns-2 (λ c κs. search needs) make-tuple-requires (λ c. search needs) (λ c. search needs) returns-3)

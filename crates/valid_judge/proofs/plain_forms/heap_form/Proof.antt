@@ -12,6 +12,15 @@ use borrow.Author.Needs.{needs}
 use Rattle.valid_judge.proofs.plain_forms.heap_form.Statement.{statement}
 use Rattle.valid_judge.proofs.plain_forms.heap_form.Tie as tie
 
+abbrev start-of : tie.After-entry3 → tie.Start
+start-of t = search
+
+abbrev entry-of : tie.After-entry3 → tie.After-entry
+entry-of t = search
+
+abbrev entry2-of : tie.After-entry3 → tie.After-entry2
+entry2-of t = search
+
 load-requires : tie.Need-load-requires
 unfolding part
 load-requires c κs =
@@ -35,43 +44,40 @@ store-requires : tie.Need-store-requires
 unfolding part
 store-requires c κs =
     let s : tie.Start = search in
-    s .pre .1
+    (s .pre .1, s .pre .7)
 
 returns-2 : tie.Need-returns-2
 unfolding part
 returns-2 c =
-    let s : tie.Start = search in
-    let a = s .args in
-    let l = a .image .now in
-    let t-entry : tie.After-entry = search in
-    let t-entry2 : tie.After-entry2 = search in
-    let t-entry3 : tie.After-entry3 = search in
     let i2 : tie.Then2 = search in
     let t-store : tie.After-store = search in
+    let t-entry3 : tie.After-entry3 = search in
+    let s = start-of t-entry3 in
+    let t-entry = entry-of t-entry3 in
+    let t-entry2 = entry2-of t-entry3 in
+    let a = s .args in
+    let l = a .image .now in
     λ ω P z e. ap (λ (x : Instr). toldOf (judge P (lettersIn (a .p) l (a .w)) (held z (regsOf (typesAt (a .p) l (a .n)) (a .regs .now))) x)) (is-st (instrSection (a .p) l) ω (a .x .at) (a .x .code) (s .pre .4) (t-entry .entry .ensures .0) (t-entry2 .entry2 .ensures .0) (t-entry3 .entry3 .ensures .0) (i2 .if2 .taken)) ∙ t-store .store .ensures (lettersIn (a .p) l (a .w)) P z e
 
 stop-requires : tie.Need-stop-requires
 stop-requires c κs =
     let s : tie.Start = search in
-    (s .pre .0, s .pre .1, s .pre .2)
+    (s .pre .0, s .pre .1, s .pre .2, s .pre .7)
 
 returns-3 : tie.Need-returns-3
 unfolding part
 returns-3 c =
-    let s : tie.Start = search in
-    let a = s .args in
-    let l = a .image .now in
-    let t-entry : tie.After-entry = search in
     let i1 : tie.Else1 = search in
     let i2 : tie.Else2 = search in
     let t-stop : tie.After-stop = search in
+    let t-via : tie.After-entry3 = search in
+    let s = start-of t-via in
+    let t-entry = entry-of t-via in
+    let a = s .args in
+    let l = a .image .now in
     λ ω P z e. ap (λ (x : Instr). toldOf (judge P (lettersIn (a .p) l (a .w)) (held z (regsOf (typesAt (a .p) l (a .n)) (a .regs .now))) x)) (is-halt (instrSection (a .p) l) ω (a .x .at) (a .x .code) (s .pre .4) (t-entry .entry .ensures .0) (s .pre .5 (omega (arith, s .pre .6, i1 .if1 .left, i2 .if2 .left)))) ∙ t-stop .stop .ensures P z e
 
 pub heap-form-spec : {M : Type 1} → statement M
 heap-form-spec =
     tie.close
-    (tie.spec
-    (λ c. search needs) (λ c. search needs) (λ c. search needs) (λ c. search needs) (λ c. search needs) (λ c. search needs)
-    (λ c. search needs) (λ c. search needs) (λ c. search needs) (λ c. search needs) (λ c. search needs) (λ c. search needs)
-    (λ c κs. search needs) (λ c κs. search needs) (λ c κs. search needs) load-requires (λ c. search needs) returns store-requires
-    (λ c. search needs) returns-2 stop-requires (λ c. search needs) returns-3)
+    (tie.spec (λ c. search needs) (λ c. search needs) (λ c. search needs) (λ c. search needs) (λ c. search needs) (λ c. search needs) (λ c. search needs) (λ c. search needs) (λ c. search needs) (λ c. search needs) (λ c. search needs) (λ c. search needs) (λ c κs. search needs) (λ c κs. search needs) (λ c κs. search needs) load-requires (λ c. search needs) returns store-requires (λ c. search needs) (λ c. search needs) returns-2 stop-requires (λ c. search needs) (λ c. search needs) returns-3)

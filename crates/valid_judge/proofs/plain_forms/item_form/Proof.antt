@@ -11,26 +11,26 @@ use borrow.Author.Needs.{needs}
 use Rattle.valid_judge.proofs.plain_forms.item_form.Statement.{statement}
 use Rattle.valid_judge.proofs.plain_forms.item_form.Tie as tie
 
-abbrev entry3-of : tie.After-entry4 → tie.After-entry3
-entry3-of t = search
-
-abbrev else3-of : tie.After-entry4 → tie.Else3
-else3-of t = search
-
-abbrev entry2-of : tie.After-entry3 → tie.After-entry2
-entry2-of t = search
-
-abbrev else1-of : tie.After-entry3 → tie.Else1
-else1-of t = search
-
-abbrev else2-of : tie.After-entry3 → tie.Else2
-else2-of t = search
+abbrev entry-of : tie.After-entry2 → tie.After-entry
+entry-of t = search
 
 abbrev start-of : tie.After-entry2 → tie.Start
 start-of t = search
 
-abbrev entry-of : tie.After-entry2 → tie.After-entry
-entry-of t = search
+abbrev else2-of : tie.After-entry3 → tie.Else2
+else2-of t = search
+
+abbrev else1-of : tie.After-entry3 → tie.Else1
+else1-of t = search
+
+abbrev entry2-of : tie.After-entry3 → tie.After-entry2
+entry2-of t = search
+
+abbrev else3-of : tie.After-entry4 → tie.Else3
+else3-of t = search
+
+abbrev entry3-of : tie.After-entry4 → tie.After-entry3
+entry3-of t = search
 
 load-item-requires : tie.Need-load-item-requires
 load-item-requires c κs =
@@ -70,7 +70,7 @@ load-through-requires : tie.Need-load-through-requires
 unfolding part
 load-through-requires c κs =
     let s : tie.Start = search in
-    (s .pre .1, s .pre .4)
+    (s .pre .1, s .pre .4, s .pre .10)
 
 returns-3 : tie.Need-returns-3
 unfolding part
@@ -88,7 +88,7 @@ returns-3 c =
 store-through-requires : tie.Need-store-through-requires
 store-through-requires c κs =
     let s : tie.Start = search in
-    (s .pre .0, s .pre .1, s .pre .2, s .pre .3, s .pre .4, s .pre .5, s .pre .6)
+    (s .pre .0, s .pre .1, s .pre .2, s .pre .3, s .pre .4, s .pre .5, s .pre .6, s .pre .10)
 
 returns-4 : tie.Need-returns-4
 unfolding part
@@ -110,10 +110,4 @@ returns-4 c =
 pub item-form-spec : {M : Type 1} → statement M
 item-form-spec =
     tie.close
-    (tie.spec
-    (λ c. search needs) (λ c. search needs) (λ c. search needs) (λ c. search needs) (λ c κs. search needs) (λ c κs. search needs)
-    load-item-requires (λ c. search needs) (λ c. search needs) returns store-item-requires (λ c. search needs) (λ c. search needs)
-    returns-2 (λ c κs. search needs) (λ c. search needs) (λ c. search needs) (λ c. search needs) (λ c. search needs)
-    (λ c. search needs) (λ c. search needs) (λ c. search needs) (λ c. search needs) load-through-requires (λ c. search needs)
-    (λ c. search needs) returns-3 (λ c κs. search needs) store-through-requires (λ c. search needs) (λ c. search needs)
-    (λ c. search needs) returns-4)
+    (tie.spec (λ c. search needs) (λ c. search needs) (λ c. search needs) (λ c. search needs) (λ c κs. search needs) (λ c κs. search needs) load-item-requires (λ c. search needs) (λ c. search needs) returns store-item-requires (λ c. search needs) (λ c. search needs) returns-2 (λ c κs. search needs) (λ c. search needs) (λ c. search needs) (λ c. search needs) (λ c. search needs) (λ c. search needs) (λ c. search needs) (λ c. search needs) (λ c. search needs) load-through-requires (λ c. search needs) (λ c. search needs) (λ c. search needs) returns-3 (λ c κs. search needs) store-through-requires (λ c. search needs) (λ c. search needs) (λ c. search needs) (λ c. search needs) returns-4)

@@ -11,38 +11,45 @@ use borrow.Author.Needs.{needs}
 use Rattle.valid_judge.proofs.plain_forms.sp_form.Statement.{statement}
 use Rattle.valid_judge.proofs.plain_forms.sp_form.Tie as tie
 
+abbrev start-of : tie.After-entry2 → tie.Start
+start-of t = search
+
+abbrev entry-of : tie.After-entry2 → tie.After-entry
+entry-of t = search
+
 get-sp-requires : tie.Need-get-sp-requires
 get-sp-requires c κs =
     let s : tie.Start = search in
-    (s .pre .0, s .pre .1, s .pre .2, s .pre .3)
+    (s .pre .0, s .pre .1, s .pre .2, s .pre .3, s .pre .9)
 
 returns : tie.Need-returns
 unfolding part
 returns c =
-    let s : tie.Start = search in
-    let a = s .args in
-    let l = a .image .now in
-    let t-entry : tie.After-entry = search in
-    let t-entry2 : tie.After-entry2 = search in
     let i1 : tie.Then1 = search in
     let t-get-sp : tie.After-get-sp = search in
+    let t-entry2 : tie.After-entry2 = search in
+    let s = start-of t-entry2 in
+    let t-entry = entry-of t-entry2 in
+    let a = s .args in
+    let l = a .image .now in
     (λ ω P e. ap (λ (x : Instr). toldOf (judge P (lettersIn (a .p) l (a .w)) (contextOf (typesAt (a .p) l (a .n)) (a .regs .now) (a .sp .now) (a .depth)) x)) (is-getsp (instrSection (a .p) l) ω (a .x .at) (a .x .code) (s .pre .6) (t-entry .entry .ensures .0) (t-entry2 .entry2 .ensures .0) (i1 .if1 .taken)) ∙ t-get-sp .get-sp .ensures P e, s .pre .5)
 
 set-sp-requires : tie.Need-set-sp-requires
 unfolding part
 set-sp-requires c κs =
     let s : tie.Start = search in
-    s .pre .1
+    (s .pre .1, s .pre .9)
 
 returns-2 : tie.Need-returns-2
 unfolding part
 returns-2 c =
-    let s : tie.Start = search in
-    let a = s .args in
-    let l = a .image .now in
-    let t-entry : tie.After-entry = search in
     let i2 : tie.Then2 = search in
     let t-set-sp : tie.After-set-sp = search in
+    let t-via : tie.After-entry2 = search in
+    let s = start-of t-via in
+    let t-entry = entry-of t-via in
+    let a = s .args in
+    let l = a .image .now in
     (λ ω P e. ap (λ (x : Instr). toldOf (judge P (lettersIn (a .p) l (a .w)) (contextOf (typesAt (a .p) l (a .n)) (a .regs .now) (a .sp .now) (a .depth)) x)) (is-setsp (instrSection (a .p) l) ω (a .x .at) (a .x .code) (s .pre .6) (t-entry .entry .ensures .0) (i2 .if2 .taken)) ∙ t-set-sp .set-sp .ensures .0 (lettersIn (a .p) l (a .w)) P e, omega (arith, t-set-sp .set-sp .ensures .1, s .pre .5))
 
 allocate-requires : tie.Need-allocate-requires
@@ -53,34 +60,31 @@ allocate-requires c κs =
 returns-3 : tie.Need-returns-3
 unfolding part
 returns-3 c =
-    let s : tie.Start = search in
-    let a = s .args in
-    let l = a .image .now in
-    let t-entry : tie.After-entry = search in
     let i3 : tie.Then3 = search in
     let t-allocate : tie.After-allocate = search in
+    let t-via : tie.After-entry2 = search in
+    let s = start-of t-via in
+    let t-entry = entry-of t-via in
+    let a = s .args in
+    let l = a .image .now in
     (λ ω P e. ap (λ (x : Instr). toldOf (judge P (lettersIn (a .p) l (a .w)) (contextOf (typesAt (a .p) l (a .n)) (a .regs .now) (a .sp .now) (a .depth)) x)) (is-salloc (instrSection (a .p) l) ω (a .x .at) (a .x .code) (s .pre .6) (t-entry .entry .ensures .0) (i3 .if3 .taken)) ∙ t-allocate .allocate .ensures .0 (sharedSection (a .p) l) (slotSection (a .p) l) (a .regs .now) (lettersIn (a .p) l (a .w)) (s .pre .1) P e, t-allocate .allocate .ensures .1)
 
 returns-4 : tie.Need-returns-4
 unfolding part
 returns-4 c =
-    let s : tie.Start = search in
-    let a = s .args in
-    let l = a .image .now in
     let i1 : tie.Else1 = search in
     let i2 : tie.Else2 = search in
     let i3 : tie.Else3 = search in
-    let t-entry : tie.After-entry = search in
     let t-free : tie.After-free = search in
+    let t-via : tie.After-entry2 = search in
+    let s = start-of t-via in
+    let t-entry = entry-of t-via in
+    let a = s .args in
+    let l = a .image .now in
     let q : a .x .code ≡ 16 = omega (arith, s .pre .7, s .pre .8, i1 .if1 .left, i2 .if2 .left, i3 .if3 .left) in
     (λ ω P e. ap (λ (x : Instr). toldOf (judge P (lettersIn (a .p) l (a .w)) (contextOf (typesAt (a .p) l (a .n)) (a .regs .now) (a .sp .now) (a .depth)) x)) (is-sfree (instrSection (a .p) l) ω (a .x .at) (a .x .code) (s .pre .6) (t-entry .entry .ensures .0) q) ∙ t-free .free .ensures .0 (typesAt (a .p) l (a .n)) (a .regs .now) P (lettersIn (a .p) l (a .w)), omega (arith, t-free .free .ensures .1, s .pre .5))
 
 pub sp-form-spec : {M : Type 1} → statement M
 sp-form-spec =
     tie.close
-    (tie.spec
-    (λ c. search needs) (λ c. search needs) (λ c. search needs) (λ c. search needs) (λ c κs. search needs) (λ c κs. search needs)
-    get-sp-requires (λ c. search needs) (λ c. search needs) returns (λ c. search needs) (λ c. search needs) (λ c. search needs)
-    (λ c. search needs) (λ c. search needs) (λ c. search needs) (λ c. search needs) (λ c. search needs) set-sp-requires
-    (λ c. search needs) (λ c. search needs) returns-2 allocate-requires (λ c. search needs) returns-3 (λ c κs. search needs)
-    (λ c. search needs) returns-4)
+    (tie.spec (λ c. search needs) (λ c. search needs) (λ c. search needs) (λ c. search needs) (λ c κs. search needs) (λ c κs. search needs) get-sp-requires (λ c. search needs) (λ c. search needs) (λ c. search needs) returns (λ c. search needs) (λ c. search needs) (λ c. search needs) (λ c. search needs) (λ c. search needs) (λ c. search needs) (λ c. search needs) (λ c. search needs) set-sp-requires (λ c. search needs) (λ c. search needs) (λ c. search needs) returns-2 allocate-requires (λ c. search needs) returns-3 (λ c κs. search needs) (λ c. search needs) returns-4)

@@ -9,36 +9,55 @@ use Rattle.valid_judge.proofs.stack.Laws.{cut-done, cut-fails, tail-fit
 use borrow.Author.Needs.{needs}
 use Rattle.valid_judge.proofs.stack.set_sp.Statement.{statement}
 use Rattle.valid_judge.proofs.stack.set_sp.Tie as tie
-use Rattle.valid_judge.proofs.stack.set_sp.Reads as reads
-use Rattle.valid_judge.proofs.stack.set_sp.Lts as lts
-use Rattle.types_rows.proofs.item_count.Reads as item-count-reads
-use Rattle.valid_typing.proofs.is_tail.Reads as is-tail-reads
-use Rattle.valid_typing.proofs.pointer.Reads as pointer-reads
 
 pointer-requires : tie.Need-pointer-requires
-pointer-requires c κs = (c .before .before .before .before .pre)
+pointer-requires c κs =
+    let s : tie.Start = search in
+    (s .pre .0)
 
 returns : tie.Need-returns
-returns c = (λ Δ P e. setsp-stops P Δ (contextOf (typesIn ((c .before .before .before .before .before .before .before .args) .rows .now) ((c .before .before .before .before .before .before .before .args) .parts .now) ((c .before .before .before .before .before .before .before .args) .n)) ((c .before .before .before .before .before .before .before .args) .regs .now) ((c .before .before .before .before .before .before .before .args) .sp .now) ((c .before .before .before .before .before .before .before .args) .depth)) ((c .before .before .before .before .before .before .before .args) .s) ((c .before .before .pointer) .result .fault) (meanS (tab ((c .before .before .before .before .before .before .before .args) .rows .now) ((c .before .before .before .before .before .before .before .args) .parts .now)) ((c .before .before .pointer) .result .row)) _ ((c .before .before .pointer) .ensures .0 P Δ) ((c .if1) .taken), omega arith)
+returns c =
+    let s2 : tie.Start = search in
+    let point : tie.After-pointer = search in
+    let if2 : tie.Then1 = search in
+    (λ Δ P e. setsp-stops P Δ (contextOf (typesIn ((s2 .args) .rows .now) ((s2 .args) .parts .now) ((s2 .args) .n)) ((s2 .args) .regs .now) ((s2 .args) .sp .now) ((s2 .args) .depth)) ((s2 .args) .s) ((point .pointer) .result .fault) (meanS (tab ((s2 .args) .rows .now) ((s2 .args) .parts .now)) ((point .pointer) .result .row)) _ ((point .pointer) .ensures .0 P Δ) ((if2 .if1) .taken), omega arith)
 
 is-tail-requires : tie.Need-is-tail-requires
-is-tail-requires c κs = ((c .before .before .before .before .before .before .before .pre), omega (arith, (c .before .before .pointer) .ensures .1))
+is-tail-requires c κs =
+    let s : tie.Start = search in
+    let point : tie.After-pointer = search in
+    ((s .pre .0), omega (arith, (point .pointer) .ensures .1), s .pre .1)
 
 item-count-requires : tie.Need-item-count-requires
-item-count-requires c κs = omega (arith, (c .before .before .before .before .pointer) .ensures .1, (c .before .before .before .before .before .before .before .before .before .pre) .few)
+item-count-requires c κs =
+    let s : tie.Start = search in
+    let point : tie.After-pointer = search in
+    omega (arith, (point .pointer) .ensures .1, (s .pre .0) .few)
 
 returns-2 : tie.Need-returns-2
-returns-2 c = (
-  λ Δ P e. cut-done P Δ (typesIn ((c .before .before .before .before .before .before .before .before .before .before .args) .rows .now) ((c .before .before .before .before .before .before .before .before .before .before .args) .parts .now) ((c .before .before .before .before .before .before .before .before .before .before .args) .n)) ((c .before .before .before .before .before .before .before .before .before .before .args) .regs .now) ((c .before .before .before .before .before .before .before .before .before .before .args) .sp .now) ((c .before .before .before .before .before .before .before .before .before .before .args) .depth) ((c .before .before .before .before .before .before .before .before .before .before .args) .s) ((c .before .before .before .before .before .pointer) .result .fault) ((c .item-count) .result) (meanS (tab ((c .before .before .before .before .before .before .before .before .before .before .args) .rows .now) ((c .before .before .before .before .before .before .before .before .before .before .args) .parts .now)) ((c .before .before .before .before .before .pointer) .result .row)) ((c .before .before .is-tail) .result) ((c .before .before .before .before .before .pointer) .ensures .0 P Δ) ((c .before .before .before .if1) .left) ((c .before .before .is-tail) .ensures) ((c .before .if2) .taken) ((c .item-count) .ensures .0 ∙ (count-is ((c .before .before .before .before .before .before .before .before .before .before .args) .rows .now) ((c .before .before .before .before .before .before .before .before .before .before .args) .parts .now) ((c .before .before .before .before .before .before .before .before .before .before .args) .n) ((c .before .before .before .before .before .pointer) .result .row) (c .before .before .before .before .before .before .before .before .before .before .pre) (omega (arith, (c .before .before .before .before .before .pointer) .ensures .1)))),
-  let h = tail-fits (typesIn ((c .before .before .before .before .before .before .before .before .before .before .args) .rows .now) ((c .before .before .before .before .before .before .before .before .before .before .args) .parts .now) ((c .before .before .before .before .before .before .before .before .before .before .args) .n)) ((c .before .before .before .before .before .before .before .before .before .before .args) .sp .now) ((c .before .before .before .before .before .before .before .before .before .before .args) .depth) (meanS (tab ((c .before .before .before .before .before .before .before .before .before .before .args) .rows .now) ((c .before .before .before .before .before .before .before .before .before .before .args) .parts .now)) ((c .before .before .before .before .before .pointer) .result .row)) ((c .before .before .is-tail) .result) ((c .before .before .is-tail) .ensures) ((c .before .if2) .taken) in
-      let k = (count-is ((c .before .before .before .before .before .before .before .before .before .before .args) .rows .now) ((c .before .before .before .before .before .before .before .before .before .before .args) .parts .now) ((c .before .before .before .before .before .before .before .before .before .before .args) .n) ((c .before .before .before .before .before .pointer) .result .row) (c .before .before .before .before .before .before .before .before .before .before .pre) (omega (arith, (c .before .before .before .before .before .pointer) .ensures .1))) in
-      omega (arith, (c .item-count) .ensures .0),
-)
+returns-2 c =
+    let s2 : tie.Start = search in
+    let point : tie.After-pointer = search in
+    let itemc : tie.After-item-count = search in
+    let istai : tie.After-is-tail = search in
+    let if3 : tie.Else1 = search in
+    let if4 : tie.Then2 = search in (
+      λ Δ P e. cut-done P Δ (typesIn ((s2 .args) .rows .now) ((s2 .args) .parts .now) ((s2 .args) .n)) ((s2 .args) .regs .now) ((s2 .args) .sp .now) ((s2 .args) .depth) ((s2 .args) .s) ((point .pointer) .result .fault) ((itemc .item-count) .result) (meanS (tab ((s2 .args) .rows .now) ((s2 .args) .parts .now)) ((point .pointer) .result .row)) ((istai .is-tail) .result) ((point .pointer) .ensures .0 P Δ) ((if3 .if1) .left) ((istai .is-tail) .ensures) ((if4 .if2) .taken) ((itemc .item-count) .ensures .0 ∙ (count-is ((s2 .args) .rows .now) ((s2 .args) .parts .now) ((s2 .args) .n) ((point .pointer) .result .row) (s2 .pre .0) (omega (arith, (point .pointer) .ensures .1)))),
+      let h = tail-fits (typesIn ((s2 .args) .rows .now) ((s2 .args) .parts .now) ((s2 .args) .n)) ((s2 .args) .sp .now) ((s2 .args) .depth) (meanS (tab ((s2 .args) .rows .now) ((s2 .args) .parts .now)) ((point .pointer) .result .row)) ((istai .is-tail) .result) ((istai .is-tail) .ensures) ((if4 .if2) .taken) in
+          let k = (count-is ((s2 .args) .rows .now) ((s2 .args) .parts .now) ((s2 .args) .n) ((point .pointer) .result .row) (s2 .pre .0) (omega (arith, (point .pointer) .ensures .1))) in
+          omega (arith, (itemc .item-count) .ensures .0),
+    )
 
 returns-3 : tie.Need-returns-3
-returns-3 c = (λ Δ P e. cut-fails P Δ (typesIn ((c .before .before .before .before .before .before .before .before .before .args) .rows .now) ((c .before .before .before .before .before .before .before .before .before .args) .parts .now) ((c .before .before .before .before .before .before .before .before .before .args) .n)) ((c .before .before .before .before .before .before .before .before .before .args) .regs .now) ((c .before .before .before .before .before .before .before .before .before .args) .sp .now) ((c .before .before .before .before .before .before .before .before .before .args) .depth) ((c .before .before .before .before .before .before .before .before .before .args) .s) ((c .before .before .before .before .pointer) .result .fault) _ (meanS (tab ((c .before .before .before .before .before .before .before .before .before .args) .rows .now) ((c .before .before .before .before .before .before .before .before .before .args) .parts .now)) ((c .before .before .before .before .pointer) .result .row)) ((c .before .is-tail) .result) ((c .before .before .before .before .pointer) .ensures .0 P Δ) ((c .before .before .if1) .left) ((c .before .is-tail) .ensures) ((c .if2) .left), omega arith)
+returns-3 c =
+    let s2 : tie.Start = search in
+    let point : tie.After-pointer = search in
+    let istai : tie.After-is-tail = search in
+    let if3 : tie.Else1 = search in
+    let if4 : tie.Else2 = search in
+    (λ Δ P e. cut-fails P Δ (typesIn ((s2 .args) .rows .now) ((s2 .args) .parts .now) ((s2 .args) .n)) ((s2 .args) .regs .now) ((s2 .args) .sp .now) ((s2 .args) .depth) ((s2 .args) .s) ((point .pointer) .result .fault) _ (meanS (tab ((s2 .args) .rows .now) ((s2 .args) .parts .now)) ((point .pointer) .result .row)) ((istai .is-tail) .result) ((point .pointer) .ensures .0 P Δ) ((if3 .if1) .left) ((istai .is-tail) .ensures) ((if4 .if2) .left), omega arith)
 
 pub set-sp-spec : {M : Type 1} → statement M
 set-sp-spec =
     tie.close
-    (tie.spec pointer-requires returns is-tail-requires item-count-requires returns-2 returns-3)
+    (tie.spec pointer-requires returns is-tail-requires item-count-requires (λ c. search needs) returns-2 (λ c. search needs) returns-3)

@@ -13,78 +13,113 @@ use Rattle.valid_judge.proofs.through.Laws.{tail-none, tail-told, tail-
 use borrow.Author.Needs.{needs}
 use Rattle.valid_judge.proofs.through.new_tail.Statement.{statement}
 use Rattle.valid_judge.proofs.through.new_tail.Tie as tie
-use Rattle.valid_judge.proofs.through.new_tail.Reads as reads
-use Rattle.valid_judge.proofs.through.new_tail.Lts as lts
-use Rattle.valid_context.proofs.least.Reads as least-reads
-use Rattle.valid_context.proofs.set_item.Reads as set-item-reads
-use Rattle.valid_judge.proofs.heap.if_none.Reads as if-none-reads
-use Rattle.valid_judge.proofs.stack.points.Reads as points-reads
-use Rattle.types_rows.proofs.item_count.Reads as item-count-reads
-use Rattle.valid_typing.proofs.flatten.Reads as flatten-reads
-use Rattle.valid_typing.proofs.given_row.Reads as given-row-reads
-use Rattle.valid_typing.proofs.row_item.Reads as row-item-reads
+
+abbrev start-of : tie.After-item-count → tie.Start
+start-of t = search
+
+abbrev row-item-of : tie.After-item-count → tie.After-row-item
+row-item-of t = search
+
+abbrev if-none-of : tie.After-item-count → tie.After-if-none
+if-none-of t = search
+
+abbrev if-none2-of : tie.After-item-count → tie.After-if-none2
+if-none2-of t = search
+
+abbrev least-of : tie.After-item-count → tie.After-least
+least-of t = search
+
+abbrev else1-of : tie.After-item-count → tie.Else1
+else1-of t = search
+
+abbrev flatten-of : tie.After-item-count → tie.After-flatten
+flatten-of t = search
 
 row-item-requires : tie.Need-row-item-requires
-row-item-requires c κs = ((c .before .before .before .pre) .0, (c .before .before .before .pre) .1)
-
-if-none-requires : tie.Need-if-none-requires
-if-none-requires c κs = search needs
-
-if-none-requires-2 : tie.Need-if-none-requires-2
-if-none-requires-2 c κs = search needs
-
-least-requires : tie.Need-least-requires
-least-requires c κs = search needs
+row-item-requires c κs =
+    let s : tie.Start = search in
+    ((s .pre) .0, (s .pre) .1)
 
 returns : tie.Need-returns
-returns c = (λ P Δ Γ s e q. tail-none (typesIn ((c .before .before .before .before .before .before .before .before .args) .rows .now) ((c .before .before .before .before .before .before .before .before .args) .parts .now) ((c .before .before .before .before .before .before .before .before .args) .n)) (meanS (tab ((c .before .before .before .before .before .before .before .before .args) .rows .now) ((c .before .before .before .before .before .before .before .before .args) .parts .now)) ((c .before .before .before .before .before .before .before .before .args) .x)) ((c .before .before .before .before .before .before .before .before .args) .i) ((c .before .before .before .before .before .before .before .before .args) .t) ((c .before .before .before .before .row-item) .result) ((c .before .before .before .before .before .before .before .before .args) .u) ((c .before .before .before .if-none) .result) ((c .before .before .if-none2) .result) ((c .before .least) .result) ((c .before .before .before .before .row-item) .ensures .0) ((c .before .before .before .if-none) .ensures) ((c .before .before .if-none2) .ensures) ((c .before .least) .ensures) _ ((c .if1) .taken) P Δ Γ s q, λ z. absurd ((c .if1) .taken z))
+returns c =
+    let s2 : tie.Start = search in
+    let rowit : tie.After-row-item = search in
+    let ifnon : tie.After-if-none = search in
+    let ifnon2 : tie.After-if-none2 = search in
+    let least2 : tie.After-least = search in
+    let if2 : tie.Then1 = search in
+    (λ P Δ Γ s e q. tail-none (typesIn ((s2 .args) .rows .now) ((s2 .args) .parts .now) ((s2 .args) .n)) (meanS (tab ((s2 .args) .rows .now) ((s2 .args) .parts .now)) ((s2 .args) .x)) ((s2 .args) .i) ((s2 .args) .t) ((rowit .row-item) .result) ((s2 .args) .u) ((ifnon .if-none) .result) ((ifnon2 .if-none2) .result) ((least2 .least) .result) ((rowit .row-item) .ensures .0) ((ifnon .if-none) .ensures) ((ifnon2 .if-none2) .ensures) ((least2 .least) .ensures) _ ((if2 .if1) .taken) P Δ Γ s q, λ z. absurd ((if2 .if1) .taken z))
 
 flatten-requires : tie.Need-flatten-requires
-flatten-requires c κs = ((c .before .before .before .before .before .before .before .before .before .pre) .0, (c .before .before .before .before .before .before .before .before .before .pre) .1, (c .before .before .before .before .before .before .before .before .before .pre) .3, (c .before .before .before .before .before .before .before .before .before .pre) .4)
+flatten-requires c κs =
+    let s : tie.Start = search in
+    ((s .pre) .0, (s .pre) .1, (s .pre) .3, (s .pre) .4)
 
 item-count-requires : tie.Need-item-count-requires
-item-count-requires c κs = omega (arith, (c .before .before .before .before .before .before .before .before .before .before .before .before .pre) .0 .few, (c .before .before .before .before .before .before .before .before .before .before .before .before .pre) .1)
+item-count-requires c κs =
+    let s : tie.Start = search in
+    omega (arith, (s .pre) .0 .few, (s .pre) .1)
 
 sub-set-item : tie.Need-sub-set-item
-sub-set-item c = omega (arith, (both-there ((c .before .before .before .before .before .before .before .before .before .before .before .before .before .before .args) .u) 8 ((c .before .before .before .before .before .before .before .before .before .if-none) .result) ((c .before .before .before .before .before .before .before .before .if-none2) .result) ((c .before .before .before .before .before .before .before .least) .result) ((c .before .before .before .before .before .before .before .before .if-none2) .ensures) ((c .before .before .before .before .before .before .before .least) .ensures) ((c .before .before .before .before .before .before .if1) .left)))
+sub-set-item c =
+    let s : tie.Start = search in
+    let ifnon : tie.After-if-none = search in
+    let ifnon2 : tie.After-if-none2 = search in
+    let least2 : tie.After-least = search in
+    let if2 : tie.Else1 = search in
+    omega (arith, (both-there ((s .args) .u) 8 ((ifnon .if-none) .result) ((ifnon2 .if-none2) .result) ((least2 .least) .result) ((ifnon2 .if-none2) .ensures) ((least2 .least) .ensures) ((if2 .if1) .left)))
 
 set-item-requires : tie.Need-set-item-requires
-set-item-requires c κs = (let k = (count-is ((c .before .before .before .before .before .before .before .before .before .before .before .before .before .before .args) .rows .now) ((c .before .before .before .before .before .before .before .before .before .before .before .before .before .before .args) .parts .now) ((c .before .before .before .before .before .before .before .before .before .before .before .before .before .before .args) .n) ((c .before .before .before .before .before .before .before .before .before .before .before .before .before .before .args) .x) ((c .before .before .before .before .before .before .before .before .before .before .before .before .before .before .pre) .0) ((c .before .before .before .before .before .before .before .before .before .before .before .before .before .before .pre) .1)) in omega (arith, (c .before .item-count) .ensures .0, (c .before .before .before .before .flatten) .kept .1 .1 .1 .0, (c .before .before .before .before .before .before .before .before .before .before .before .before .before .before .pre) .3), omega (arith, (c .before .before .before .before .before .before .before .before .before .before .before .before .before .before .pre) .0 .few, (c .before .before .before .before .before .before .before .before .before .before .before .before .before .before .pre) .2))
+set-item-requires c κs =
+    let s : tie.Start = search in
+    let itemc : tie.After-item-count = search in
+    let flatt : tie.After-flatten = search in
+    (let k = (count-is ((s .args) .rows .now) ((s .args) .parts .now) ((s .args) .n) ((s .args) .x) ((s .pre) .0) ((s .pre) .1)) in omega (arith, (itemc .item-count) .ensures .0, (flatt .flatten) .kept .1 .1 .1 .0, (s .pre) .3), omega (arith, (s .pre) .0 .few, (s .pre) .2))
 
 given-row-requires : tie.Need-given-row-requires
-given-row-requires c κs = (c .before .before .before .before .before .before .before .before .before .before .before .before .before .before .before .before .before .before .pre) .0 .few
+given-row-requires c κs =
+    let s : tie.Start = search in
+    (s .pre) .0 .few
 
 points-requires : tie.Need-points-requires
-points-requires c κs = ((c .before .before .before .before .before .before .before .before .before .before .before .before .before .before .before .before .before .before .before .pre) .0, omega (arith, (c .before .before .before .before .before .before .before .before .before .before .before .before .before .before .before .before .before .before .before .pre) .0 .few, (c .given-row) .ensures .1))
-
-same-length : tie.Need-same-length
-same-length c = search needs
+points-requires c κs =
+    let s : tie.Start = search in
+    let given2 : tie.After-given-row = search in
+    ((s .pre) .0, omega (arith, (s .pre) .0 .few, (given2 .given-row) .ensures .1), s .pre .5)
 
 returns-2 : tie.Need-returns-2
-returns-2 c = (λ P Δ Γ s e w. tail-told (typesIn ((c .before .before .before .before .before .before .before .before .before .before .before .before .before .before .before .before .before .before .before .before .before .args) .rows .now) ((c .before .before .before .before .before .before .before .before .before .before .before .before .before .before .before .before .before .before .before .before .before .args) .parts .now) ((c .before .before .before .before .before .before .before .before .before .before .before .before .before .before .before .before .before .before .before .before .before .args) .n)) (meanS (tab ((c .before .before .before .before .before .before .before .before .before .before .before .before .before .before .before .before .before .before .before .before .before .args) .rows .now) ((c .before .before .before .before .before .before .before .before .before .before .before .before .before .before .before .before .before .before .before .before .before .args) .parts .now)) ((c .before .before .before .before .before .before .before .before .before .before .before .before .before .before .before .before .before .before .before .before .before .args) .x)) ((c .before .before .before .before .before .before .before .before .before .before .before .before .before .before .before .before .before .before .before .before .before .args) .i) ((c .before .before .before .before .before .before .before .before .before .before .before .before .before .before .before .before .before .before .before .before .before .args) .t) ((c .before .before .before .before .before .before .before .before .before .before .before .before .before .before .before .before .before .row-item) .result) ((c .before .before .before .before .before .before .before .before .before .before .before .before .before .before .before .before .before .before .before .before .before .args) .u) ((c .before .before .before .before .before .before .before .before .before .before .before .before .before .before .before .before .if-none) .result) ((c .before .before .before .before .before .before .before .before .before .before .before .before .before .before .before .if-none2) .result) ((c .before .before .before .before .before .before .before .before .before .before .before .before .before .before .least) .result) ((c .before .before .before .before .before .before .before .before .before .before .before .before .before .before .before .before .before .row-item) .ensures .0) ((c .before .before .before .before .before .before .before .before .before .before .before .before .before .before .before .before .if-none) .ensures) ((c .before .before .before .before .before .before .before .before .before .before .before .before .before .before .before .if-none2) .ensures) ((c .before .before .before .before .before .before .before .before .before .before .before .before .before .before .least) .ensures) _ _ ((c .before .before .before .before .before .before .before .before .item-count) .result) ((c .before .before .given-row) .result) ((c .before .before .before .before .before .before .set-item) .result) ((c .before .points) .result) ((c .before .before .before .before .before .before .before .before .before .before .before .before .before .if1) .left) ((c .before .before .before .before .before .before .before .before .before .before .before .flatten) .ensures) ((c .before .before .before .before .before .before .before .before .item-count) .ensures .0 ∙ (count-is ((c .before .before .before .before .before .before .before .before .before .before .before .before .before .before .before .before .before .before .before .before .before .args) .rows .now) ((c .before .before .before .before .before .before .before .before .before .before .before .before .before .before .before .before .before .before .before .before .before .args) .parts .now) ((c .before .before .before .before .before .before .before .before .before .before .before .before .before .before .before .before .before .before .before .before .before .args) .n) ((c .before .before .before .before .before .before .before .before .before .before .before .before .before .before .before .before .before .before .before .before .before .args) .x) ((c .before .before .before .before .before .before .before .before .before .before .before .before .before .before .before .before .before .before .before .before .before .pre) .0) ((c .before .before .before .before .before .before .before .before .before .before .before .before .before .before .before .before .before .before .before .before .before .pre) .1))) ((c .before .before .before .before .before .before .set-item) .ensures .0 (typesIn ((c .before .before .before .before .before .before .before .before .before .before .before .before .before .before .before .before .before .before .before .before .before .args) .rows .now) ((c .before .before .before .before .before .before .before .before .before .before .before .before .before .before .before .before .before .before .before .before .before .args) .parts .now) ((c .before .before .before .before .before .before .before .before .before .before .before .before .before .before .before .before .before .before .before .before .before .args) .n))) ((c .before .points) .ensures) true ((c .if2) .taken) P Δ Γ s (given-same ((c .before .before .before .before .before .before .before .before .before .before .before .before .before .before .before .before .before .before .before .before .before .args) .rows .now) ((c .before .before .before .before .before .before .before .before .before .before .before .before .before .before .before .before .before .before .before .before .before .args) .parts .now) ((c .before .before .before .before .before .before .before .before .before .before .before .before .before .before .before .before .before .before .before .before .before .args) .n) P ((c .before .before .before .before .before .before .before .before .before .before .before .before .before .before .before .before .before .before .before .before .before .args) .t) ((c .before .before .given-row) .ensures .0) e ((c .before .before .before .before .before .before .before .before .before .before .before .before .before .before .before .before .before .before .before .before .before .pre) .0)) w, λ z. tail-made (typesIn ((c .before .before .before .before .before .before .before .before .before .before .before .before .before .before .before .before .before .before .before .before .before .args) .rows .now) ((c .before .before .before .before .before .before .before .before .before .before .before .before .before .before .before .before .before .before .before .before .before .args) .parts .now) ((c .before .before .before .before .before .before .before .before .before .before .before .before .before .before .before .before .before .before .before .before .before .args) .n)) (meanS (tab ((c .before .before .before .before .before .before .before .before .before .before .before .before .before .before .before .before .before .before .before .before .before .args) .rows .now) ((c .before .before .before .before .before .before .before .before .before .before .before .before .before .before .before .before .before .before .before .before .before .args) .parts .now)) ((c .before .before .before .before .before .before .before .before .before .before .before .before .before .before .before .before .before .before .before .before .before .args) .x)) ((c .before .before .before .before .before .before .before .before .before .before .before .before .before .before .before .before .before .before .before .before .before .args) .i) ((c .before .before .before .before .before .before .before .before .before .before .before .before .before .before .before .before .before .before .before .before .before .args) .t) ((c .before .before .before .before .before .before .before .before .before .before .before .before .before .before .before .before .before .row-item) .result) ((c .before .before .before .before .before .before .before .before .before .before .before .before .before .before .before .before .before .before .before .before .before .args) .u) ((c .before .before .before .before .before .before .before .before .before .before .before .before .before .before .before .before .if-none) .result) ((c .before .before .before .before .before .before .before .before .before .before .before .before .before .before .before .if-none2) .result) ((c .before .before .before .before .before .before .before .before .before .before .before .before .before .before .least) .result) ((c .before .before .before .before .before .before .before .before .before .before .before .before .before .before .before .before .before .row-item) .ensures .0) ((c .before .before .before .before .before .before .before .before .before .before .before .before .before .before .before .before .if-none) .ensures) ((c .before .before .before .before .before .before .before .before .before .before .before .before .before .before .before .if-none2) .ensures) ((c .before .before .before .before .before .before .before .before .before .before .before .before .before .before .least) .ensures) _ _ ((c .before .before .before .before .before .before .before .before .item-count) .result) ((c .before .before .given-row) .result) ((c .before .before .before .before .before .before .set-item) .result) ((c .before .points) .result) ((c .before .before .before .before .before .before .before .before .before .before .before .before .before .if1) .left) ((c .before .before .before .before .before .before .before .before .before .before .before .flatten) .ensures) ((c .before .before .before .before .before .before .before .before .item-count) .ensures .0 ∙ (count-is ((c .before .before .before .before .before .before .before .before .before .before .before .before .before .before .before .before .before .before .before .before .before .args) .rows .now) ((c .before .before .before .before .before .before .before .before .before .before .before .before .before .before .before .before .before .before .before .before .before .args) .parts .now) ((c .before .before .before .before .before .before .before .before .before .before .before .before .before .before .before .before .before .before .before .before .before .args) .n) ((c .before .before .before .before .before .before .before .before .before .before .before .before .before .before .before .before .before .before .before .before .before .args) .x) ((c .before .before .before .before .before .before .before .before .before .before .before .before .before .before .before .before .before .before .before .before .before .pre) .0) ((c .before .before .before .before .before .before .before .before .before .before .before .before .before .before .before .before .before .before .before .before .before .pre) .1))) ((c .before .before .before .before .before .before .set-item) .ensures .0 (typesIn ((c .before .before .before .before .before .before .before .before .before .before .before .before .before .before .before .before .before .before .before .before .before .args) .rows .now) ((c .before .before .before .before .before .before .before .before .before .before .before .before .before .before .before .before .before .before .before .before .before .args) .parts .now) ((c .before .before .before .before .before .before .before .before .before .before .before .before .before .before .before .before .before .before .before .before .before .args) .n))) ((c .before .points) .ensures) _ ((c .before .before .given-row) .ensures .0) ((c .if2) .taken))
-
-same-length-2 : tie.Need-same-length-2
-same-length-2 c = search needs
+returns-2 c =
+    let given2 : tie.After-given-row = search in
+    let setit : tie.After-set-item = search in
+    let point : tie.After-points = search in
+    let if4 : tie.Then2 = search in
+    let itemc : tie.After-item-count = search in
+    let s2 = start-of itemc in
+    let rowit = row-item-of itemc in
+    let ifnon = if-none-of itemc in
+    let ifnon2 = if-none2-of itemc in
+    let least2 = least-of itemc in
+    let if3 = else1-of itemc in
+    let flatt = flatten-of itemc in
+    (λ P Δ Γ s e w. tail-told (typesIn ((s2 .args) .rows .now) ((s2 .args) .parts .now) ((s2 .args) .n)) (meanS (tab ((s2 .args) .rows .now) ((s2 .args) .parts .now)) ((s2 .args) .x)) ((s2 .args) .i) ((s2 .args) .t) ((rowit .row-item) .result) ((s2 .args) .u) ((ifnon .if-none) .result) ((ifnon2 .if-none2) .result) ((least2 .least) .result) ((rowit .row-item) .ensures .0) ((ifnon .if-none) .ensures) ((ifnon2 .if-none2) .ensures) ((least2 .least) .ensures) _ _ ((itemc .item-count) .result) ((given2 .given-row) .result) ((setit .set-item) .result) ((point .points) .result) ((if3 .if1) .left) ((flatt .flatten) .ensures) ((itemc .item-count) .ensures .0 ∙ (count-is ((s2 .args) .rows .now) ((s2 .args) .parts .now) ((s2 .args) .n) ((s2 .args) .x) ((s2 .pre) .0) ((s2 .pre) .1))) ((setit .set-item) .ensures .0 (typesIn ((s2 .args) .rows .now) ((s2 .args) .parts .now) ((s2 .args) .n))) ((point .points) .ensures) true ((if4 .if2) .taken) P Δ Γ s (given-same ((s2 .args) .rows .now) ((s2 .args) .parts .now) ((s2 .args) .n) P ((s2 .args) .t) ((given2 .given-row) .ensures .0) e ((s2 .pre) .0)) w, λ z. tail-made (typesIn ((s2 .args) .rows .now) ((s2 .args) .parts .now) ((s2 .args) .n)) (meanS (tab ((s2 .args) .rows .now) ((s2 .args) .parts .now)) ((s2 .args) .x)) ((s2 .args) .i) ((s2 .args) .t) ((rowit .row-item) .result) ((s2 .args) .u) ((ifnon .if-none) .result) ((ifnon2 .if-none2) .result) ((least2 .least) .result) ((rowit .row-item) .ensures .0) ((ifnon .if-none) .ensures) ((ifnon2 .if-none2) .ensures) ((least2 .least) .ensures) _ _ ((itemc .item-count) .result) ((given2 .given-row) .result) ((setit .set-item) .result) ((point .points) .result) ((if3 .if1) .left) ((flatt .flatten) .ensures) ((itemc .item-count) .ensures .0 ∙ (count-is ((s2 .args) .rows .now) ((s2 .args) .parts .now) ((s2 .args) .n) ((s2 .args) .x) ((s2 .pre) .0) ((s2 .pre) .1))) ((setit .set-item) .ensures .0 (typesIn ((s2 .args) .rows .now) ((s2 .args) .parts .now) ((s2 .args) .n))) ((point .points) .ensures) _ ((given2 .given-row) .ensures .0) ((if4 .if2) .taken))
 
 returns-3 : tie.Need-returns-3
-returns-3 c = (λ P Δ Γ s e w. tail-told (typesIn ((c .before .before .before .before .before .before .before .before .before .before .before .before .before .before .before .before .before .before .before .before .before .args) .rows .now) ((c .before .before .before .before .before .before .before .before .before .before .before .before .before .before .before .before .before .before .before .before .before .args) .parts .now) ((c .before .before .before .before .before .before .before .before .before .before .before .before .before .before .before .before .before .before .before .before .before .args) .n)) (meanS (tab ((c .before .before .before .before .before .before .before .before .before .before .before .before .before .before .before .before .before .before .before .before .before .args) .rows .now) ((c .before .before .before .before .before .before .before .before .before .before .before .before .before .before .before .before .before .before .before .before .before .args) .parts .now)) ((c .before .before .before .before .before .before .before .before .before .before .before .before .before .before .before .before .before .before .before .before .before .args) .x)) ((c .before .before .before .before .before .before .before .before .before .before .before .before .before .before .before .before .before .before .before .before .before .args) .i) ((c .before .before .before .before .before .before .before .before .before .before .before .before .before .before .before .before .before .before .before .before .before .args) .t) ((c .before .before .before .before .before .before .before .before .before .before .before .before .before .before .before .before .before .row-item) .result) ((c .before .before .before .before .before .before .before .before .before .before .before .before .before .before .before .before .before .before .before .before .before .args) .u) ((c .before .before .before .before .before .before .before .before .before .before .before .before .before .before .before .before .if-none) .result) ((c .before .before .before .before .before .before .before .before .before .before .before .before .before .before .before .if-none2) .result) ((c .before .before .before .before .before .before .before .before .before .before .before .before .before .before .least) .result) ((c .before .before .before .before .before .before .before .before .before .before .before .before .before .before .before .before .before .row-item) .ensures .0) ((c .before .before .before .before .before .before .before .before .before .before .before .before .before .before .before .before .if-none) .ensures) ((c .before .before .before .before .before .before .before .before .before .before .before .before .before .before .before .if-none2) .ensures) ((c .before .before .before .before .before .before .before .before .before .before .before .before .before .before .least) .ensures) _ _ ((c .before .before .before .before .before .before .before .before .item-count) .result) ((c .before .before .given-row) .result) ((c .before .before .before .before .before .before .set-item) .result) ((c .before .points) .result) ((c .before .before .before .before .before .before .before .before .before .before .before .before .before .if1) .left) ((c .before .before .before .before .before .before .before .before .before .before .before .flatten) .ensures) ((c .before .before .before .before .before .before .before .before .item-count) .ensures .0 ∙ (count-is ((c .before .before .before .before .before .before .before .before .before .before .before .before .before .before .before .before .before .before .before .before .before .args) .rows .now) ((c .before .before .before .before .before .before .before .before .before .before .before .before .before .before .before .before .before .before .before .before .before .args) .parts .now) ((c .before .before .before .before .before .before .before .before .before .before .before .before .before .before .before .before .before .before .before .before .before .args) .n) ((c .before .before .before .before .before .before .before .before .before .before .before .before .before .before .before .before .before .before .before .before .before .args) .x) ((c .before .before .before .before .before .before .before .before .before .before .before .before .before .before .before .before .before .before .before .before .before .pre) .0) ((c .before .before .before .before .before .before .before .before .before .before .before .before .before .before .before .before .before .before .before .before .before .pre) .1))) ((c .before .before .before .before .before .before .set-item) .ensures .0 (typesIn ((c .before .before .before .before .before .before .before .before .before .before .before .before .before .before .before .before .before .before .before .before .before .args) .rows .now) ((c .before .before .before .before .before .before .before .before .before .before .before .before .before .before .before .before .before .before .before .before .before .args) .parts .now) ((c .before .before .before .before .before .before .before .before .before .before .before .before .before .before .before .before .before .before .before .before .before .args) .n))) ((c .before .points) .ensures) false ((c .if2) .left) P Δ Γ s (given-same ((c .before .before .before .before .before .before .before .before .before .before .before .before .before .before .before .before .before .before .before .before .before .args) .rows .now) ((c .before .before .before .before .before .before .before .before .before .before .before .before .before .before .before .before .before .before .before .before .before .args) .parts .now) ((c .before .before .before .before .before .before .before .before .before .before .before .before .before .before .before .before .before .before .before .before .before .args) .n) P ((c .before .before .before .before .before .before .before .before .before .before .before .before .before .before .before .before .before .before .before .before .before .args) .t) ((c .before .before .given-row) .ensures .0) e ((c .before .before .before .before .before .before .before .before .before .before .before .before .before .before .before .before .before .before .before .before .before .pre) .0)) w, λ z. absurd (omega (arith, z)))
+returns-3 c =
+    let given2 : tie.After-given-row = search in
+    let setit : tie.After-set-item = search in
+    let point : tie.After-points = search in
+    let if4 : tie.Else2 = search in
+    let itemc : tie.After-item-count = search in
+    let s2 = start-of itemc in
+    let rowit = row-item-of itemc in
+    let ifnon = if-none-of itemc in
+    let ifnon2 = if-none2-of itemc in
+    let least2 = least-of itemc in
+    let if3 = else1-of itemc in
+    let flatt = flatten-of itemc in
+    (λ P Δ Γ s e w. tail-told (typesIn ((s2 .args) .rows .now) ((s2 .args) .parts .now) ((s2 .args) .n)) (meanS (tab ((s2 .args) .rows .now) ((s2 .args) .parts .now)) ((s2 .args) .x)) ((s2 .args) .i) ((s2 .args) .t) ((rowit .row-item) .result) ((s2 .args) .u) ((ifnon .if-none) .result) ((ifnon2 .if-none2) .result) ((least2 .least) .result) ((rowit .row-item) .ensures .0) ((ifnon .if-none) .ensures) ((ifnon2 .if-none2) .ensures) ((least2 .least) .ensures) _ _ ((itemc .item-count) .result) ((given2 .given-row) .result) ((setit .set-item) .result) ((point .points) .result) ((if3 .if1) .left) ((flatt .flatten) .ensures) ((itemc .item-count) .ensures .0 ∙ (count-is ((s2 .args) .rows .now) ((s2 .args) .parts .now) ((s2 .args) .n) ((s2 .args) .x) ((s2 .pre) .0) ((s2 .pre) .1))) ((setit .set-item) .ensures .0 (typesIn ((s2 .args) .rows .now) ((s2 .args) .parts .now) ((s2 .args) .n))) ((point .points) .ensures) false ((if4 .if2) .left) P Δ Γ s (given-same ((s2 .args) .rows .now) ((s2 .args) .parts .now) ((s2 .args) .n) P ((s2 .args) .t) ((given2 .given-row) .ensures .0) e ((s2 .pre) .0)) w, λ z. absurd (omega (arith, z)))
 
 pub new-tail-spec : {M : Type 1} → statement M
 new-tail-spec =
     tie.close
-    (tie.spec
-    row-item-requires
-    if-none-requires
-    if-none-requires-2
-    least-requires
-    returns
-    flatten-requires
-    item-count-requires
-    sub-set-item
-    set-item-requires
-    given-row-requires
-    points-requires
-    same-length
-    returns-2
-    same-length-2
-    returns-3)
+    (tie.spec row-item-requires (λ c κs. search needs) (λ c κs. search needs) (λ c κs. search needs) returns flatten-requires item-count-requires sub-set-item set-item-requires given-row-requires points-requires (λ c. search needs) (λ c. search needs) returns-2 (λ c. search needs) (λ c. search needs) returns-3)

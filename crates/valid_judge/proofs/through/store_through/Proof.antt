@@ -11,26 +11,26 @@ use borrow.Author.Needs.{needs}
 use Rattle.valid_judge.proofs.through.store_through.Statement.{statement}
 use Rattle.valid_judge.proofs.through.store_through.Tie as tie
 
-abbrev pass-through-of : tie.After-least2 → tie.After-pass-through
-pass-through-of t = search
-
-abbrev formed-row-of : tie.After-least2 → tie.After-formed-row
-formed-row-of t = search
-
-abbrev if-none-of : tie.After-least2 → tie.After-if-none
-if-none-of t = search
-
-abbrev least-of : tie.After-least2 → tie.After-least
-least-of t = search
-
-abbrev start-of : tie.After-pass-through → tie.Start
-start-of t = search
+abbrev pointer-of : tie.After-pass-through → tie.After-pointer
+pointer-of t = search
 
 abbrev link-at-of : tie.After-pass-through → tie.After-link-at
 link-at-of t = search
 
-abbrev pointer-of : tie.After-pass-through → tie.After-pointer
-pointer-of t = search
+abbrev start-of : tie.After-pass-through → tie.Start
+start-of t = search
+
+abbrev least-of : tie.After-least2 → tie.After-least
+least-of t = search
+
+abbrev if-none-of : tie.After-least2 → tie.After-if-none
+if-none-of t = search
+
+abbrev formed-row-of : tie.After-least2 → tie.After-formed-row
+formed-row-of t = search
+
+abbrev pass-through-of : tie.After-least2 → tie.After-pass-through
+pass-through-of t = search
 
 link-at-requires : tie.Need-link-at-requires
 link-at-requires c κs =
@@ -50,7 +50,7 @@ pass-through-requires c κs =
     let t-pointer : tie.After-pointer = search in
     let t-link-at : tie.After-link-at = search in
     let q = s .pre .3 (t-pointer .pointer .result .row) (omega (arith, t-pointer .pointer .ensures .1)) in
-    (s .pre .1, omega (arith, t-pointer .pointer .ensures .1), t-link-at .link-at .ensures .1, omega (arith, q .0, s .pre .6), q .1)
+    (s .pre .1, omega (arith, t-pointer .pointer .ensures .1), t-link-at .link-at .ensures .1, omega (arith, q .0, s .pre .6), q .1, s .pre .7)
 
 formed-row-requires : tie.Need-formed-row-requires
 formed-row-requires c κs =
@@ -146,9 +146,4 @@ returns-2 c =
 pub store-through-spec : {M : Type 1} → statement M
 store-through-spec =
     tie.close
-    (tie.spec
-    (λ c. search needs) (λ c. search needs) (λ c. search needs) (λ c. search needs) (λ c. search needs) (λ c. search needs)
-    (λ c. search needs) (λ c. search needs) link-at-requires pointer-requires pass-through-requires (λ c κs. search needs)
-    (λ c κs. search needs) formed-row-requires (λ c κs. search needs) (λ c. search needs) (λ c. search needs) (λ c. search needs)
-    returns item-count-requires sub-set-item set-item-requires given-row-requires set-register-requires (λ c. search needs)
-    (λ c. search needs) (λ c. search needs) returns-2)
+    (tie.spec (λ c. search needs) (λ c. search needs) (λ c. search needs) (λ c. search needs) (λ c. search needs) (λ c. search needs) (λ c. search needs) (λ c. search needs) link-at-requires pointer-requires pass-through-requires (λ c κs. search needs) (λ c κs. search needs) formed-row-requires (λ c κs. search needs) (λ c. search needs) (λ c. search needs) (λ c. search needs) (λ c. search needs) returns item-count-requires sub-set-item set-item-requires given-row-requires set-register-requires (λ c. search needs) (λ c. search needs) (λ c. search needs) (λ c. search needs) returns-2)

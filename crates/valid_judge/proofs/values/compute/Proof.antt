@@ -67,7 +67,4 @@ returns-2 c =
 pub compute-spec : {M : Type 1} → statement M
 compute-spec =
     tie.close
-    (tie.spec
-    (λ c. search needs) (λ c. search) (λ c. search) (λ c. search needs) (λ c. search needs) (λ c. search) (λ c. search) (λ c. search)
-    operand-requires int-fault-requires integer-requires (λ c κs. search) (λ c. search) (λ c. search) returns set-register-requires
-    (λ c. search) (λ c. search) returns-2)
+    (tie.spec (λ c. search needs) (λ c. search needs) (λ c. search needs) (λ c. search needs) (λ c. search needs) (λ c. search needs) (λ c. search needs) (λ c. search needs) operand-requires int-fault-requires integer-requires (λ c κs. search needs) (λ c. search needs) (λ c. search needs) returns set-register-requires (λ c. search needs) (λ c. search needs) returns-2)

@@ -12,20 +12,20 @@ use borrow.Author.Needs.{needs}
 use Rattle.valid_judge.proofs.values.make_listed.Statement.{statement}
 use Rattle.valid_judge.proofs.values.make_listed.Tie as tie
 
-abbrev start-of : tie.After-given-row → tie.Start
-start-of t = search
-
-abbrev formed-row-of : tie.After-given-row → tie.After-formed-row
-formed-row-of t = search
-
-abbrev operand-list-of : tie.After-given-row → tie.After-operand-list
-operand-list-of t = search
+abbrev else1-of : tie.After-given-row → tie.Else1
+else1-of t = search
 
 abbrev least-of : tie.After-given-row → tie.After-least
 least-of t = search
 
-abbrev else1-of : tie.After-given-row → tie.Else1
-else1-of t = search
+abbrev operand-list-of : tie.After-given-row → tie.After-operand-list
+operand-list-of t = search
+
+abbrev formed-row-of : tie.After-given-row → tie.After-formed-row
+formed-row-of t = search
+
+abbrev start-of : tie.After-given-row → tie.Start
+start-of t = search
 
 formed-row-requires : tie.Need-formed-row-requires
 formed-row-requires c κs =
@@ -53,7 +53,8 @@ unfolding part
 same-tuple-requires c κs =
     let s : tie.Start = search in
     let t-given-row : tie.After-given-row = search in
-    (s .pre .1, omega (arith, t-given-row .given-row .ensures .1, s .pre .1 .few))
+    let t-operand-list = operand-list-of t-given-row in
+    (s .pre .1, omega (arith, t-given-row .given-row .ensures .1, s .pre .1 .few), omega (arith, t-operand-list .operand-list .kept .1 .1 .1 .1 .1 .1 .1 .0, s .pre .7))
 
 set-register-requires : tie.Need-set-register-requires
 set-register-requires c κs =
@@ -95,8 +96,4 @@ returns-3 c =
 pub make-listed-spec : {M : Type 1} → statement M
 make-listed-spec =
     tie.close
-    (tie.spec
-    (λ c. search needs) (λ c κs. search needs) formed-row-requires (λ c κs. search needs) (λ c. search needs) (λ c. search needs)
-    returns given-row-requires (λ c. search needs) (λ c. search needs) (λ c. search needs) (λ c. search needs) (λ c. search needs)
-    (λ c. search needs) (λ c. search needs) (λ c. search needs) (λ c. search needs) same-tuple-requires set-register-requires
-    (λ c. search needs) (λ c. search needs) returns-2 (λ c. search needs) (λ c. search needs) returns-3)
+    (tie.spec (λ c. search needs) (λ c κs. search needs) formed-row-requires (λ c κs. search needs) (λ c. search needs) (λ c. search needs) returns given-row-requires (λ c. search needs) (λ c. search needs) (λ c. search needs) (λ c. search needs) (λ c. search needs) (λ c. search needs) (λ c. search needs) (λ c. search needs) (λ c. search needs) same-tuple-requires set-register-requires (λ c. search needs) (λ c. search needs) returns-2 (λ c. search needs) (λ c. search needs) returns-3)

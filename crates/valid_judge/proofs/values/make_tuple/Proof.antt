@@ -45,6 +45,4 @@ returns-3 c =
 pub make-tuple-spec : {M : Type 1} → statement M
 make-tuple-spec =
     tie.close
-    (tie.spec
-    (λ c κs. search needs) (λ c κs. search needs) (λ c κs. search needs) (λ c. search needs) (λ c. search needs) (λ c. search needs)
-    formed-row-requires (λ c. search needs) returns-2 (λ c κs. search needs) (λ c. search needs) returns-3)
+    (tie.spec (λ c κs. search needs) (λ c κs. search needs) (λ c κs. search needs) (λ c. search needs) (λ c. search needs) (λ c. search needs) formed-row-requires (λ c. search needs) returns-2 (λ c κs. search needs) (λ c. search needs) returns-3)

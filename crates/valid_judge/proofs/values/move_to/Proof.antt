@@ -45,5 +45,4 @@ returns-2 c =
 pub move-to-spec : {M : Type 1} → statement M
 move-to-spec =
     tie.close
-    (tie.spec
-    operand-requires (λ c. search) (λ c. search) returns set-register-requires (λ c. search) (λ c. search) returns-2)
+    (tie.spec operand-requires (λ c. search needs) (λ c. search needs) returns set-register-requires (λ c. search needs) (λ c. search needs) returns-2)

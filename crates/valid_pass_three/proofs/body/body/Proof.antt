@@ -1,5 +1,5 @@
 use borrow.Author.Needs.{needs}
-use Prim.Native.Nat.{ℕ, _-_, _≤_}
+use Prim.Native.Nat.{ℕ, _-_, _≤_, _<_}
 use native.Mathlib.Omega.{arith}
 use mathlib.Core.Path.{_≡_, refl, _∙_}
 use mathlib.Core.Option.{Option}
@@ -24,12 +24,12 @@ abbrev left : Places → List ℕ → List ℕ → BodyLines → BlockLetters �
 left p l literals x w P i Γ = linesLeft P (lettersIn p l w) (instrSection p l) (operandsIn p l literals) (x .end) (x .base) i Γ
 
 abbrev Inv-loop : tie.InvT-loop
-Inv-loop image literals regs₀ sp₀ work₀ d t k y u i₀ depth₀ regs sp work i depth =
-    ((length regs ≡ length regs₀) × (length sp ≡ length sp₀) × (length work ≡ length work₀) × (depth ≤ 64) × (y .first ≤ i))
-    × ((P : Program) → HoldsAt t image k P → left t image literals y u P i (contextOf (typesAt t image (k .rows)) regs sp depth) ≡ left t image literals y u P (y .first) (contextOf (typesAt t image (k .rows)) regs₀ sp₀ d))
+Inv-loop image literals regs₀ sp₀ work₀ pending₀ t k y u i₀ depth₀ regs sp work pending i depth =
+    ((length regs ≡ length regs₀) × (length sp ≡ length sp₀) × (length work ≡ length work₀) × (depth ≤ 64) × (y .first ≤ i) × (length pending ≡ length pending₀))
+    × ((P : Program) → HoldsAt t image k P → left t image literals y u P i (contextOf (typesAt t image (k .rows)) regs sp depth) ≡ left t image literals y u P (y .first) (contextOf (typesAt t image (k .rows)) regs₀ sp₀ (y .depth)))
 
 abbrev μ-loop : tie.MeasureT-loop
-μ-loop image literals regs₀ sp₀ work₀ d t k y u i₀ depth₀ regs sp work i depth = y .end - i
+μ-loop image literals regs₀ sp₀ work₀ pending₀ t k y u i₀ depth₀ regs sp work pending i depth = y .end - i
 
 abbrev Start : Type 0
 Start = tie.Start Inv-loop μ-loop
@@ -46,10 +46,13 @@ start-of t = search
 abbrev loop-of : After-judge → At-loop
 loop-of t = search
 
+one-more : (t : After-judge) → loop-of t .loop .i < start-of t .args .x .end
+one-more t = search
+
 loop-holds : tie.Need-loop-holds Inv-loop μ-loop
 loop-holds c =
     let s : Start = search in
-    ((refl, refl, refl, s .pre .8, omega arith), λ P h. refl)
+    ((refl, refl, refl, s .pre .8, omega arith, refl), λ P h. refl)
 
 judge-requires : tie.Need-judge-requires Inv-loop μ-loop
 judge-requires c κs =
@@ -57,7 +60,7 @@ judge-requires c κs =
     let g : At-loop = search in
     let t = s .pre .1 in
     let i = g .loop .inv .0 in
-    (s .pre .0, t .ready, t .scoped, t .small, (λ x k. t .few x (omega arith)), s .pre .2 (g .loop .i) (i .4) search, omega (arith, i .0, s .pre .5), omega (arith, i .1, s .pre .6), omega (arith, i .2, s .pre .7), i .3)
+    (s .pre .0, t .ready, t .scoped, t .small, (λ x k. t .few x (omega arith)), s .pre .2 (g .loop .i) (i .4) search, omega (arith, i .0, s .pre .5), omega (arith, i .1, s .pre .6), omega (arith, i .2, s .pre .7), i .3, omega (arith, i .5, s .pre .9))
 
 same-length : tie.Need-same-length Inv-loop μ-loop
 same-length c =
@@ -77,6 +80,12 @@ same-length-3 c =
     let t : After-judge = search in
     t .judge .kept .1 .1 .1 .1 .1 .1 .1 .1 .0 ∙ g .loop .inv .0 .2
 
+same-length-4 : tie.Need-same-length-4 Inv-loop μ-loop
+same-length-4 c =
+    let g : At-loop = search in
+    let t : After-judge = search in
+    t .judge .kept .1 .1 .1 .1 .1 .1 .1 .1 .1 .0 ∙ g .loop .inv .0 .5
+
 returns : tie.Need-returns Inv-loop μ-loop
 unfolding linesLeft
 returns c =
@@ -85,7 +94,7 @@ returns c =
     let g = loop-of t in
     let a = s .args in
     let l = a .image .now in
-    λ P h. refuses-as _ (g .loop .inv .1 P h) (instr-found P (lettersIn (a .p) l (a .w)) (instrSection (a .p) l) (operandsIn (a .p) l (a .literals .now)) (a .x .end) (a .x .base) (g .loop .i) (typesAt (a .p) l (a .c .rows)) (g .loop .regs) (g .loop .sp) (g .loop .depth) _ (t .judge .result .fault) (t .judge .result .item) (search) (t .judge .ensures .0 P h) (search))
+    λ P h. refuses-as _ (g .loop .inv .1 P h) (instr-found P (lettersIn (a .p) l (a .w)) (instrSection (a .p) l) (operandsIn (a .p) l (a .literals .now)) (a .x .end) (a .x .base) (g .loop .i) (typesAt (a .p) l (a .c .rows)) (g .loop .regs) (g .loop .sp) (g .loop .depth) _ (t .judge .result .fault) (t .judge .result .item) (one-more t) (t .judge .ensures .0 P h) (search))
 
 loop-again : tie.Need-loop-again Inv-loop μ-loop
 loop-again c =
@@ -95,7 +104,7 @@ loop-again c =
     let i = g .loop .inv .0 in
     let a = s .args in
     let l = a .image .now in
-    ((t .judge .kept .1 .1 .1 .1 .1 .1 .0 ∙ i .0, t .judge .kept .1 .1 .1 .1 .1 .1 .1 .0 ∙ i .1, t .judge .kept .1 .1 .1 .1 .1 .1 .1 .1 .0 ∙ i .2, t .judge .ensures .1, omega (arith, i .4)), λ P h. instr-next P (lettersIn (a .p) l (a .w)) (instrSection (a .p) l) (operandsIn (a .p) l (a .literals .now)) (a .x .end) (a .x .base) (g .loop .i) (contextOf (typesAt (a .p) l (a .c .rows)) (g .loop .regs) (g .loop .sp) (g .loop .depth)) _ (t .judge .result .fault) (t .judge .result .item) (search) (t .judge .ensures .0 P h) (search) ∙ g .loop .inv .1 P h)
+    ((t .judge .kept .1 .1 .1 .1 .1 .1 .0 ∙ i .0, t .judge .kept .1 .1 .1 .1 .1 .1 .1 .0 ∙ i .1, t .judge .kept .1 .1 .1 .1 .1 .1 .1 .1 .0 ∙ i .2, t .judge .ensures .1, omega (arith, i .4), t .judge .kept .1 .1 .1 .1 .1 .1 .1 .1 .1 .0 ∙ i .5), λ P h. instr-next P (lettersIn (a .p) l (a .w)) (instrSection (a .p) l) (operandsIn (a .p) l (a .literals .now)) (a .x .end) (a .x .base) (g .loop .i) (contextOf (typesAt (a .p) l (a .c .rows)) (g .loop .regs) (g .loop .sp) (g .loop .depth)) _ (t .judge .result .fault) (t .judge .result .item) (one-more t) (t .judge .ensures .0 P h) (search) ∙ g .loop .inv .1 P h)
 
 returns-2 : tie.Need-returns-2 Inv-loop μ-loop
 unfolding linesLeft
@@ -111,7 +120,7 @@ pub body-spec : {M : Type 1} → statement M
 body-spec =
     tie.close
     (tie.spec
-    Inv-loop μ-loop loop-holds judge-requires (λ c. search needs) same-length same-length-2 same-length-3 returns
+    Inv-loop μ-loop loop-holds judge-requires (λ c. search needs) same-length same-length-2 same-length-3 same-length-4 returns
     (λ c. search needs) (λ c. search needs) loop-again (λ c κs. search needs)
     (λ c. let g : At-loop = search in g .loop .inv .0 .0) (λ c. let g : At-loop = search in g .loop .inv .0 .1)
-    (λ c. let g : At-loop = search in g .loop .inv .0 .2) returns-2)
+    (λ c. let g : At-loop = search in g .loop .inv .0 .2) (λ c. let g : At-loop = search in g .loop .inv .0 .5) returns-2)

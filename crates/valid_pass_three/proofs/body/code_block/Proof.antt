@@ -59,7 +59,7 @@ body-requires c κs =
     let q = start-of t .pre in
     let k = e .enter .kept .1 .1 .1 .1 .1 .0 in
     let m = f .flatten .kept .1 .1 .1 .0 in
-    (q .0 .0, q .0 .1, q .0 .2, q .0 .3, q .0 .4, omega (arith, k, q .0 .5), omega (arith, m, q .0 .6), q .0 .7, omega (arith, count-is t, q .1 .4))
+    (q .0 .0, q .0 .1, q .0 .2, q .0 .3, q .0 .4, omega (arith, k, q .0 .5), omega (arith, m, q .0 .6), q .0 .7, omega (arith, count-is t, q .1 .4), q .0 .8)
 
 same-length : tie.Need-same-length
 same-length c =
@@ -90,4 +90,4 @@ code-block-spec =
     (tie.spec
     (λ c. search needs) (λ c. search needs) (λ c. search needs) (λ c. search needs) (λ c. search needs) (λ c. search needs)
     (λ c. search needs) (λ c. search needs) enter-requires flatten-requires (λ c κs. search needs) item-count-requires
-    (λ c. search needs) body-requires same-length same-length-2 (λ c. search needs) returns)
+    (λ c. search needs) body-requires same-length same-length-2 (λ c. search needs) (λ c. search needs) returns)

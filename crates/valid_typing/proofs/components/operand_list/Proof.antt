@@ -19,12 +19,12 @@ use Rattle.valid_typing.proofs.components.operand_list.Statement.{state
 use Rattle.valid_typing.proofs.components.operand_list.Tie as tie
 
 abbrev Inv-loop : tie.InvT-loop
-Inv-loop image literals regs back₀ found₀ t k u v f₀ i₀ back found f i =
-    (i ≤ i₀) × (length back ≡ length back₀) × (length found ≡ length found₀)
+Inv-loop image literals regs pending₀ found₀ t k u v f₀ i₀ pending found f i =
+    (i ≤ i₀) × (length pending ≡ length pending₀) × (length found ≡ length found₀)
     × ((P : Program) → HoldsAt t image k P → toldOf (components P (lettersIn t image u) (regsOf (typesAt t image (k .rows)) regs) (operandsAt (operandsIn t image literals) (v + i) (i₀ - i))) ≡ answer f (typesFrom (typesAt t image (k .rows)) found i (i₀ - i)))
 
 abbrev μ-loop : tie.MeasureT-loop
-μ-loop image literals regs back₀ found₀ t k u v f₀ i₀ back found f i = i
+μ-loop image literals regs pending₀ found₀ t k u v f₀ i₀ pending found f i = i
 
 loop-holds : tie.Need-loop-holds Inv-loop μ-loop
 loop-holds c =
@@ -77,9 +77,6 @@ slice-write-found c =
     let s : tie.Start Inv-loop μ-loop = search in
     omega (arith, k .loop-test .taken, g .loop .inv .0, g .loop .inv .2, s .pre .6)
 
-least-requires : tie.Need-least-requires Inv-loop μ-loop
-least-requires c κs = search needs
-
 sub-i : tie.Need-sub-i Inv-loop μ-loop
 sub-i c =
     let k : tie.In-loop Inv-loop μ-loop = search in
@@ -126,6 +123,4 @@ returns c =
 pub operand-list-spec : {M : Type 1} → statement M
 operand-list-spec =
     tie.close
-    (tie.spec
-    Inv-loop μ-loop loop-holds add-operand sub-operand operand-requires cast-found sub-found mul-found slice-write-found least-requires
-    sub-i loop-less loop-again same-length same-length-2 returns)
+    (tie.spec Inv-loop μ-loop loop-holds add-operand sub-operand operand-requires cast-found sub-found mul-found slice-write-found (λ c κs. search needs) sub-i loop-less loop-again same-length same-length-2 returns)

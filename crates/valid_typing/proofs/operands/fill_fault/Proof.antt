@@ -17,20 +17,20 @@ use borrow.Author.Needs.{needs}
 use Rattle.valid_typing.proofs.operands.fill_fault.Statement.{statement}
 use Rattle.valid_typing.proofs.operands.fill_fault.Tie as tie
 
-abbrev start-of : tie.After-letters-fit → tie.Start
-start-of t = search
-
-abbrev base-type-of : tie.After-letters-fit → tie.After-base-type
-base-type-of t = search
-
-abbrev else1-of : tie.After-letters-fit → tie.Else1
-else1-of t = search
+abbrev else2-of : tie.After-letters-fit → tie.Else2
+else2-of t = search
 
 abbrev code-of : tie.After-letters-fit → tie.After-code
 code-of t = search
 
-abbrev else2-of : tie.After-letters-fit → tie.Else2
-else2-of t = search
+abbrev else1-of : tie.After-letters-fit → tie.Else1
+else1-of t = search
+
+abbrev base-type-of : tie.After-letters-fit → tie.After-base-type
+base-type-of t = search
+
+abbrev start-of : tie.After-letters-fit → tie.Start
+start-of t = search
 
 base-type-requires : tie.Need-base-type-requires
 base-type-requires c κs =
@@ -113,7 +113,7 @@ filled-requires c κs =
     let t-code = code-of t-letters-fit in
     let s = start-of t-letters-fit in
     let t-is-closed : tie.After-is-closed = search in
-    (let f = s .pre .1 .few in omega arith, s .pre .3, t-is-closed .is-closed .ensures)
+    (let f = s .pre .1 .few in omega arith, s .pre .3, t-is-closed .is-closed .ensures, s .pre .5)
 
 returns-4 : tie.Need-returns-4
 unfolding part
@@ -156,7 +156,4 @@ returns-5 c =
 pub fill-fault-spec : {M : Type 1} → statement M
 fill-fault-spec =
     tie.close
-    (tie.spec
-    (λ c. search needs) (λ c. search needs) (λ c. search needs) (λ c. search needs) (λ c. search needs) (λ c. search needs)
-    (λ c. search needs) (λ c. search needs) base-type-requires returns code-requires returns-2 letters-fit-requires returns-3
-    is-closed-requires given-row-requires add-filled filled-requires returns-4 returns-5)
+    (tie.spec (λ c. search needs) (λ c. search needs) (λ c. search needs) (λ c. search needs) (λ c. search needs) (λ c. search needs) (λ c. search needs) (λ c. search needs) base-type-requires returns code-requires returns-2 letters-fit-requires returns-3 is-closed-requires given-row-requires add-filled filled-requires (λ c. search needs) returns-4 (λ c. search needs) returns-5)

@@ -12,65 +12,109 @@ use Rattle.valid_typing.proofs.target.Items.{when-is, no-code, still-op
 use borrow.Author.Needs.{needs}
 use Rattle.valid_typing.proofs.target.aimed.Statement.{statement}
 use Rattle.valid_typing.proofs.target.aimed.Tie as tie
-use Rattle.valid_typing.proofs.target.aimed.Reads as reads
-use Rattle.valid_typing.proofs.target.aimed.Lts as lts
-use Rattle.types_rows.proofs.letter_count.Reads as letter-count-reads
-use Rattle.valid_typing.proofs.target.unfit_register.Reads as unfit-register-reads
-use Rattle.valid_typing.proofs.code.Reads as code-reads
-use Rattle.valid_typing.proofs.same_items.Reads as same-items-reads
+
+abbrev start-of : tie.After-same-items → tie.Start
+start-of t = search
+
+abbrev else1-of : tie.After-same-items → tie.Else1
+else1-of t = search
+
+abbrev else2-of : tie.After-same-items → tie.Else2
+else2-of t = search
+
+abbrev code-of : tie.After-same-items → tie.After-code
+code-of t = search
+
+abbrev letter-count-of : tie.After-same-items → tie.After-letter-count
+letter-count-of t = search
 
 code-requires : tie.Need-code-requires
-code-requires c κs = ((c .before .before .before .before .pre) .0, omega (arith, (c .before .before .before .before .pre) .1, (c .before .before .before .before .pre) .0 .few))
+code-requires c κs =
+    let s : tie.Start = search in
+    ((s .pre) .0, omega (arith, (s .pre) .1, (s .pre) .0 .few))
 
 returns : tie.Need-returns
 returns c =
-    let a = (c .before .before .before .before .before .before .before .args) in
-    let k = (c .before .before .code) .result in
-    λ P Δ v j z e. no-code P Δ (contextOf (typesIn (a .rows .now) (a .parts .now) (a .n)) (a .regs .now) (a .sp .now) (a .d)) v j (typeAt value (typesIn (a .rows .now) (a .parts .now) (a .n)) (a .t)) e z (when-is (k .is) false (codeIn (a .rows .now) (a .parts .now) (k .link) (k .stack) (k .start)) ((c .before .before .code) .ensures .0) (not-yes ((c .if1) .taken)))
+    let s : tie.Start = search in
+    let code2 : tie.After-code = search in
+    let if2 : tie.Then1 = search in
+    let a = (s .args) in
+    let k = (code2 .code) .result in
+    λ P Δ v j z e. no-code P Δ (contextOf (typesIn (a .rows .now) (a .parts .now) (a .n)) (a .regs .now) (a .sp .now) (a .d)) v j (typeAt value (typesIn (a .rows .now) (a .parts .now) (a .n)) (a .t)) e z (when-is (k .is) false (codeIn (a .rows .now) (a .parts .now) (k .link) (k .stack) (k .start)) ((code2 .code) .ensures .0) (not-yes ((if2 .if1) .taken)))
 
 letter-count-requires : tie.Need-letter-count-requires
-letter-count-requires c κs = (c .before .before .code) .ensures .3
+letter-count-requires c κs =
+    let code2 : tie.After-code = search in
+    (code2 .code) .ensures .3
 
 returns-2 : tie.Need-returns-2
 returns-2 c =
-    let a = (c .before .before .before .before .before .before .before .before .before .args) in
-    let k = (c .before .before .before .before .code) .result in
-    λ P Δ v j z e. still-open P Δ (contextOf (typesIn (a .rows .now) (a .parts .now) (a .n)) (a .regs .now) (a .sp .now) (a .d)) v j (typeAt value (typesIn (a .rows .now) (a .parts .now) (a .n)) (a .t)) e z (codeIn (a .rows .now) (a .parts .now) (k .link) (k .stack) (k .start)) (when-is (k .is) true (codeIn (a .rows .now) (a .parts .now) (k .link) (k .stack) (k .start)) ((c .before .before .before .before .code) .ensures .0) (not-no ((c .before .before .if1) .left))) (some-left (a .parts .now) (k .start) ((c .before .letter-count) .result) ((c .before .letter-count) .ensures .0) ((c .if2) .taken))
+    let s : tie.Start = search in
+    let code2 : tie.After-code = search in
+    let if3 : tie.Else1 = search in
+    let lette : tie.After-letter-count = search in
+    let if4 : tie.Then2 = search in
+    let a = (s .args) in
+    let k = (code2 .code) .result in
+    λ P Δ v j z e. still-open P Δ (contextOf (typesIn (a .rows .now) (a .parts .now) (a .n)) (a .regs .now) (a .sp .now) (a .d)) v j (typeAt value (typesIn (a .rows .now) (a .parts .now) (a .n)) (a .t)) e z (codeIn (a .rows .now) (a .parts .now) (k .link) (k .stack) (k .start)) (when-is (k .is) true (codeIn (a .rows .now) (a .parts .now) (k .link) (k .stack) (k .start)) ((code2 .code) .ensures .0) (not-no ((if3 .if1) .left))) (some-left (a .parts .now) (k .start) ((lette .letter-count) .result) ((lette .letter-count) .ensures .0) ((if4 .if2) .taken))
 
 same-items-requires : tie.Need-same-items-requires
-same-items-requires c κs = ((c .before .before .before .before .before .before .before .before .before .pre) .0, omega (arith, (c .before .before .before .before .code) .ensures .2))
+same-items-requires c κs =
+    let s : tie.Start = search in
+    let code2 : tie.After-code = search in
+    ((s .pre) .0, omega (arith, (code2 .code) .ensures .2), s .pre .2)
 
 returns-3 : tie.Need-returns-3
 returns-3 c =
-    let a = (c .before .before .before .before .before .before .before .before .before .before .before .args) in
-    let k = (c .before .before .before .before .before .before .code) .result in
-    λ P Δ v j z e. sp-differs P Δ (contextOf (typesIn (a .rows .now) (a .parts .now) (a .n)) (a .regs .now) (a .sp .now) (a .d)) v j (typeAt value (typesIn (a .rows .now) (a .parts .now) (a .n)) (a .t)) e z (codeIn (a .rows .now) (a .parts .now) (k .link) (k .stack) (k .start)) (when-is (k .is) true (codeIn (a .rows .now) (a .parts .now) (k .link) (k .stack) (k .start)) ((c .before .before .before .before .before .before .code) .ensures .0) (not-no ((c .before .before .before .before .if1) .left))) (none-left (a .parts .now) (k .start) ((c .before .before .before .letter-count) .result) ((c .before .before .before .letter-count) .ensures .0) ((c .before .before .if2) .left)) ((c .before .same-items) .ensures) (not-yes ((c .if3) .taken))
+    let s : tie.Start = search in
+    let code2 : tie.After-code = search in
+    let if4 : tie.Else1 = search in
+    let lette : tie.After-letter-count = search in
+    let if5 : tie.Else2 = search in
+    let samei : tie.After-same-items = search in
+    let if6 : tie.Then3 = search in
+    let a = (s .args) in
+    let k = (code2 .code) .result in
+    λ P Δ v j z e. sp-differs P Δ (contextOf (typesIn (a .rows .now) (a .parts .now) (a .n)) (a .regs .now) (a .sp .now) (a .d)) v j (typeAt value (typesIn (a .rows .now) (a .parts .now) (a .n)) (a .t)) e z (codeIn (a .rows .now) (a .parts .now) (k .link) (k .stack) (k .start)) (when-is (k .is) true (codeIn (a .rows .now) (a .parts .now) (k .link) (k .stack) (k .start)) ((code2 .code) .ensures .0) (not-no ((if4 .if1) .left))) (none-left (a .parts .now) (k .start) ((lette .letter-count) .result) ((lette .letter-count) .ensures .0) ((if5 .if2) .left)) ((samei .same-items) .ensures) (not-yes ((if6 .if3) .taken))
 
 unfit-register-requires : tie.Need-unfit-register-requires
-unfit-register-requires c κs = ((c .before .before .before .before .before .before .before .before .before .before .before .pre) .0, (c .before .before .before .before .before .before .code) .ensures .1, (c .before .before .before .before .before .before .code) .ensures .3)
+unfit-register-requires c κs =
+    let s : tie.Start = search in
+    let code2 : tie.After-code = search in
+    let samei : tie.After-same-items = search in
+    ((s .pre) .0, (code2 .code) .ensures .1, (code2 .code) .ensures .3, omega (arith, samei .same-items .kept .1 .1 .1 .1 .1 .1 .0, s .pre .2))
 
 returns-4 : tie.Need-returns-4
 returns-4 c =
-    let a = (c .before .before .before .before .before .before .before .before .before .before .before .before .before .args) in
-    let k = (c .before .before .before .before .before .before .before .before .code) .result in
-    λ P Δ v j z e. register-differs P Δ (contextOf (typesIn (a .rows .now) (a .parts .now) (a .n)) (a .regs .now) (a .sp .now) (a .d)) v j (typeAt value (typesIn (a .rows .now) (a .parts .now) (a .n)) (a .t)) e z (codeIn (a .rows .now) (a .parts .now) (k .link) (k .stack) (k .start)) (when-is (k .is) true (codeIn (a .rows .now) (a .parts .now) (k .link) (k .stack) (k .start)) ((c .before .before .before .before .before .before .before .before .code) .ensures .0) (not-no ((c .before .before .before .before .before .before .if1) .left))) (none-left (a .parts .now) (k .start) ((c .before .before .before .before .before .letter-count) .result) ((c .before .before .before .before .before .letter-count) .ensures .0) ((c .before .before .before .before .if2) .left)) ((c .before .before .before .same-items) .ensures) (not-no ((c .before .before .if3) .left)) ((c .before .unfit-register) .result) ((c .before .unfit-register) .ensures P Δ) ((c .if4) .taken)
+    let samei : tie.After-same-items = search in
+    let s = start-of samei in
+    let code2 = code-of samei in
+    let if5 = else1-of samei in
+    let lette = letter-count-of samei in
+    let if6 = else2-of samei in
+    let if7 : tie.Else3 = search in
+    let unfit2 : tie.After-unfit-register = search in
+    let if8 : tie.Then4 = search in
+    let a = (s .args) in
+    let k = (code2 .code) .result in
+    λ P Δ v j z e. register-differs P Δ (contextOf (typesIn (a .rows .now) (a .parts .now) (a .n)) (a .regs .now) (a .sp .now) (a .d)) v j (typeAt value (typesIn (a .rows .now) (a .parts .now) (a .n)) (a .t)) e z (codeIn (a .rows .now) (a .parts .now) (k .link) (k .stack) (k .start)) (when-is (k .is) true (codeIn (a .rows .now) (a .parts .now) (k .link) (k .stack) (k .start)) ((code2 .code) .ensures .0) (not-no ((if5 .if1) .left))) (none-left (a .parts .now) (k .start) ((lette .letter-count) .result) ((lette .letter-count) .ensures .0) ((if6 .if2) .left)) ((samei .same-items) .ensures) (not-no ((if7 .if3) .left)) ((unfit2 .unfit-register) .result) ((unfit2 .unfit-register) .ensures P Δ) ((if8 .if4) .taken)
 
 returns-5 : tie.Need-returns-5
 returns-5 c =
-    let a = (c .before .before .before .before .before .before .before .before .before .before .before .before .before .args) in
-    let k = (c .before .before .before .before .before .before .before .before .code) .result in
-    λ P Δ v j z e. all-fit P Δ (contextOf (typesIn (a .rows .now) (a .parts .now) (a .n)) (a .regs .now) (a .sp .now) (a .d)) v j (typeAt value (typesIn (a .rows .now) (a .parts .now) (a .n)) (a .t)) e z (codeIn (a .rows .now) (a .parts .now) (k .link) (k .stack) (k .start)) (when-is (k .is) true (codeIn (a .rows .now) (a .parts .now) (k .link) (k .stack) (k .start)) ((c .before .before .before .before .before .before .before .before .code) .ensures .0) (not-no ((c .before .before .before .before .before .before .if1) .left))) (none-left (a .parts .now) (k .start) ((c .before .before .before .before .before .letter-count) .result) ((c .before .before .before .before .before .letter-count) .ensures .0) ((c .before .before .before .before .if2) .left)) ((c .before .before .before .same-items) .ensures) (not-no ((c .before .before .if3) .left)) ((c .before .unfit-register) .result) ((c .before .unfit-register) .ensures P Δ) ((c .if4) .left)
+    let samei : tie.After-same-items = search in
+    let s = start-of samei in
+    let code2 = code-of samei in
+    let if5 = else1-of samei in
+    let lette = letter-count-of samei in
+    let if6 = else2-of samei in
+    let if7 : tie.Else3 = search in
+    let unfit2 : tie.After-unfit-register = search in
+    let if8 : tie.Else4 = search in
+    let a = (s .args) in
+    let k = (code2 .code) .result in
+    λ P Δ v j z e. all-fit P Δ (contextOf (typesIn (a .rows .now) (a .parts .now) (a .n)) (a .regs .now) (a .sp .now) (a .d)) v j (typeAt value (typesIn (a .rows .now) (a .parts .now) (a .n)) (a .t)) e z (codeIn (a .rows .now) (a .parts .now) (k .link) (k .stack) (k .start)) (when-is (k .is) true (codeIn (a .rows .now) (a .parts .now) (k .link) (k .stack) (k .start)) ((code2 .code) .ensures .0) (not-no ((if5 .if1) .left))) (none-left (a .parts .now) (k .start) ((lette .letter-count) .result) ((lette .letter-count) .ensures .0) ((if6 .if2) .left)) ((samei .same-items) .ensures) (not-no ((if7 .if3) .left)) ((unfit2 .unfit-register) .result) ((unfit2 .unfit-register) .ensures P Δ) ((if8 .if4) .left)
 
 pub aimed-spec : {M : Type 1} → statement M
 aimed-spec =
     tie.close
-    (tie.spec
-    code-requires
-    returns
-    letter-count-requires
-    returns-2
-    same-items-requires
-    returns-3
-    unfit-register-requires
-    returns-4
-    returns-5)
+    (tie.spec code-requires returns letter-count-requires returns-2 same-items-requires (λ c. search needs) returns-3 unfit-register-requires (λ c. search needs) returns-4 (λ c. search needs) returns-5)

@@ -1,3 +1,4 @@
+use native.Mathlib.Omega.{arith}
 use mathlib.Core.List.{List}
 use Rattle.syntax.specs.Syntax.{Kind, value}
 use Rattle.syntax.specs.Fault.{unfit}
@@ -45,7 +46,7 @@ unfolding part
 aimed-requires c κs =
     let s : tie.Start = search in
     let t-operand : tie.After-operand = search in
-    (s .pre .1, t-operand .operand .ensures .1)
+    (s .pre .1, t-operand .operand .ensures .1, omega (arith, t-operand .operand .kept .1 .1 .1 .1 .1 .1 .1 .0, s .pre .5))
 
 returns-3 : tie.Need-returns-3
 unfolding part
@@ -62,7 +63,4 @@ returns-3 c =
 pub target-spec : {M : Type 1} → statement M
 target-spec =
     tie.close
-    (tie.spec
-    operand-requires (λ c. search needs) returns (λ c. search needs) returns-2 (λ c. search needs) (λ c. search needs)
-    (λ c. search needs) (λ c. search needs) (λ c. search needs) (λ c. search needs) (λ c. search needs) (λ c. search needs)
-    aimed-requires (λ c. search needs) returns-3)
+    (tie.spec operand-requires (λ c. search needs) returns (λ c. search needs) returns-2 (λ c. search needs) (λ c. search needs) (λ c. search needs) (λ c. search needs) (λ c. search needs) (λ c. search needs) (λ c. search needs) (λ c. search needs) aimed-requires (λ c. search needs) returns-3)

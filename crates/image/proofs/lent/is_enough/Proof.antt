@@ -1,9 +1,6 @@
-use mathlib.Core.Path.{refl, sym}
-use native.Mathlib.Omega.{arith}
-use borrow.Author.Needs.{needs}
-use Rattle.exec_call.proofs.Laws.{short-image, short-numbers, by-plan}
-use Rattle.exec_call.proofs.lent.is_enough.Statement.{statement}
-use Rattle.exec_call.proofs.lent.is_enough.Tie as tie
+use Rattle.image.proofs.Enough.{short-image, short-numbers, by-plan}
+use Rattle.image.proofs.lent.is_enough.Statement.{statement}
+use Rattle.image.proofs.lent.is_enough.Tie as tie
 
 returns : tie.Need-returns
 returns c =
