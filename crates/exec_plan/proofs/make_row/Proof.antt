@@ -8,152 +8,167 @@ use borrow.Author.Needs.{needs}
 use Rattle.exec_plan.proofs.make_row.Statement.{statement}
 use Rattle.exec_plan.proofs.make_row.Tie as tie
 
-mul-p : tie.Need-mul-p
-mul-p c = search needs
+abbrev branch-kind-of-constant-kind : tie.After-constant-kind → tie.After-branch-kind
+branch-kind-of-constant-kind x = search
 
-entry-requires : tie.Need-entry-requires
-entry-requires c κs = search needs
+abbrev choose-of-goal3 : tie.After-goal3 → tie.After-choose
+choose-of-goal3 x = search
 
-entry-requires-2 : tie.Need-entry-requires-2
-entry-requires-2 c κs = search needs
+abbrev choose-of-narrow2 : tie.After-narrow2 → tie.After-choose
+choose-of-narrow2 x = search
 
-entry-requires-3 : tie.Need-entry-requires-3
-entry-requires-3 c κs = search needs
+abbrev column-of-goal3 : tie.After-goal3 → tie.After-column
+column-of-goal3 x = search
 
-entry-requires-4 : tie.Need-entry-requires-4
-entry-requires-4 c κs = search needs
+abbrev constant-kind-of-goal3 : tie.After-goal3 → tie.After-constant-kind
+constant-kind-of-goal3 x = search
 
-entry-requires-5 : tie.Need-entry-requires-5
-entry-requires-5 c κs = search needs
+abbrev entry-of-constant-kind : tie.After-constant-kind → tie.After-entry
+entry-of-constant-kind x = search
 
-entry-requires-6 : tie.Need-entry-requires-6
-entry-requires-6 c κs = search needs
+abbrev entry2-of-constant-kind : tie.After-constant-kind → tie.After-entry2
+entry2-of-constant-kind x = search
 
-entry-requires-7 : tie.Need-entry-requires-7
-entry-requires-7 c κs = search needs
+abbrev entry3-of-constant-kind : tie.After-constant-kind → tie.After-entry3
+entry3-of-constant-kind x = search
 
-kind-of-requires : tie.Need-kind-of-requires
-kind-of-requires c κs = search needs
+abbrev entry4-of-constant-kind : tie.After-constant-kind → tie.After-entry4
+entry4-of-constant-kind x = search
 
-number-at-requires : tie.Need-number-at-requires
-number-at-requires c κs = search needs
+abbrev entry5-of-choose : tie.After-choose → tie.After-entry5
+entry5-of-choose x = search
 
-wide-requires : tie.Need-wide-requires
-wide-requires c κs = search needs
+abbrev entry5-of-constant-kind : tie.After-constant-kind → tie.After-entry5
+entry5-of-constant-kind x = search
 
-entry-requires-8 : tie.Need-entry-requires-8
-entry-requires-8 c κs = search needs
+abbrev entry6-of-constant-kind : tie.After-constant-kind → tie.After-entry6
+entry6-of-constant-kind x = search
 
-branch-kind-requires : tie.Need-branch-kind-requires
-branch-kind-requires c κs = search needs
+abbrev entry7-of-constant-kind : tie.After-constant-kind → tie.After-entry7
+entry7-of-constant-kind x = search
 
-constant-kind-requires : tie.Need-constant-kind-requires
-constant-kind-requires c κs = search needs
+abbrev entry8-of-choose : tie.After-choose → tie.After-entry8
+entry8-of-choose x = search
 
-column-requires : tie.Need-column-requires
-column-requires c κs = search needs
+abbrev entry8-of-constant-kind : tie.After-constant-kind → tie.After-entry8
+entry8-of-constant-kind x = search
 
-choose-requires : tie.Need-choose-requires
-choose-requires c κs =
-    let o : (c .before .before .branch-kind) .result < 65536 = omega (arith, (c .before .before .branch-kind) .ensures, (c .before .before .before .before .before .before .before .before .before .before .before .before .before .entry) .ensures .1) in
-    let q : (c .before .constant-kind) .result < 65536 = omega (arith, (c .before .constant-kind) .ensures, (c .before .before .before .before .before .before .kind-of) .ensures .1) in
-    ((c .before .before .before .before .before .before .before .before .before .before .before .before .entry2) .ensures .1, (c .before .before .before .before .before .before .before .before .before .before .before .entry3) .ensures .1, (c .before .before .before .before .before .before .before .before .before .before .entry4) .ensures .1, (c .before .before .before .entry8) .ensures .1, (c .before .before .before .before .before .before .before .before .before .entry5) .ensures .1, o, q)
+abbrev kind-of-of-constant-kind : tie.After-constant-kind → tie.After-kind-of
+kind-of-of-constant-kind x = search
 
-column-requires-2 : tie.Need-column-requires-2
-column-requires-2 c κs = search needs
+abbrev number-at-of-constant-kind : tie.After-constant-kind → tie.After-number-at
+number-at-of-constant-kind x = search
+
+abbrev start-of-constant-kind : tie.After-constant-kind → tie.Start
+start-of-constant-kind x = search
+
+abbrev start-of-entry5 : tie.After-entry5 → tie.Start
+start-of-entry5 x = search
+
+abbrev wide-of-constant-kind : tie.After-constant-kind → tie.After-wide
+wide-of-constant-kind x = search
 
 choose-requires-2 : tie.Need-choose-requires-2
 choose-requires-2 c κs =
-    let o : (c .before .before .before .before .branch-kind) .result < 65536 = omega (arith, (c .before .before .before .before .branch-kind) .ensures, (c .before .before .before .before .before .before .before .before .before .before .before .before .before .before .before .entry) .ensures .1) in
-    let q : (c .before .before .before .constant-kind) .result < 65536 = omega (arith, (c .before .before .before .constant-kind) .ensures, (c .before .before .before .before .before .before .before .before .kind-of) .ensures .1) in
-    ((c .before .before .before .before .before .before .before .before .before .before .before .before .before .before .entry2) .ensures .1, (c .before .before .before .before .before .before .before .before .before .before .before .before .before .entry3) .ensures .1, (c .before .before .before .before .before .before .before .before .before .before .before .before .entry4) .ensures .1, (c .before .before .before .before .before .entry8) .ensures .1, (c .before .before .before .before .before .before .before .before .before .before .before .entry5) .ensures .1, o, q)
-
-column-requires-3 : tie.Need-column-requires-3
-column-requires-3 c κs = search needs
+    let c2 : tie.After-constant-kind = search in
+    let b : tie.After-branch-kind = search in
+    let k : tie.After-kind-of = search in
+    let e6 : tie.After-entry5 = search in
+    let e4 : tie.After-entry4 = search in
+    let e3 : tie.After-entry3 = search in
+    let e2 : tie.After-entry2 = search in
+    let e : tie.After-entry = search in
+    let o : b .branch-kind .result < 65536 = omega (arith, b .branch-kind .ensures, e .entry .ensures .1) in
+    let q : c2 .constant-kind .result < 65536 = omega (arith, c2 .constant-kind .ensures, k .kind-of .ensures .1) in
+    (e2 .entry2 .ensures .1, e3 .entry3 .ensures .1, e4 .entry4 .ensures .1, search, e6 .entry5 .ensures .1, o, q)
 
 choose-requires-3 : tie.Need-choose-requires-3
 choose-requires-3 c κs =
-    let o : (c .before .before .before .before .before .before .branch-kind) .result < 65536 = omega (arith, (c .before .before .before .before .before .before .branch-kind) .ensures, (c .before .before .before .before .before .before .before .before .before .before .before .before .before .before .before .before .before .entry) .ensures .1) in
-    let q : (c .before .before .before .before .before .constant-kind) .result < 65536 = omega (arith, (c .before .before .before .before .before .constant-kind) .ensures, (c .before .before .before .before .before .before .before .before .before .before .kind-of) .ensures .1) in
-    ((c .before .before .before .before .before .before .before .before .before .before .before .before .before .before .before .before .entry2) .ensures .1, (c .before .before .before .before .before .before .before .before .before .before .before .before .before .before .before .entry3) .ensures .1, (c .before .before .before .before .before .before .before .before .before .before .before .before .before .before .entry4) .ensures .1, (c .before .before .before .before .before .before .before .entry8) .ensures .1, (c .before .before .before .before .before .before .before .before .before .before .before .before .before .entry5) .ensures .1, o, q)
-
-form-requires : tie.Need-form-requires
-form-requires c κs = search needs
-
-checked-requires : tie.Need-checked-requires
-checked-requires c κs = search needs
-
-class-requires : tie.Need-class-requires
-class-requires c κs = search needs
-
-narrow-requires : tie.Need-narrow-requires
-narrow-requires c κs = search needs
-
-narrow-requires-2 : tie.Need-narrow-requires-2
-narrow-requires-2 c κs = search needs
-
-narrow-requires-3 : tie.Need-narrow-requires-3
-narrow-requires-3 c κs = search needs
+    let c2 : tie.After-constant-kind = search in
+    let b : tie.After-branch-kind = search in
+    let k : tie.After-kind-of = search in
+    let e6 : tie.After-entry5 = search in
+    let e4 : tie.After-entry4 = search in
+    let e3 : tie.After-entry3 = search in
+    let e2 : tie.After-entry2 = search in
+    let e : tie.After-entry = search in
+    let o : b .branch-kind .result < 65536 = omega (arith, b .branch-kind .ensures, e .entry .ensures .1) in
+    let q : c2 .constant-kind .result < 65536 = omega (arith, c2 .constant-kind .ensures, k .kind-of .ensures .1) in
+    (e2 .entry2 .ensures .1, e3 .entry3 .ensures .1, e4 .entry4 .ensures .1, search, e6 .entry5 .ensures .1, o, q)
 
 last-requires : tie.Need-last-requires
-last-requires c κs = (c .before .before .before .before .before .before .before .before .before .before .before .before .before .before .before .before .before .before .before .before .entry6) .ensures .1
+last-requires c κs =
+    let c2 : tie.After-constant-kind = search in
+    let e = entry6-of-constant-kind c2 in
+    e .entry6 .ensures .1
 
 goal-requires : tie.Need-goal-requires
-goal-requires c κs = ((c .before .before .before .before .before .before .before .before .before .before .before .before .before .before .before .before .entry8) .ensures .1, (c .before .before .before .before .before .before .before .before .before .before .before .before .before .before .before .before .before .before .before .before .before .before .before .before .before .before .before .before .before .before .before .before .pre) .1)
-
-fifth-requires : tie.Need-fifth-requires
-fifth-requires c κs = (c .before .before .before .before .before .before .before .checked) .ensures .1
+goal-requires c κs =
+    let c2 : tie.After-constant-kind = search in
+    let s = start-of-constant-kind c2 in
+    (search, s .pre .1)
 
 goal-requires-2 : tie.Need-goal-requires-2
-goal-requires-2 c κs = ((c .before .before .before .before .before .before .before .before .before .before .before .before .before .before .before .before .before .before .entry8) .ensures .1, (c .before .before .before .before .before .before .before .before .before .before .before .before .before .before .before .before .before .before .before .before .before .before .before .before .before .before .before .before .before .before .before .before .before .before .pre) .1)
+goal-requires-2 c κs =
+    let n : tie.After-narrow2 = search in
+    let e = entry8-of-choose (choose-of-narrow2 n) in
+    let s = start-of-entry5 (entry5-of-choose (choose-of-narrow2 n)) in
+    (e .entry8 .ensures .1, s .pre .1)
 
 goal-requires-3 : tie.Need-goal-requires-3
-goal-requires-3 c κs = ((c .before .before .before .before .before .before .before .before .before .before .before .before .before .before .before .before .before .before .before .entry8) .ensures .1, (c .before .before .before .before .before .before .before .before .before .before .before .before .before .before .before .before .before .before .before .before .before .before .before .before .before .before .before .before .before .before .before .before .before .before .before .pre) .1)
+goal-requires-3 c κs =
+    let c2 : tie.After-constant-kind = search in
+    let e = entry8-of-constant-kind c2 in
+    let s = start-of-constant-kind c2 in
+    (e .entry8 .ensures .1, s .pre .1)
 
 put-row-requires : tie.Need-put-row-requires
-put-row-requires c κs = (c .before .before .before .before .before .before .before .before .before .before .before .before .before .before .before .before .before .before .before .before .before .before .before .before .before .before .before .before .before .before .before .before .before .before .before .before .pre) .0
-
-same-length : tie.Need-same-length
-same-length c = search needs
+put-row-requires c κs =
+    let c2 : tie.After-constant-kind = search in
+    let s = start-of-constant-kind c2 in
+    s .pre .0
 
 returns : tie.Need-returns
-returns c = λ m. (c .before .before .put-row) .ensures ∙ ap (λ (vs : List ℕ). putRow (((c .before .before .before .before .before .before .before .before .before .before .before .before .before .before .before .before .before .before .before .before .before .before .before .before .before .before .before .before .before .before .before .before .before .before .before .before .before .before .before .args) .plan) .now) (8 * ((c .before .before .before .before .before .before .before .before .before .before .before .before .before .before .before .before .before .before .before .before .before .before .before .before .before .before .before .before .before .before .before .before .before .before .before .before .before .before .before .args) .j)) vs) (row-is (((c .before .before .before .before .before .before .before .before .before .before .before .before .before .before .before .before .before .before .before .before .before .before .before .before .before .before .before .before .before .before .before .before .before .before .before .before .before .before .before .args) .instrs) .now) (((c .before .before .before .before .before .before .before .before .before .before .before .before .before .before .before .before .before .before .before .before .before .before .before .before .before .before .before .before .before .before .before .before .before .before .before .before .before .before .before .args) .operands) .now) (((c .before .before .before .before .before .before .before .before .before .before .before .before .before .before .before .before .before .before .before .before .before .before .before .before .before .before .before .before .before .before .before .before .before .before .before .before .before .before .before .args) .bases) .now) (((c .before .before .before .before .before .before .before .before .before .before .before .before .before .before .before .before .before .before .before .before .before .before .before .before .before .before .before .before .before .before .before .before .before .before .before .before .before .before .before .args) .blocks) .now) ((c .before .before .before .before .before .before .before .before .before .before .before .before .before .before .before .before .before .before .before .before .before .before .before .before .before .before .before .before .before .before .before .before .before .before .before .before .before .before .before .args) .labels) ((c .before .before .before .before .before .before .before .before .before .before .before .before .before .before .before .before .before .before .before .before .before .before .before .before .before .before .before .before .before .before .before .before .before .before .before .before .before .before .before .args) .j) ((c .before .before .before .before .before .before .before .before .before .before .before .before .before .before .before .before .before .before .before .before .before .before .before .before .before .before .before .before .before .before .before .before .before .entry) .ensures .0) ((c .before .before .before .before .before .before .before .before .before .before .before .before .before .before .before .before .before .before .before .before .before .before .before .before .before .before .before .before .before .before .before .before .entry2) .ensures .0) ((c .before .before .before .before .before .before .before .before .before .before .before .before .before .before .before .before .before .before .before .before .before .before .before .before .before .before .before .before .before .before .before .entry3) .ensures .0) ((c .before .before .before .before .before .before .before .before .before .before .before .before .before .before .before .before .before .before .before .before .before .before .before .before .before .before .before .before .before .before .entry4) .ensures .0) ((c .before .before .before .before .before .before .before .before .before .before .before .before .before .before .before .before .before .before .before .before .before .before .before .before .before .before .before .before .before .entry5) .ensures .0) ((c .before .before .before .before .before .before .before .before .before .before .before .before .before .before .before .before .before .before .before .before .before .before .before .before .before .before .before .before .entry6) .ensures .0) ((c .before .before .before .before .before .before .before .before .before .before .before .before .before .before .before .before .before .before .before .before .before .before .before .before .before .before .before .entry7) .ensures .0) ((c .before .before .before .before .before .before .before .before .before .before .before .before .before .before .before .before .before .before .before .before .before .before .before .before .before .before .kind-of) .ensures .0) ((c .before .before .before .before .before .before .before .before .before .before .before .before .before .before .before .before .before .before .before .before .before .before .before .before .before .number-at) .ensures) ((c .before .before .before .before .before .before .before .before .before .before .before .before .before .before .before .before .before .before .before .before .before .before .before .before .wide) .ensures .0) ((c .before .before .before .before .before .before .before .before .before .before .before .before .before .before .before .before .before .before .before .before .before .before .before .entry8) .ensures .0) ((c .before .before .before .before .before .before .before .before .before .before .before .before .before .before .before .before .before .before .before .before .before .before .branch-kind) .ensures) ((c .before .before .before .before .before .before .before .before .before .before .before .before .before .before .before .before .before .before .before .before .before .constant-kind) .ensures) m ((c .before .before .before .before .before .before .before .before .before .before .before .before .before .before .before .before .before .before .before .before .column) .ensures) ((c .before .before .before .before .before .before .before .before .before .before .before .before .before .before .before .before .before .before .before .choose) .ensures .0) ((c .before .before .before .before .before .before .before .before .before .before .before .before .before .before .before .before .before .before .column2) .ensures) ((c .before .before .before .before .before .before .before .before .before .before .before .before .before .before .before .before .before .choose2) .ensures .0) ((c .before .before .before .before .before .before .before .before .before .before .before .before .before .before .before .before .column3) .ensures) ((c .before .before .before .before .before .before .before .before .before .before .before .before .before .before .before .choose3) .ensures .0) ((c .before .before .before .before .before .before .before .before .before .before .before .before .before .before .form) .ensures .0) ((c .before .before .before .before .before .before .before .before .before .before .before .before .before .checked) .ensures .0) ((c .before .before .before .before .before .before .before .before .before .before .before .class) .ensures) ((c .before .before .before .before .before .before .before .before .before .before .narrow) .ensures) ((c .before .before .before .before .before .before .before .before .before .narrow2) .ensures) ((c .before .before .before .before .before .before .before .before .narrow3) .ensures) ((c .before .before .before .before .before .before .before .last) .ensures) ((c .before .before .before .before .before .before .goal) .ensures) ((c .before .before .before .before .before .fifth) .ensures) ((c .before .before .before .before .goal2) .ensures) ((c .before .before .before .goal3) .ensures))
+returns c =
+    let p : tie.After-put-row = search in
+    let g3 : tie.After-goal3 = search in
+    let g2 : tie.After-goal2 = search in
+    let f2 : tie.After-fifth = search in
+    let g : tie.After-goal = search in
+    let l : tie.After-last = search in
+    let n4 : tie.After-narrow3 = search in
+    let n3 : tie.After-narrow2 = search in
+    let n2 : tie.After-narrow = search in
+    let c10 : tie.After-class = search in
+    let c9 : tie.After-checked = search in
+    let f : tie.After-form = search in
+    let c8 : tie.After-choose3 = search in
+    let c7 : tie.After-column3 = search in
+    let c6 : tie.After-choose2 = search in
+    let c5 : tie.After-column2 = search in
+    let c4 = choose-of-goal3 g3 in
+    let c3 = column-of-goal3 g3 in
+    let c2 = constant-kind-of-goal3 g3 in
+    let b = branch-kind-of-constant-kind (constant-kind-of-goal3 g3) in
+    let e8 = entry8-of-constant-kind (constant-kind-of-goal3 g3) in
+    let w = wide-of-constant-kind (constant-kind-of-goal3 g3) in
+    let n = number-at-of-constant-kind (constant-kind-of-goal3 g3) in
+    let k = kind-of-of-constant-kind (constant-kind-of-goal3 g3) in
+    let e7 = entry7-of-constant-kind (constant-kind-of-goal3 g3) in
+    let e6 = entry6-of-constant-kind (constant-kind-of-goal3 g3) in
+    let e5 = entry5-of-constant-kind (constant-kind-of-goal3 g3) in
+    let e4 = entry4-of-constant-kind (constant-kind-of-goal3 g3) in
+    let e3 = entry3-of-constant-kind (constant-kind-of-goal3 g3) in
+    let e2 = entry2-of-constant-kind (constant-kind-of-goal3 g3) in
+    let e = entry-of-constant-kind (constant-kind-of-goal3 g3) in
+    let s = start-of-constant-kind (constant-kind-of-goal3 g3) in
+    λ m. (p .put-row) .ensures ∙ ap (λ (vs : List ℕ). putRow (s .args .plan .now) (8 * (s .args .j)) vs) (row-is (s .args .instrs .now) (s .args .operands .now) (s .args .bases .now) (s .args .blocks .now) _ _ (e .entry .ensures .0) (e2 .entry2 .ensures .0) (e3 .entry3 .ensures .0) (e4 .entry4 .ensures .0) (e5 .entry5 .ensures .0) (e6 .entry6 .ensures .0) (e7 .entry7 .ensures .0) (k .kind-of .ensures .0) (n .number-at .ensures) (w .wide .ensures .0) (e8 .entry8 .ensures .0) (b .branch-kind .ensures) (c2 .constant-kind .ensures) m (c3 .column .ensures) (c4 .choose .ensures .0) (c5 .column2 .ensures) (c6 .choose2 .ensures .0) (c7 .column3 .ensures) (c8 .choose3 .ensures .0) (f .form .ensures .0) (c9 .checked .ensures .0) (c10 .class .ensures) (n2 .narrow .ensures) (n3 .narrow2 .ensures) (n4 .narrow3 .ensures) (l .last .ensures) (g .goal .ensures) (f2 .fifth .ensures) (g2 .goal2 .ensures) (g3 .goal3 .ensures))
 
 pub make-row-spec : {M : Type 1} → statement M
 make-row-spec =
-    tie.close
-    (tie.spec
-    mul-p
-    entry-requires
-    entry-requires-2
-    entry-requires-3
-    entry-requires-4
-    entry-requires-5
-    entry-requires-6
-    entry-requires-7
-    kind-of-requires
-    number-at-requires
-    wide-requires
-    entry-requires-8
-    branch-kind-requires
-    constant-kind-requires
-    column-requires
-    choose-requires
-    column-requires-2
-    choose-requires-2
-    column-requires-3
-    choose-requires-3
-    form-requires
-    checked-requires
-    class-requires
-    narrow-requires
-    narrow-requires-2
-    narrow-requires-3
-    last-requires
-    goal-requires
-    fifth-requires
-    goal-requires-2
-    goal-requires-3
-    put-row-requires
-    same-length
-    returns)
+    tie.close (tie.spec (λ c. search needs) (λ c κs. search needs) (λ c κs. search needs) (λ c κs. search needs) (λ c κs. search needs)
+    (λ c κs. search needs) (λ c κs. search needs) (λ c κs. search needs) (λ c κs. search) (λ c κs. search) (λ c κs. search)
+    (λ c κs. search needs) (λ c κs. search) (λ c κs. search) (λ c κs. search needs) (λ c κs. search needs) (λ c κs. search needs)
+    choose-requires-2 (λ c κs. search needs) choose-requires-3 (λ c κs. search) (λ c κs. search) (λ c κs. search) (λ c κs. search)
+    (λ c κs. search) (λ c κs. search) last-requires goal-requires (λ c κs. search) goal-requires-2 goal-requires-3 put-row-requires
+    (λ c. search) returns)

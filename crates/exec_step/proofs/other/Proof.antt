@@ -2,215 +2,149 @@ use Prim.Native.Nat.{ℕ, _+_, _-_, _≤_}
 use native.Mathlib.Omega.{arith}
 use mathlib.Core.Path.{_≡_, refl, ap}
 use lib.ListN.{getD}
-use Rattle.syntax.specs.Syntax.{reg, lit, plain}
 use Rattle.exec.specs.Machine.{Word}
 use Rattle.exec_words.specs.arith.Codes.{arithOf}
 use Rattle.exec_words.specs.memory.Lent.{lent, operandTable}
 use Rattle.exec_machine.specs.declared.Stop.the-variants.{Halted}
 use Rattle.exec_machine.specs.Step.{pair, Register}
 use Rattle.exec_plan.specs.Plan.{readsOperand, planned}
-use Rattle.exec_step.specs.declared.moved.Moved.the-variants.{Ended}
 use Rattle.exec_step.specs.Rows.{formOf}
 use Rattle.exec_step.proofs.Forms.{reads, other-form, from-24, by-turn, by-does, by-assign, by-end, by-past}
 use borrow.Author.Needs.{needs}
 use Rattle.exec_step.proofs.other.Statement.{statement}
 use Rattle.exec_step.proofs.other.Tie as tie
 
-read-requires : tie.Need-read-requires
-read-requires c κs = search needs
+abbrev start-of-reckon2 : tie.After-reckon2 → tie.Start
+start-of-reckon2 x = search
 
-literal-requires : tie.Need-literal-requires
-literal-requires c κs = (c .before .before .before .before .before .before .before .before .before .before .before .before .before .before .pre) .0
+abbrev start-of-slice-known7 : tie.After-slice-known7 → tie.Start
+start-of-slice-known7 x = search
 
-reckon-requires : tie.Need-reckon-requires
-reckon-requires c κs = ((c .before .before .before .before .before .before .before .before .before .before .before .before .before .before .before .pre) .0, (c .before .before .before .before .before .before .before .before .before .before .before .before .before .before .before .pre) .1, (c .before .before .before .before .before .before .before .before .before .before .before .before .before .before .before .pre) .2, (c .before .before .before .before .before .before .before .before .before .before .before .before .before .before .before .pre) .7 .columns, (c .before .before .before .before .before .before .before .before .before .before .before .before .before .before .before .pre) .8, (c .before .before .before .before .before .before .before .before .before .before .before .before .before .before .before .pre) .9)
+abbrev start-of-slice-known9 : tie.After-slice-known9 → tie.Start
+start-of-slice-known9 x = search
 
-height-requires : tie.Need-height-requires
-height-requires c κs = search needs
-
-assign-requires : tie.Need-assign-requires
-assign-requires c κs = ((c .before .before .before .before .before .before .before .before .before .before .before .before .before .before .before .pre) .0, (c .before .before .before .before .before .before .before .before .before .before .before .before .before .before .before .pre) .1, (c .before .before .before .before .before .before .before .before .before .before .before .before .before .before .before .pre) .2, (c .before .before .before .before .before .before .before .before .before .before .before .before .before .before .before .pre) .7 .columns .first)
-
-cut-requires : tie.Need-cut-requires
-cut-requires c κs = ((c .before .before .before .before .before .before .before .before .before .before .before .before .before .before .pre) .0, (c .before .before .before .before .before .before .before .before .before .before .before .before .before .before .pre) .1, (c .before .before .before .before .before .before .before .before .before .before .before .before .before .before .pre) .2, (c .before .before .before .before .before .before .before .before .before .before .before .before .before .before .pre) .7 .columns, (c .before .before .before .before .before .before .before .before .before .before .before .before .before .before .pre) .8, (c .before .before .before .before .before .before .before .before .before .before .before .before .before .before .pre) .9)
-
-push-requires : tie.Need-push-requires
-push-requires c κs = ((c .before .before .before .before .before .before .before .before .before .before .before .before .before .before .pre) .0, (c .before .before .before .before .before .before .before .before .before .before .before .before .before .before .pre) .8, (c .before .before .before .before .before .before .before .before .before .before .before .before .before .before .pre) .9, (c .before .before .before .before .before .before .before .before .before .before .before .before .before .before .pre) .3, (c .before .before .before .before .before .before .before .before .before .before .before .before .before .before .pre) .4)
-
-pop-requires : tie.Need-pop-requires
-pop-requires c κs = ((c .before .before .before .before .before .before .before .before .before .before .before .before .pre) .0, (c .before .before .before .before .before .before .before .before .before .before .before .before .pre) .8, (c .before .before .before .before .before .before .before .before .before .before .before .before .pre) .9)
+abbrev start-of-sn : tie.After-sn → tie.Start
+start-of-sn x = search
 
 register-requires : tie.Need-register-requires
 unfolding readsOperand
 register-requires c κs =
-    let a = (c .before .before .before .before .before .before .before .before .before .before .before .before .before .before .before .before .args) in
-    ((c .before .before .before .before .before .before .before .before .before .before .before .before .before .before .before .before .pre) .0, (c .before .before .before .before .before .before .before .before .before .before .before .before .before .before .before .before .pre) .1, (c .before .before .before .before .before .before .before .before .before .before .before .before .before .before .before .before .pre) .2, (c .before .before .before .before .before .before .before .before .before .before .before .before .before .before .before .before .pre) .7 .operand (reads 20 refl (other-form (a .plan .now) (a .at) ((c .before .before .before .before .before .before .before .before .before .before .before .before .before .before .before .before .pre) .10) ((c .before .before .before .before .before .read) .ensures) 20 ((c .before .before .before .before .match) .keys6))))
-
-reckon-requires-2 : tie.Need-reckon-requires-2
-reckon-requires-2 c κs = ((c .before .before .before .before .before .before .before .before .before .before .before .before .before .before .before .before .before .pre) .0, (c .before .before .before .before .before .before .before .before .before .before .before .before .before .before .before .before .before .pre) .1, (c .before .before .before .before .before .before .before .before .before .before .before .before .before .before .before .before .before .pre) .2, (c .before .before .before .before .before .before .before .before .before .before .before .before .before .before .before .before .before .pre) .7 .columns, (c .before .before .before .before .before .before .before .before .before .before .before .before .before .before .before .before .before .pre) .8, (c .before .before .before .before .before .before .before .before .before .before .before .before .before .before .before .before .before .pre) .9)
+    let m : tie.At-match-keys6 = search in
+    let r : tie.After-read = search in
+    let s : tie.Start = search in
+    (search, search, search, s .pre .7 .operand (reads 20 refl (other-form (s .args .plan .now) (s .args .at) (s .pre .10) (r .read .ensures) 20 (m .match .keys6))))
 
 branch-register-requires : tie.Need-branch-register-requires
 unfolding readsOperand
 branch-register-requires c κs =
-    let a = (c .before .before .before .before .before .before .before .before .before .before .before .before .before .before .args) in
-    ((c .before .before .before .before .before .before .before .before .before .before .before .before .before .before .pre) .0, (c .before .before .before .before .before .before .before .before .before .before .before .before .before .before .pre) .1, (c .before .before .before .before .before .before .before .before .before .before .before .before .before .before .pre) .2, (c .before .before .before .before .before .before .before .before .before .before .before .before .before .before .pre) .7 .columns, (c .before .before .before .before .before .before .before .before .before .before .before .before .before .before .pre) .8, (c .before .before .before .before .before .before .before .before .before .before .before .before .before .before .pre) .9, (c .before .before .before .before .before .before .before .before .before .before .before .before .before .before .pre) .7 .operand (reads 21 refl (other-form (a .plan .now) (a .at) ((c .before .before .before .before .before .before .before .before .before .before .before .before .before .before .pre) .10) ((c .before .before .before .read) .ensures) 21 ((c .before .before .match) .keys7))))
-
-branch-nowhere-requires : tie.Need-branch-nowhere-requires
-branch-nowhere-requires c κs = ((c .before .before .before .before .before .before .before .before .before .before .before .before .before .before .pre) .0, (c .before .before .before .before .before .before .before .before .before .before .before .before .before .before .pre) .1, (c .before .before .before .before .before .before .before .before .before .before .before .before .before .before .pre) .2, (c .before .before .before .before .before .before .before .before .before .before .before .before .before .before .pre) .7 .columns, (c .before .before .before .before .before .before .before .before .before .before .before .before .before .before .pre) .8, (c .before .before .before .before .before .before .before .before .before .before .before .before .before .before .pre) .9)
-
-stuck-requires : tie.Need-stuck-requires
-stuck-requires c κs = search needs
-
-same-length : tie.Need-same-length
-same-length c = search needs
-
-same-length-2 : tie.Need-same-length-2
-same-length-2 c = search needs
+    let m : tie.At-match-keys7 = search in
+    let r : tie.After-read = search in
+    let s : tie.Start = search in
+    (search, search, search, search, search, search, s .pre .7 .operand (reads 21 refl (other-form (s .args .plan .now) (s .args .at) (s .pre .10) (r .read .ensures) 21 (m .match .keys7))))
 
 returns : tie.Need-returns
 unfolding planned arithOf
 returns c =
-    let a = (c .before .before .before .before .before .before .before .before .before .before .before .before .before .before .before .before .before .before .before .before .args) in
-    let ef : formOf (a .plan .now) (a .at) ≡ 15 = (other-form (a .plan .now) (a .at) ((c .before .before .before .before .before .before .before .before .before .before .before .before .before .before .before .before .before .before .before .before .pre) .10) ((c .before .before .before .before .before .before .before .before .before .read) .ensures) 15 ((c .before .before .before .before .before .before .before .before .match) .keys1)) in
-    by-does (operandTable (a .operands .now) (a .bases .now)) (a .blocks .now) (a .labels) (a .plan .now) (a .at) (a .h) (a .u) (a .more) (lent (a .rk .now) (a .rn .now)) (lent (a .sk .now) (a .sn .now)) (lent (a .hk .now) (a .hn .now)) 15 ef ((c .before .before .before .before .reckon) .result) (lent ((c .before .before .before .before .reckon) .last .1 .0) ((c .before .before .before .before .reckon) .last .1 .1 .0)) (lent (a .sk .now) (a .sn .now)) (lent (a .hk .now) (a .hn .now)) (omega arith) (λ s g. (c .before .before .before .before .reckon) .ensures (operandTable (a .operands .now) (a .bases .now)) (plain (lit (getD (a .plan .now) (a .at + 4) 0))) (lent (a .sk .now) (a .sn .now)) (lent (a .hk .now) (a .hn .now)) ((c .before .before .before .before .before .literal) .ensures (lent (a .rk .now) (a .rn .now))))
-
-same-length-3 : tie.Need-same-length-3
-same-length-3 c = search needs
-
-same-length-4 : tie.Need-same-length-4
-same-length-4 c = search needs
+    let r2 : tie.After-reckon = search in
+    let l : tie.After-literal = search in
+    let m : tie.At-match-keys1 = search in
+    let r : tie.After-read = search in
+    let s3 : tie.After-slice-known7 = search in
+    let s2 = start-of-slice-known7 s3 in
+    let ef : formOf (s2 .args .plan .now) (s2 .args .at) ≡ 15 = (other-form (s2 .args .plan .now) (s2 .args .at) (s2 .pre .10) (r .read .ensures) 15 (m .match .keys1)) in
+    by-does (operandTable _ _) (s2 .args .blocks .now) _ _ _ (s2 .args .h) (s2 .args .u) (s2 .args .more) (lent _ _) (lent _ _) (lent _ _) 15 ef (r2 .reckon .result) (lent _ _) (lent _ _) (lent _ _) (omega arith) (λ s g. (r2 .reckon) .ensures (operandTable _ _) _ (lent _ _) (lent _ _) (l .literal .ensures _))
 
 returns-2 : tie.Need-returns-2
 unfolding planned
 returns-2 c =
-    let a = (c .before .before .before .before .before .before .before .before .before .before .before .before .before .before .before .before .before .before .before .before .args) in
-    let ef : formOf (a .plan .now) (a .at) ≡ 16 = (other-form (a .plan .now) (a .at) ((c .before .before .before .before .before .before .before .before .before .before .before .before .before .before .before .before .before .before .before .before .pre) .10) ((c .before .before .before .before .before .before .before .before .before .read) .ensures) 16 ((c .before .before .before .before .before .before .before .before .match) .keys2)) in
-    by-assign (operandTable (a .operands .now) (a .bases .now)) (a .blocks .now) (a .labels) (a .plan .now) (a .at) (a .h) (a .u) (a .more) (lent (a .rk .now) (a .rn .now)) (lent (a .sk .now) (a .sn .now)) (lent (a .hk .now) (a .hn .now)) 16 ef ((c .before .before .before .before .assign) .result) (omega arith) ((c .before .before .before .before .before .height) .result) (lent ((c .before .before .before .before .assign) .last .1 .0) ((c .before .before .before .before .assign) .last .1 .1 .0)) ((c .before .before .before .before .before .before .before .before .before .before .before .before .before .before .before .before .before .before .before .before .pre) .8) ((c .before .before .before .before .before .before .before .before .before .before .before .before .before .before .before .before .before .before .before .before .pre) .9) (λ s p g. ap (λ (v : Word). Register (getD (a .plan .now) (a .at + 1) 0) (pair v) p) ((c .before .before .before .before .before .height) .ensures)) ((c .before .before .before .before .assign) .ensures .0) ((c .before .before .before .before .assign) .ensures .1)
-
-same-length-5 : tie.Need-same-length-5
-same-length-5 c = search needs
-
-same-length-6 : tie.Need-same-length-6
-same-length-6 c = search needs
+    let a2 : tie.After-assign = search in
+    let h2 : tie.After-height = search in
+    let m : tie.At-match-keys2 = search in
+    let r : tie.After-read = search in
+    let s3 : tie.After-slice-known9 = search in
+    let s2 = start-of-slice-known9 s3 in
+    let ef : formOf (s2 .args .plan .now) (s2 .args .at) ≡ 16 = (other-form (s2 .args .plan .now) (s2 .args .at) (s2 .pre .10) (r .read .ensures) 16 (m .match .keys2)) in
+    by-assign _ _ _ _ _ _ _ _ _ _ _ 16 ef _ (omega arith) _ _ (s2 .pre .8) (s2 .pre .9) (λ s p g. ap (λ (v : Word). Register (getD (s2 .args .plan .now) (s2 .args .at + 1) 0) (pair v) p) (h2 .height .ensures)) (a2 .assign .ensures .0) (a2 .assign .ensures .1)
 
 returns-3 : tie.Need-returns-3
 unfolding planned
 returns-3 c =
-    let a = (c .before .before .before .before .before .before .before .before .before .before .before .before .before .before .before .args) in
-    let ef : formOf (a .plan .now) (a .at) ≡ 17 = (other-form (a .plan .now) (a .at) ((c .before .before .before .before .before .before .before .before .before .before .before .before .before .before .before .pre) .10) ((c .before .before .before .before .read) .ensures) 17 ((c .before .before .before .match) .keys3)) in
-    by-does (operandTable (a .operands .now) (a .bases .now)) (a .blocks .now) (a .labels) (a .plan .now) (a .at) (a .h) (a .u) (a .more) (lent (a .rk .now) (a .rn .now)) (lent (a .sk .now) (a .sn .now)) (lent (a .hk .now) (a .hn .now)) 17 ef ((c .cut) .result) (lent (a .rk .now) (a .rn .now)) (lent (a .sk .now) (a .sn .now)) (lent (a .hk .now) (a .hn .now)) (omega arith) (λ s g. (c .cut) .ensures (operandTable (a .operands .now) (a .bases .now)) (lent (a .sk .now) (a .sn .now)) (lent (a .hk .now) (a .hn .now)))
-
-same-length-7 : tie.Need-same-length-7
-same-length-7 c = search needs
-
-same-length-8 : tie.Need-same-length-8
-same-length-8 c = search needs
+    let m : tie.At-match-keys3 = search in
+    let r : tie.After-read = search in
+    let s2 : tie.Start = search in
+    let ef : formOf (s2 .args .plan .now) (s2 .args .at) ≡ 17 = (other-form (s2 .args .plan .now) (s2 .args .at) (s2 .pre .10) (r .read .ensures) 17 (m .match .keys3)) in
+    by-does (operandTable _ _) (s2 .args .blocks .now) _ _ _ (s2 .args .h) (s2 .args .u) (s2 .args .more) (lent _ _) (lent _ _) (lent _ _) 17 ef (c .cut .result) (lent _ _) (lent _ _) (lent _ _) (omega arith) (λ s g. (c .cut) .ensures (operandTable _ _) (lent _ _) (lent _ _))
 
 returns-4 : tie.Need-returns-4
 unfolding planned
 returns-4 c =
-    let a = (c .before .before .before .before .before .before .before .before .before .before .before .before .before .before .before .before .before .before .before .args) in
-    let ef : formOf (a .plan .now) (a .at) ≡ 18 = (other-form (a .plan .now) (a .at) ((c .before .before .before .before .before .before .before .before .before .before .before .before .before .before .before .before .before .before .before .pre) .10) ((c .before .before .before .before .before .before .before .before .read) .ensures) 18 ((c .before .before .before .before .before .before .before .match) .keys4)) in
-    by-does (operandTable (a .operands .now) (a .bases .now)) (a .blocks .now) (a .labels) (a .plan .now) (a .at) (a .h) (a .u) (a .more) (lent (a .rk .now) (a .rn .now)) (lent (a .sk .now) (a .sn .now)) (lent (a .hk .now) (a .hn .now)) 18 ef ((c .before .before .before .before .push) .result) (lent (a .rk .now) (a .rn .now)) (lent ((c .before .before .before .before .push) .last .1 .0) ((c .before .before .before .before .push) .last .1 .1 .0)) (lent (a .hk .now) (a .hn .now)) (omega arith) (λ s g. (c .before .before .before .before .push) .ensures (operandTable (a .operands .now) (a .bases .now)) (lent (a .rk .now) (a .rn .now)) (lent (a .hk .now) (a .hn .now)))
+    let p : tie.After-push = search in
+    let m : tie.At-match-keys4 = search in
+    let r : tie.After-read = search in
+    let s3 : tie.After-sn = search in
+    let s2 = start-of-sn s3 in
+    let ef : formOf (s2 .args .plan .now) (s2 .args .at) ≡ 18 = (other-form (s2 .args .plan .now) (s2 .args .at) (s2 .pre .10) (r .read .ensures) 18 (m .match .keys4)) in
+    by-does (operandTable _ _) (s2 .args .blocks .now) _ _ _ (s2 .args .h) (s2 .args .u) (s2 .args .more) (lent _ _) (lent _ _) (lent _ _) 18 ef (p .push .result) (lent _ _) (lent _ _) (lent _ _) (omega arith) (λ s g. (p .push) .ensures (operandTable _ _) (lent _ _) (lent _ _))
 
 returns-5 : tie.Need-returns-5
 unfolding planned
 returns-5 c =
-    let a = (c .before .before .before .before .before .before .before .before .before .before .before .before .before .args) in
-    let ef : formOf (a .plan .now) (a .at) ≡ 19 = (other-form (a .plan .now) (a .at) ((c .before .before .before .before .before .before .before .before .before .before .before .before .before .pre) .10) ((c .before .before .read) .ensures) 19 ((c .before .match) .keys5)) in
-    by-does (operandTable (a .operands .now) (a .bases .now)) (a .blocks .now) (a .labels) (a .plan .now) (a .at) (a .h) (a .u) (a .more) (lent (a .rk .now) (a .rn .now)) (lent (a .sk .now) (a .sn .now)) (lent (a .hk .now) (a .hn .now)) 19 ef ((c .pop) .result) (lent (a .rk .now) (a .rn .now)) (lent (a .sk .now) (a .sn .now)) (lent (a .hk .now) (a .hn .now)) (omega arith) (λ s g. (c .pop) .ensures (operandTable (a .operands .now) (a .bases .now)) (lent (a .rk .now) (a .rn .now)) (lent (a .sk .now) (a .sn .now)) (lent (a .hk .now) (a .hn .now)))
-
-same-length-9 : tie.Need-same-length-9
-same-length-9 c = search needs
-
-same-length-10 : tie.Need-same-length-10
-same-length-10 c = search needs
+    let m : tie.At-match-keys5 = search in
+    let r : tie.After-read = search in
+    let s2 : tie.Start = search in
+    let ef : formOf (s2 .args .plan .now) (s2 .args .at) ≡ 19 = (other-form (s2 .args .plan .now) (s2 .args .at) (s2 .pre .10) (r .read .ensures) 19 (m .match .keys5)) in
+    by-does (operandTable _ _) (s2 .args .blocks .now) _ _ _ (s2 .args .h) (s2 .args .u) (s2 .args .more) (lent _ _) (lent _ _) (lent _ _) 19 ef (c .pop .result) (lent _ _) (lent _ _) (lent _ _) (omega arith) (λ s g. (c .pop) .ensures (operandTable _ _) (lent _ _) (lent _ _) (lent _ _))
 
 returns-6 : tie.Need-returns-6
 unfolding planned arithOf
 returns-6 c =
-    let a = (c .before .before .before .before .before .before .before .before .before .before .before .before .before .before .before .before .before .before .before .before .before .before .args) in
-    let ef : formOf (a .plan .now) (a .at) ≡ 20 = (other-form (a .plan .now) (a .at) ((c .before .before .before .before .before .before .before .before .before .before .before .before .before .before .before .before .before .before .before .before .before .before .pre) .10) ((c .before .before .before .before .before .before .before .before .before .before .before .read) .ensures) 20 ((c .before .before .before .before .before .before .before .before .before .before .match) .keys6)) in
-    by-does (operandTable (a .operands .now) (a .bases .now)) (a .blocks .now) (a .labels) (a .plan .now) (a .at) (a .h) (a .u) (a .more) (lent (a .rk .now) (a .rn .now)) (lent (a .sk .now) (a .sn .now)) (lent (a .hk .now) (a .hn .now)) 20 ef ((c .before .before .before .before .reckon2) .result) (lent ((c .before .before .before .before .reckon2) .last .1 .0) ((c .before .before .before .before .reckon2) .last .1 .1 .0)) (lent (a .sk .now) (a .sn .now)) (lent (a .hk .now) (a .hn .now)) (omega arith) (λ s g. (c .before .before .before .before .reckon2) .ensures (operandTable (a .operands .now) (a .bases .now)) (plain (reg (getD (a .plan .now) (a .at + 4) 0))) (lent (a .sk .now) (a .sn .now)) (lent (a .hk .now) (a .hn .now)) ((c .before .before .before .before .before .register) .ensures))
-
-same-length-11 : tie.Need-same-length-11
-same-length-11 c = search needs
-
-same-length-12 : tie.Need-same-length-12
-same-length-12 c = search needs
+    let r2 : tie.After-reckon2 = search in
+    let r3 : tie.After-register = search in
+    let m : tie.At-match-keys6 = search in
+    let r : tie.After-read = search in
+    let s2 = start-of-reckon2 r2 in
+    let ef : formOf (s2 .args .plan .now) (s2 .args .at) ≡ 20 = (other-form (s2 .args .plan .now) (s2 .args .at) (s2 .pre .10) (r .read .ensures) 20 (m .match .keys6)) in
+    by-does (operandTable _ _) (s2 .args .blocks .now) _ _ _ (s2 .args .h) (s2 .args .u) (s2 .args .more) (lent _ _) (lent _ _) (lent _ _) 20 ef (r2 .reckon2 .result) (lent _ _) (lent _ _) (lent _ _) (omega arith) (λ s g. (r2 .reckon2) .ensures (operandTable _ _) _ (lent _ _) (lent _ _) (r3 .register .ensures))
 
 returns-7 : tie.Need-returns-7
 unfolding planned
 returns-7 c =
-    let a = (c .before .before .before .before .before .before .before .before .before .before .before .before .before .before .before .args) in
-    let ef : formOf (a .plan .now) (a .at) ≡ 21 = (other-form (a .plan .now) (a .at) ((c .before .before .before .before .before .before .before .before .before .before .before .before .before .before .before .pre) .10) ((c .before .before .before .before .read) .ensures) 21 ((c .before .before .before .match) .keys7)) in
-    by-turn (operandTable (a .operands .now) (a .bases .now)) (a .blocks .now) (a .labels) (a .plan .now) (a .at) (a .h) (a .u) (a .more) (lent (a .rk .now) (a .rn .now)) (lent (a .sk .now) (a .sn .now)) (lent (a .hk .now) (a .hn .now)) 21 ef ((c .branch-register) .result) (lent (a .rk .now) (a .rn .now)) (lent (a .sk .now) (a .sn .now)) (lent (a .hk .now) (a .hn .now)) (λ m s j p g starts goals et lp. (c .branch-register) .ensures (operandTable (a .operands .now) (a .bases .now)) (lent (a .sk .now) (a .sn .now)) (lent (a .hk .now) (a .hn .now)) m j p starts et (lp (omega arith)))
-
-same-length-13 : tie.Need-same-length-13
-same-length-13 c = search needs
-
-same-length-14 : tie.Need-same-length-14
-same-length-14 c = search needs
+    let m2 : tie.At-match-keys7 = search in
+    let r : tie.After-read = search in
+    let s2 : tie.Start = search in
+    let ef : formOf (s2 .args .plan .now) (s2 .args .at) ≡ 21 = (other-form (s2 .args .plan .now) (s2 .args .at) (s2 .pre .10) (r .read .ensures) 21 (m2 .match .keys7)) in
+    by-turn (operandTable _ _) (s2 .args .blocks .now) _ _ _ (s2 .args .h) (s2 .args .u) (s2 .args .more) (lent _ _) (lent _ _) (lent _ _) 21 ef (c .branch-register .result) (lent _ _) (lent _ _) (lent _ _) (λ m s j p g starts goals et lp. (c .branch-register) .ensures (operandTable _ _) (lent _ _) (lent _ _) m j p starts et (lp (omega arith)))
 
 returns-8 : tie.Need-returns-8
 unfolding planned
 returns-8 c =
-    let a = (c .before .before .before .before .before .before .before .before .before .before .before .before .before .before .before .args) in
-    let ef : formOf (a .plan .now) (a .at) ≡ 22 = (other-form (a .plan .now) (a .at) ((c .before .before .before .before .before .before .before .before .before .before .before .before .before .before .before .pre) .10) ((c .before .before .before .before .read) .ensures) 22 ((c .before .before .before .match) .keys8)) in
-    by-does (operandTable (a .operands .now) (a .bases .now)) (a .blocks .now) (a .labels) (a .plan .now) (a .at) (a .h) (a .u) (a .more) (lent (a .rk .now) (a .rn .now)) (lent (a .sk .now) (a .sn .now)) (lent (a .hk .now) (a .hn .now)) 22 ef ((c .branch-nowhere) .result) (lent (a .rk .now) (a .rn .now)) (lent (a .sk .now) (a .sn .now)) (lent (a .hk .now) (a .hn .now)) (omega arith) (λ s g. (c .branch-nowhere) .ensures (operandTable (a .operands .now) (a .bases .now)) (lent (a .sk .now) (a .sn .now)) (lent (a .hk .now) (a .hn .now)))
+    let m : tie.At-match-keys8 = search in
+    let r : tie.After-read = search in
+    let s2 : tie.Start = search in
+    let ef : formOf (s2 .args .plan .now) (s2 .args .at) ≡ 22 = (other-form (s2 .args .plan .now) (s2 .args .at) (s2 .pre .10) (r .read .ensures) 22 (m .match .keys8)) in
+    by-does (operandTable _ _) (s2 .args .blocks .now) _ _ _ (s2 .args .h) (s2 .args .u) (s2 .args .more) (lent _ _) (lent _ _) (lent _ _) 22 ef (c .branch-nowhere .result) (lent _ _) (lent _ _) (lent _ _) (omega arith) (λ s g. (c .branch-nowhere) .ensures (operandTable _ _) (lent _ _) (lent _ _))
 
 returns-9 : tie.Need-returns-9
 unfolding planned
 returns-9 c =
-    let a = (c .before .before .before .before .before .before .before .before .before .before .before .before .args) in
-    let ef : formOf (a .plan .now) (a .at) ≡ 23 = (other-form (a .plan .now) (a .at) ((c .before .before .before .before .before .before .before .before .before .before .before .before .pre) .10) ((c .before .read) .ensures) 23 ((c .match) .keys9)) in
-    by-end (operandTable (a .operands .now) (a .bases .now)) (a .blocks .now) (a .labels) (a .plan .now) (a .at) (a .h) (a .u) (a .more) (lent (a .rk .now) (a .rn .now)) (lent (a .sk .now) (a .sn .now)) (lent (a .hk .now) (a .hn .now)) 23 ef (Ended Halted) Halted refl (λ s p g. refl)
+    let r : tie.After-read = search in
+    let s2 : tie.Start = search in
+    let ef : formOf (s2 .args .plan .now) (s2 .args .at) ≡ 23 = (other-form (s2 .args .plan .now) (s2 .args .at) (s2 .pre .10) (r .read .ensures) 23 (c .match .keys9)) in
+    by-end _ _ _ _ _ _ _ (s2 .args .more) _ _ _ 23 ef _ Halted refl (λ s p g. refl)
 
 returns-10 : tie.Need-returns-10
 returns-10 c =
-    let a = (c .before .before .before .before .before .before .before .before .before .before .before .before .before .args) in
-    let f : ℕ = (c .before .before .read) .result in
-    let lf : 15 ≤ f = omega (arith, (c .before .before .read) .ensures, (c .before .before .before .before .before .before .before .before .before .before .before .before .before .pre) .7 .other ((c .before .before .before .before .before .before .before .before .before .before .before .before .before .pre) .10)) in
-    by-past (operandTable (a .operands .now) (a .bases .now)) (a .blocks .now) (a .labels) (a .plan .now) (a .at) (a .h) (a .u) (a .more) (lent (a .rk .now) (a .rn .now)) (lent (a .sk .now) (a .sn .now)) (lent (a .hk .now) (a .hn .now)) f (other-form (a .plan .now) (a .at) ((c .before .before .before .before .before .before .before .before .before .before .before .before .before .pre) .10) ((c .before .before .read) .ensures) f refl) ((c .stuck) .result) ((c .stuck) .ensures) (from-24 f lf ((c .before .match) .rest .0 .0 .0 .0 .0 .0 .0 .0 .1) ((c .before .match) .rest .0 .0 .0 .0 .0 .0 .0 .1) ((c .before .match) .rest .0 .0 .0 .0 .0 .0 .1) ((c .before .match) .rest .0 .0 .0 .0 .0 .1) ((c .before .match) .rest .0 .0 .0 .0 .1) ((c .before .match) .rest .0 .0 .0 .1) ((c .before .match) .rest .0 .0 .1) ((c .before .match) .rest .0 .1) ((c .before .match) .rest .1))
+    let m : tie.At-match-rest = search in
+    let r : tie.After-read = search in
+    let s : tie.Start = search in
+    let f : ℕ = r .read .result in
+    let lf : 15 ≤ f = omega (arith, r .read .ensures, s .pre .7 .other (search)) in
+    by-past _ _ _ _ _ _ _ _ _ _ _ f (other-form (s .args .plan .now) (s .args .at) (s .pre .10) (r .read .ensures) f refl) _ (c .stuck .ensures) (from-24 f lf (m .match .rest .0 .0 .0 .0 .0 .0 .0 .0 .1) (m .match .rest .0 .0 .0 .0 .0 .0 .0 .1) (m .match .rest .0 .0 .0 .0 .0 .0 .1) (m .match .rest .0 .0 .0 .0 .0 .1) (m .match .rest .0 .0 .0 .0 .1) (m .match .rest .0 .0 .0 .1) (m .match .rest .0 .0 .1) (m .match .rest .0 .1) (m .match .rest .1))
 
 pub other-spec : {M : Type 1} → statement M
 other-spec =
-    tie.close
-    (tie.spec
-    read-requires
-    literal-requires
-    reckon-requires
-    height-requires
-    assign-requires
-    cut-requires
-    push-requires
-    pop-requires
-    register-requires
-    reckon-requires-2
-    branch-register-requires
-    branch-nowhere-requires
-    stuck-requires
-    same-length
-    same-length-2
-    returns
-    same-length-3
-    same-length-4
-    returns-2
-    same-length-5
-    same-length-6
-    returns-3
-    same-length-7
-    same-length-8
-    returns-4
-    returns-5
-    same-length-9
-    same-length-10
-    returns-6
-    same-length-11
-    same-length-12
-    returns-7
-    same-length-13
-    same-length-14
-    returns-8
-    returns-9
-    returns-10)
+    tie.close (tie.spec (λ c κs. search needs) (λ c κs. search) (λ c κs. search) (λ c κs. search) (λ c κs. search) (λ c κs. search)
+    (λ c κs. search) (λ c κs. search) register-requires (λ c κs. search) branch-register-requires (λ c κs. search) (λ c κs. search)
+    (λ c. search) (λ c. search) returns (λ c. search) (λ c. search) returns-2 (λ c. search) (λ c. search) returns-3 (λ c. search)
+    (λ c. search) returns-4 returns-5 (λ c. search) (λ c. search) returns-6 (λ c. search) (λ c. search) returns-7 (λ c. search)
+    (λ c. search) returns-8 returns-9 returns-10)

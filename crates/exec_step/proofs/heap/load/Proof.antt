@@ -1,119 +1,67 @@
 use Prim.Native.Nat.{ℕ, _+_, _-_}
 use native.Mathlib.Omega.{arith}
 use mathlib.Core.Path.{refl, ap}
-use lib.ListN.{getD}
-use Rattle.exec_words.specs.memory.Lent.{lent}
 use Rattle.exec_machine.specs.declared.Stop.the-variants.{Stuck}
 use Rattle.exec_step.proofs.moved.Laws.{named, ended, to-register}
 use Rattle.exec_machine.proofs.Leaves.{load-kind, load-past, load-done}
 use Rattle.exec_step.proofs.heap.Laws.{start-lent, component-lent}
 use borrow.Author.Needs.{needs}
-use borrow.Author.Needs.{needs}
 use Rattle.exec_step.proofs.heap.load.Statement.{statement}
 use Rattle.exec_step.proofs.heap.load.Tie as tie
-use Rattle.exec_step.proofs.heap.load.Reads as reads
-use Rattle.exec_step.proofs.heap.load.Lts as lts
-use Rattle.exec_words.proofs.memory.get.Reads as get-reads
-use Rattle.exec_words.proofs.memory.wide.Reads as wide-reads
-use Rattle.exec_step.proofs.moved.assign.Reads as assign-reads
-use Rattle.exec_step.proofs.moved.index.Reads as index-reads
-use Rattle.exec_step.proofs.moved.stuck.Reads as stuck-reads
 
-index-requires : tie.Need-index-requires
-index-requires c κs = search needs
-
-get-requires : tie.Need-get-requires
-get-requires c κs = search needs
-
-stuck-requires : tie.Need-stuck-requires
-stuck-requires c κs = search needs
-
-same-length : tie.Need-same-length
-same-length c = search needs
-
-same-length-2 : tie.Need-same-length-2
-same-length-2 c = search needs
+abbrev start-of-assign-arg2 : tie.After-assign-arg2 → tie.Start
+start-of-assign-arg2 x = search
 
 returns : tie.Need-returns
 returns c =
-    let a = (c .before .before .before .before .before .before .before .before .before .before .before .before .args) in
-    λ ω S p m j et lp. ended ω m (a .more) (lent (a .rk .now) (a .rn .now)) S (lent (a .hk .now) (a .hn .now)) (a .h) (a .u) j Stuck ((c .stuck) .result) ((c .stuck) .ensures) (load-kind (lent (a .rk .now) (a .rn .now)) (lent (a .hk .now) (a .hn .now)) p (getD (a .plan .now) (a .at + 1) 0) (getD (a .plan .now) (a .at + 2) 0) (getD (a .plan .now) (a .at + 3) 0) ((c .before .before .before .get) .result) (named (lent (a .rk .now) (a .rn .now)) ((c .before .before .before .get) .ensures) ((c .before .before .before .before .index) .ensures .0)) refl ((c .before .if1) .taken))
-
-wide-requires : tie.Need-wide-requires
-wide-requires c κs = search needs
-
-index-requires-2 : tie.Need-index-requires-2
-index-requires-2 c κs = search needs
+    let g : tie.After-get = search in
+    λ ω S p m j et lp. ended ω m _ _ S _ _ _ j Stuck _ (c .stuck .ensures) (load-kind _ _ p _ _ _ _ (named _ (g .get .ensures) (search)) refl (search))
 
 get-requires-2 : tie.Need-get-requires-2
 get-requires-2 c κs =
-    let a = (c .before .before .before .before .before .before .before .before .before .before .before .before .before .args) in
-    start-lent (lent (a .rk .now) (a .rn .now)) (a .hk .now) (a .hn .now) ((c .before .before .before .before .before .before .before .before .before .before .before .before .before .pre) .8) ((c .before .before .before .before .before .before .before .before .before .before .before .before .before .pre) .6) ((c .before .before .before .before .before .before .before .before .before .before .before .before .before .pre) .7) (getD (a .plan .now) (a .at + 2) 0) ((c .before .before .before .before .before .before .before .before .before .before .before .before .before .pre) .3 .second) ((c .before .before .before .before .get) .result) (named (lent (a .rk .now) (a .rn .now)) ((c .before .before .before .before .get) .ensures) ((c .before .before .before .before .before .index) .ensures .0)) ((c .before .before .if1) .left) ((c .before .wide) .result) ((c .before .wide) .ensures .0)
-
-wide-requires-2 : tie.Need-wide-requires-2
-wide-requires-2 c κs = search needs
-
-stuck-requires-2 : tie.Need-stuck-requires-2
-stuck-requires-2 c κs = search needs
-
-same-length-3 : tie.Need-same-length-3
-same-length-3 c = search needs
-
-same-length-4 : tie.Need-same-length-4
-same-length-4 c = search needs
+    let g : tie.After-get = search in
+    let s : tie.Start = search in
+    start-lent _ _ _ (s .pre .8) (search) (search) _ (s .pre .3 .second) _ (named _ (g .get .ensures) (search)) (search) _ (search)
 
 returns-2 : tie.Need-returns-2
 returns-2 c =
-    let a = (c .before .before .before .before .before .before .before .before .before .before .before .before .before .before .before .before .before .args) in
-    λ ω S p m j et lp. ended ω m (a .more) (lent (a .rk .now) (a .rn .now)) S (lent (a .hk .now) (a .hn .now)) (a .h) (a .u) j Stuck ((c .stuck2) .result) ((c .stuck2) .ensures) (load-past (lent (a .rk .now) (a .rn .now)) (lent (a .hk .now) (a .hn .now)) p (getD (a .plan .now) (a .at + 1) 0) (getD (a .plan .now) (a .at + 2) 0) (getD (a .plan .now) (a .at + 3) 0) ((c .before .before .before .before .before .before .before .before .get) .result) (named (lent (a .rk .now) (a .rn .now)) ((c .before .before .before .before .before .before .before .before .get) .ensures) ((c .before .before .before .before .before .before .before .before .before .index) .ensures .0)) ((c .before .before .before .before .before .wide) .result) ((c .before .before .before .before .before .wide) .ensures .0) ((c .before .before .before .before .before .before .if1) .left) ((c .before .before .before .get2) .result) ((c .before .before .before .get2) .ensures) refl ((c .before .before .wide2) .ensures .0) (omega (arith, (c .before .if2) .taken, (c .before .before .before .before .index2) .ensures .0)))
-
-add-get : tie.Need-add-get
-add-get c = search needs
-
-add-get-2 : tie.Need-add-get-2
-add-get-2 c = search needs
+    let w2 : tie.After-wide2 = search in
+    let g2 : tie.After-get2 = search in
+    let w : tie.After-wide = search in
+    let g : tie.After-get = search in
+    λ ω S p m j et lp. ended ω m _ _ S _ _ _ j Stuck _ (c .stuck2 .ensures) (load-past _ _ p _ _ _ _ (named _ (g .get .ensures) (search)) _ (w .wide .ensures .0) (search) _ (g2 .get2 .ensures) refl (w2 .wide2 .ensures .0) (omega arith))
 
 get-requires-3 : tie.Need-get-requires-3
 get-requires-3 c κs =
-    let a = (c .before .before .before .before .before .before .before .before .before .before .before .before .before .before .before .before .before .before .args) in
-    component-lent (lent (a .rk .now) (a .rn .now)) (a .hk .now) (a .hn .now) ((c .before .before .before .before .before .before .before .before .before .before .before .before .before .before .before .before .before .before .pre) .8) ((c .before .before .before .before .before .before .before .before .before .before .before .before .before .before .before .before .before .before .pre) .6) ((c .before .before .before .before .before .before .before .before .before .before .before .before .before .before .before .before .before .before .pre) .7) (getD (a .plan .now) (a .at + 2) 0) ((c .before .before .before .before .before .before .before .before .before .before .before .before .before .before .before .before .before .before .pre) .3 .second) ((c .before .before .before .before .before .before .before .before .before .get) .result) (named (lent (a .rk .now) (a .rn .now)) ((c .before .before .before .before .before .before .before .before .before .get) .ensures) ((c .before .before .before .before .before .before .before .before .before .before .index) .ensures .0)) ((c .before .before .before .before .before .before .before .if1) .left) ((c .before .before .before .before .before .before .wide) .result) ((c .before .before .before .before .before .before .wide) .ensures .0) ((c .before .before .before .before .before .index2) .result) ((c .before .before .before .before .get2) .result) ((c .before .before .before .before .get2) .ensures) (omega (arith, (c .before .before .if2) .left, (c .before .before .before .wide2) .ensures .0))
+    let g2 : tie.After-get2 = search in
+    let g : tie.After-get = search in
+    let s : tie.Start = search in
+    component-lent _ _ _ (s .pre .8) (search) (search) _ (s .pre .3 .second) _ (named _ (g .get .ensures) (search)) (search) _ (search) _ _ (g2 .get2 .ensures) (omega arith)
 
 assign-requires : tie.Need-assign-requires
-assign-requires c κs = ((c .before .before .before .before .before .before .before .before .before .before .before .before .before .before .before .before .before .before .before .pre) .0, (c .before .before .before .before .before .before .before .before .before .before .before .before .before .before .before .before .before .before .before .pre) .1, (c .before .before .before .before .before .before .before .before .before .before .before .before .before .before .before .before .before .before .before .pre) .2, (c .before .before .before .before .before .before .before .before .before .before .before .before .before .before .before .before .before .before .before .pre) .3 .first)
-
-same-length-5 : tie.Need-same-length-5
-same-length-5 c = search needs
-
-same-length-6 : tie.Need-same-length-6
-same-length-6 c = search needs
+assign-requires c κs =
+    let a : tie.After-assign-arg2 = search in
+    let s = start-of-assign-arg2 a in
+    (search, search, search, s .pre .3 .first)
 
 returns-3 : tie.Need-returns-3
 returns-3 c =
-    let a = (c .before .before .before .before .before .before .before .before .before .before .before .before .before .before .before .before .before .before .before .before .before .before .before .before .args) in
-    λ ω S p m j et lp. to-register ω m (a .more) (lent (a .rk .now) (a .rn .now)) S (lent (a .hk .now) (a .hn .now)) (a .h) (a .u) j ((a .at) + 8) p et lp ((c .before .before .before .before .before .before .before .before .before .before .before .before .before .before .before .before .before .before .before .before .before .before .before .before .pre) .4) ((c .before .before .before .before .before .before .before .before .before .before .before .before .before .before .before .before .before .before .before .before .before .before .before .before .pre) .5) ((c .before .before .before .before .assign) .result) (getD (a .plan .now) (a .at + 1) 0) ((c .before .before .before .before .before .get3) .result) (load-done (lent (a .rk .now) (a .rn .now)) (lent (a .hk .now) (a .hn .now)) p (getD (a .plan .now) (a .at + 1) 0) (getD (a .plan .now) (a .at + 2) 0) (getD (a .plan .now) (a .at + 3) 0) ((c .before .before .before .before .before .before .before .before .before .before .before .before .before .before .before .get) .result) (named (lent (a .rk .now) (a .rn .now)) ((c .before .before .before .before .before .before .before .before .before .before .before .before .before .before .before .get) .ensures) ((c .before .before .before .before .before .before .before .before .before .before .before .before .before .before .before .before .index) .ensures .0)) ((c .before .before .before .before .before .before .before .before .before .before .before .before .wide) .result) ((c .before .before .before .before .before .before .before .before .before .before .before .before .wide) .ensures .0) ((c .before .before .before .before .before .before .before .before .before .before .before .before .before .if1) .left) ((c .before .before .before .before .before .before .before .before .before .before .get2) .result) ((c .before .before .before .before .before .before .before .before .before .before .get2) .ensures) ((c .before .before .before .before .before .get3) .result) ((c .before .before .before .before .before .before .before .before .before .wide2) .ensures .0) (omega (arith, (c .before .before .before .before .before .before .before .before .if2) .left, (c .before .before .before .before .before .before .before .before .before .before .before .index2) .ensures .0)) (named (lent (a .hk .now) (a .hn .now)) ((c .before .before .before .before .before .get3) .ensures) (ap (λ (k : ℕ). (c .before .before .before .before .before .before .before .before .before .before .before .before .wide) .result + k + 1) ((c .before .before .before .before .before .before .before .before .before .before .before .index2) .ensures .0)))) ((c .before .before .before .before .assign) .ensures .0) ((c .before .before .before .before .assign) .ensures .1)
+    let a2 : tie.After-assign = search in
+    let g : tie.After-get3 = search in
+    let n2 : tie.Else2 = search in
+    let w2 : tie.After-wide2 = search in
+    let g3 : tie.After-get2 = search in
+    let i2 : tie.After-index2 = search in
+    let w : tie.After-wide = search in
+    let n : tie.Else1 = search in
+    let g2 : tie.After-get = search in
+    let i : tie.After-index = search in
+    let a3 : tie.After-assign-arg2 = search in
+    let s = start-of-assign-arg2 a3 in
+    λ ω S p m j et lp. to-register ω m _ _ S _ _ _ j _ p et lp (s .pre .4) (s .pre .5) _ _ _ (load-done _ _ p _ _ _ _ (named _ (g2 .get .ensures) (i .index .ensures .0)) _ (w .wide .ensures .0) (n .if1 .left) _ (g3 .get2 .ensures) _ (w2 .wide2 .ensures .0) (omega (arith, n2 .if2 .left, i2 .index2 .ensures .0)) (named _ (g .get3 .ensures) (ap (λ (k : ℕ). (w .wide) .result + k + 1) (i2 .index2 .ensures .0)))) (a2 .assign .ensures .0) (a2 .assign .ensures .1)
 
 pub load-spec : {M : Type 1} → statement M
 load-spec =
-    tie.close
-    (tie.spec
-    index-requires
-    get-requires
-    stuck-requires
-    same-length
-    same-length-2
-    returns
-    wide-requires
-    index-requires-2
-    get-requires-2
-    wide-requires-2
-    stuck-requires-2
-    same-length-3
-    same-length-4
-    returns-2
-    add-get
-    add-get-2
-    get-requires-3
-    assign-requires
-    same-length-5
-    same-length-6
-    returns-3)
+    tie.close (tie.spec (λ c κs. search needs) (λ c κs. search needs) (λ c κs. search) (λ c. search) (λ c. search) returns
+    (λ c κs. search) (λ c κs. search needs) get-requires-2 (λ c κs. search) (λ c κs. search) (λ c. search) (λ c. search) returns-2
+    (λ c. search needs) (λ c. search needs) get-requires-3 assign-requires (λ c. search) (λ c. search) returns-3)

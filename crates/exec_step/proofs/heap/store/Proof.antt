@@ -1,7 +1,6 @@
 use Prim.Native.Nat.{ℕ, _+_, _-_}
 use native.Mathlib.Omega.{arith}
 use mathlib.Core.Path.{refl, ap, _∙_}
-use lib.ListN.{getD}
 use Rattle.exec.specs.Machine.{put}
 use Rattle.exec_words.specs.memory.Lent.{wordIs, lent}
 use Rattle.exec_machine.specs.declared.Stop.the-variants.{Stuck}
@@ -10,112 +9,71 @@ use Rattle.exec_step.proofs.moved.Laws.{named, ended, to-heap}
 use Rattle.exec_machine.proofs.Leaves.{store-kind, store-past, store-done}
 use Rattle.exec_step.proofs.heap.Laws.{start-lent, component-lent}
 use borrow.Author.Needs.{needs}
-use borrow.Author.Needs.{needs}
 use Rattle.exec_step.proofs.heap.store.Statement.{statement}
 use Rattle.exec_step.proofs.heap.store.Tie as tie
-use Rattle.exec_step.proofs.heap.store.Reads as reads
-use Rattle.exec_step.proofs.heap.store.Lts as lts
-use Rattle.exec_words.proofs.memory.get.Reads as get-reads
-use Rattle.exec_words.proofs.memory.wide.Reads as wide-reads
-use Rattle.exec_step.proofs.moved.index.Reads as index-reads
-use Rattle.exec_step.proofs.moved.stuck.Reads as stuck-reads
-use Rattle.exec_step.proofs.moved.write.Reads as write-reads
 
-index-requires : tie.Need-index-requires
-index-requires c κs = search needs
+abbrev index-of-get3 : tie.After-get3 → tie.After-index
+index-of-get3 x = search
 
-get-requires : tie.Need-get-requires
-get-requires c κs = search needs
-
-stuck-requires : tie.Need-stuck-requires
-stuck-requires c κs = search needs
+abbrev start-of-get3 : tie.After-get3 → tie.Start
+start-of-get3 x = search
 
 returns : tie.Need-returns
 returns c =
-    let a = (c .before .before .before .before .before .before .before .before .before .before .args) in
-    λ ω S p m j et lp. ended ω m (a .more) (lent (a .rk .now) (a .rn .now)) S (lent (a .hk .now) (a .hn .now)) (a .h) (a .u) j Stuck ((c .stuck) .result) ((c .stuck) .ensures) (store-kind (lent (a .rk .now) (a .rn .now)) (lent (a .hk .now) (a .hn .now)) p (getD (a .plan .now) (a .at + 1) 0) (getD (a .plan .now) (a .at + 3) 0) (getD (a .plan .now) (a .at + 2) 0) ((c .before .before .before .get) .result) (named (lent (a .rk .now) (a .rn .now)) ((c .before .before .before .get) .ensures) ((c .before .before .before .before .index) .ensures .0)) refl ((c .before .if1) .taken))
-
-wide-requires : tie.Need-wide-requires
-wide-requires c κs = search needs
-
-index-requires-2 : tie.Need-index-requires-2
-index-requires-2 c κs = search needs
+    let g : tie.After-get = search in
+    λ ω S p m j et lp. ended ω m _ _ S _ _ _ j Stuck _ (c .stuck .ensures) (store-kind _ _ p _ _ _ _ (named _ (g .get .ensures) (search)) refl (search))
 
 get-requires-2 : tie.Need-get-requires-2
 get-requires-2 c κs =
-    let a = (c .before .before .before .before .before .before .before .before .before .before .before .before .before .args) in
-    start-lent (lent (a .rk .now) (a .rn .now)) (a .hk .now) (a .hn .now) ((c .before .before .before .before .before .before .before .before .before .before .before .before .before .pre) .8) ((c .before .before .before .before .before .before .before .before .before .before .before .before .before .pre) .6) ((c .before .before .before .before .before .before .before .before .before .before .before .before .before .pre) .7) (getD (a .plan .now) (a .at + 1) 0) ((c .before .before .before .before .before .before .before .before .before .before .before .before .before .pre) .3 .first) ((c .before .before .before .before .before .before .get) .result) (named (lent (a .rk .now) (a .rn .now)) ((c .before .before .before .before .before .before .get) .ensures) ((c .before .before .before .before .before .before .before .index) .ensures .0)) ((c .before .before .before .before .if1) .left) ((c .before .before .before .wide) .result) ((c .before .before .before .wide) .ensures .0)
-
-wide-requires-2 : tie.Need-wide-requires-2
-wide-requires-2 c κs = search needs
-
-stuck-requires-2 : tie.Need-stuck-requires-2
-stuck-requires-2 c κs = search needs
-
-same-length : tie.Need-same-length
-same-length c = search needs
-
-same-length-2 : tie.Need-same-length-2
-same-length-2 c = search needs
+    let g : tie.After-get = search in
+    let s : tie.Start = search in
+    start-lent _ _ _ (s .pre .8) (search) (search) _ (s .pre .3 .first) _ (named _ (g .get .ensures) (search)) (search) _ (search)
 
 returns-2 : tie.Need-returns-2
 returns-2 c =
-    let a = (c .before .before .before .before .before .before .before .before .before .before .before .before .before .before .before .before .before .args) in
-    λ ω S p m j et lp. ended ω m (a .more) (lent (a .rk .now) (a .rn .now)) S (lent (a .hk .now) (a .hn .now)) (a .h) (a .u) j Stuck ((c .stuck2) .result) ((c .stuck2) .ensures) (store-past (lent (a .rk .now) (a .rn .now)) (lent (a .hk .now) (a .hn .now)) p (getD (a .plan .now) (a .at + 1) 0) (getD (a .plan .now) (a .at + 3) 0) (getD (a .plan .now) (a .at + 2) 0) ((c .before .before .before .before .before .before .before .before .before .before .get) .result) (named (lent (a .rk .now) (a .rn .now)) ((c .before .before .before .before .before .before .before .before .before .before .get) .ensures) ((c .before .before .before .before .before .before .before .before .before .before .before .index) .ensures .0)) ((c .before .before .before .before .before .before .before .wide) .result) ((c .before .before .before .before .before .before .before .wide) .ensures .0) ((c .before .before .before .before .before .before .before .before .if1) .left) ((c .before .before .before .get2) .result) ((c .before .before .before .get2) .ensures) refl ((c .before .before .wide2) .ensures .0) (omega (arith, (c .before .if2) .taken, (c .before .before .before .before .before .before .index2) .ensures .0)))
-
-index-requires-3 : tie.Need-index-requires-3
-index-requires-3 c κs = search needs
-
-get-requires-3 : tie.Need-get-requires-3
-get-requires-3 c κs = search needs
-
-add-write : tie.Need-add-write
-add-write c = search needs
-
-add-write-2 : tie.Need-add-write-2
-add-write-2 c = search needs
+    let w2 : tie.After-wide2 = search in
+    let g2 : tie.After-get2 = search in
+    let w : tie.After-wide = search in
+    let g : tie.After-get = search in
+    λ ω S p m j et lp. ended ω m _ _ S _ _ _ j Stuck _ (c .stuck2 .ensures) (store-past _ _ p _ _ _ _ (named _ (g .get .ensures) (search)) _ (w .wide .ensures .0) (search) _ (g2 .get2 .ensures) refl (w2 .wide2 .ensures .0) (omega arith))
 
 add-write-3 : tie.Need-add-write-3
-add-write-3 c = omega (arith, (c .before .before .before .before .before .before .before .before .before .before .before .before .before .before .before .before .before .before .before .before .pre) .0, (c .before .before .before .before .before .before .before .before .before .before .before .before .before .before .before .before .before .before .before .before .good) .0 .0)
+add-write-3 c =
+    let g : tie.After-get3 = search in
+    let s = start-of-get3 g in
+    omega (arith, s .pre .0, s .good .0 .0)
 
 write-requires : tie.Need-write-requires
 write-requires c κs =
-    let a = (c .before .before .before .before .before .before .before .before .before .before .before .before .before .before .before .before .before .before .before .before .args) in
-    component-lent (lent (a .rk .now) (a .rn .now)) (a .hk .now) (a .hn .now) ((c .before .before .before .before .before .before .before .before .before .before .before .before .before .before .before .before .before .before .before .before .pre) .8) ((c .before .before .before .before .before .before .before .before .before .before .before .before .before .before .before .before .before .before .before .before .pre) .6) ((c .before .before .before .before .before .before .before .before .before .before .before .before .before .before .before .before .before .before .before .before .pre) .7) (getD (a .plan .now) (a .at + 1) 0) ((c .before .before .before .before .before .before .before .before .before .before .before .before .before .before .before .before .before .before .before .before .pre) .3 .first) ((c .before .before .before .before .before .before .before .before .before .before .before .before .before .get) .result) (named (lent (a .rk .now) (a .rn .now)) ((c .before .before .before .before .before .before .before .before .before .before .before .before .before .get) .ensures) ((c .before .before .before .before .before .before .before .before .before .before .before .before .before .before .index) .ensures .0)) ((c .before .before .before .before .before .before .before .before .before .before .before .if1) .left) ((c .before .before .before .before .before .before .before .before .before .before .wide) .result) ((c .before .before .before .before .before .before .before .before .before .before .wide) .ensures .0) ((c .before .before .before .before .before .before .before .before .before .index2) .result) ((c .before .before .before .before .before .before .get2) .result) ((c .before .before .before .before .before .before .get2) .ensures) (omega (arith, (c .before .before .before .before .if2) .left, (c .before .before .before .before .before .wide2) .ensures .0))
-
-same-length-3 : tie.Need-same-length-3
-same-length-3 c = search needs
-
-same-length-4 : tie.Need-same-length-4
-same-length-4 c = search needs
+    let n2 : tie.Else2 = search in
+    let w2 : tie.After-wide2 = search in
+    let g2 : tie.After-get2 = search in
+    let w : tie.After-wide = search in
+    let n : tie.Else1 = search in
+    let g : tie.After-get = search in
+    let i : tie.After-index = search in
+    let g3 : tie.After-get3 = search in
+    let s = start-of-get3 g3 in
+    component-lent _ _ _ (s .pre .8) (s .pre .6) (s .pre .7) _ (s .pre .3 .first) _ (named _ (g .get .ensures) (i .index .ensures .0)) (n .if1 .left) _ (w .wide .ensures .0) _ _ (g2 .get2 .ensures) (omega (arith, n2 .if2 .left, w2 .wide2 .ensures .0))
 
 returns-3 : tie.Need-returns-3
 returns-3 c =
-    let a = (c .before .before .before .before .before .before .before .before .before .before .before .before .before .before .before .before .before .before .before .before .before .before .before .before .before .args) in
-    λ ω S p m j et lp. to-heap ω m (a .more) (lent (a .rk .now) (a .rn .now)) S (lent (a .hk .now) (a .hn .now)) (a .h) (a .u) j ((a .at) + 8) p et lp ((c .before .before .before .before .before .before .before .before .before .before .before .before .before .before .before .before .before .before .before .before .before .before .before .before .before .pre) .4) ((c .before .before .before .before .before .before .before .before .before .before .before .before .before .before .before .before .before .before .before .before .before .before .before .before .before .pre) .5) ((c .before .before .before .before .write) .result) ((c .before .before .before .before .before .before .before .before .before .before .before .before .before .before .before .wide) .result + (getD (a .plan .now) (a .at + 3) 0) + 1) ((c .before .before .before .before .before .before .before .get3) .result) (store-done (lent (a .rk .now) (a .rn .now)) (lent (a .hk .now) (a .hn .now)) p (getD (a .plan .now) (a .at + 1) 0) (getD (a .plan .now) (a .at + 3) 0) (getD (a .plan .now) (a .at + 2) 0) ((c .before .before .before .before .before .before .before .before .before .before .before .before .before .before .before .before .before .before .get) .result) (named (lent (a .rk .now) (a .rn .now)) ((c .before .before .before .before .before .before .before .before .before .before .before .before .before .before .before .before .before .before .get) .ensures) ((c .before .before .before .before .before .before .before .before .before .before .before .before .before .before .before .before .before .before .before .index) .ensures .0)) ((c .before .before .before .before .before .before .before .before .before .before .before .before .before .before .before .wide) .result) ((c .before .before .before .before .before .before .before .before .before .before .before .before .before .before .before .wide) .ensures .0) ((c .before .before .before .before .before .before .before .before .before .before .before .before .before .before .before .before .if1) .left) ((c .before .before .before .before .before .before .before .before .before .before .before .get2) .result) ((c .before .before .before .before .before .before .before .before .before .before .before .get2) .ensures) ((c .before .before .before .before .before .before .before .get3) .result) ((c .before .before .before .before .before .before .before .before .before .before .wide2) .ensures .0) (omega (arith, (c .before .before .before .before .before .before .before .before .before .if2) .left, (c .before .before .before .before .before .before .before .before .before .before .before .before .before .before .index2) .ensures .0)) (named (lent (a .rk .now) (a .rn .now)) ((c .before .before .before .before .before .before .before .get3) .ensures) ((c .before .before .before .before .before .before .before .before .index3) .ensures .0))) ((c .before .before .before .before .write) .ensures .0) ((c .before .before .before .before .write) .ensures .1 ∙ ap (λ (k : ℕ). cond (a .more) (put (lent (a .hk .now) (a .hn .now)) ((c .before .before .before .before .before .before .before .before .before .before .before .before .before .before .before .wide) .result + k + 1) (wordIs ((c .before .before .before .before .before .before .before .get3) .result))) (lent (a .hk .now) (a .hn .now))) ((c .before .before .before .before .before .before .before .before .before .before .before .before .before .before .index2) .ensures .0))
+    let w : tie.After-write = search in
+    let g : tie.After-get3 = search in
+    let i3 : tie.After-index3 = search in
+    let n2 : tie.Else2 = search in
+    let w3 : tie.After-wide2 = search in
+    let g3 : tie.After-get2 = search in
+    let i2 : tie.After-index2 = search in
+    let w2 : tie.After-wide = search in
+    let n : tie.Else1 = search in
+    let g2 : tie.After-get = search in
+    let i = index-of-get3 g in
+    let s = start-of-get3 g in
+    λ ω S p m j et lp. to-heap ω m _ _ S _ _ _ j _ p et lp (s .pre .4) (s .pre .5) _ _ _ (store-done _ _ p _ _ _ _ (named _ (g2 .get .ensures) (i .index .ensures .0)) _ (w2 .wide .ensures .0) (n .if1 .left) _ (g3 .get2 .ensures) _ (w3 .wide2 .ensures .0) (omega (arith, n2 .if2 .left, i2 .index2 .ensures .0)) (named _ (g .get3 .ensures) (i3 .index3 .ensures .0))) (w .write .ensures .0) (w .write .ensures .1 ∙ ap (λ (k : ℕ). cond (s .args .more) (put (lent (s .args .hk .now) (s .args .hn .now)) (w2 .wide .result + k + 1) (wordIs (g .get3 .result))) (lent (s .args .hk .now) (s .args .hn .now))) (i2 .index2 .ensures .0))
 
 pub store-spec : {M : Type 1} → statement M
 store-spec =
-    tie.close
-    (tie.spec
-    index-requires
-    get-requires
-    stuck-requires
-    returns
-    wide-requires
-    index-requires-2
-    get-requires-2
-    wide-requires-2
-    stuck-requires-2
-    same-length
-    same-length-2
-    returns-2
-    index-requires-3
-    get-requires-3
-    add-write
-    add-write-2
-    add-write-3
-    write-requires
-    same-length-3
-    same-length-4
-    returns-3)
+    tie.close (tie.spec (λ c κs. search needs) (λ c κs. search needs) (λ c κs. search) returns (λ c κs. search) (λ c κs. search needs)
+    get-requires-2 (λ c κs. search) (λ c κs. search) (λ c. search) (λ c. search) returns-2 (λ c κs. search needs) (λ c κs. search needs)
+    (λ c. search needs) (λ c. search needs) add-write-3 write-requires (λ c. search) (λ c. search) returns-3)

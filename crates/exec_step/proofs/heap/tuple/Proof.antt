@@ -2,106 +2,73 @@ use Prim.Native.Nat.{ℕ, _+_, _-_, _<_, _≤_}
 use native.Mathlib.Omega.{arith}
 use mathlib.Core.Path.{_≡_, refl, ap, ap₂, sym, subst, _∙_}
 use lib.ListN.{getD}
-use Rattle.exec.specs.Machine.{put}
-use Rattle.exec_words.specs.memory.Lent.{lent}
+use Rattle.exec.specs.Machine.{put, puts, handle}
+use Rattle.exec_words.specs.memory.Lent.{lent, operandTable, tupleOf, Sourced}
 use Rattle.exec_machine.specs.declared.Stop.the-variants.{HeapFull}
 use borrow.Author.Tests.{not-true, not-false}
-use Rattle.exec.specs.Machine.{puts, handle}
-use Rattle.exec_words.specs.memory.Lent.{operandTable, tupleOf, Sourced}
-use Rattle.exec_step.specs.declared.moved.Moved.the-variants.{To, Paused, Ended}
+use Rattle.exec_step.specs.declared.moved.Moved.the-variants.{To, Paused}
 use Rattle.exec_step.proofs.moved.Laws.{ended, to-tuple, moves, waits, written, as-before}
 use Rattle.exec_machine.proofs.Leaves.{tuple-full, tuple-done}
 use borrow.Author.Needs.{needs}
 use Rattle.exec_step.proofs.heap.tuple.Statement.{statement}
 use Rattle.exec_step.proofs.heap.tuple.Tie as tie
 
-read-requires : tie.Need-read-requires
-read-requires c κs = search needs
+abbrev else1-of-hk : tie.After-hk → tie.Else1
+else1-of-hk x = search
 
-wide-requires : tie.Need-wide-requires
-wide-requires c κs = search needs
+abbrev read-of-hk : tie.After-hk → tie.After-read
+read-of-hk x = search
 
-add-if1 : tie.Need-add-if1
-add-if1 c = search needs
+abbrev start-of-hk : tie.After-hk → tie.Start
+start-of-hk x = search
+
+abbrev wide-of-hk : tie.After-hk → tie.After-wide
+wide-of-hk x = search
 
 returns : tie.Need-returns
 returns c =
-    let a = (c .before .before .before .before .before .before .before .before .before .before .args) in
-    λ S p m j et lp. ended (operandTable ((a .operands) .now) ((a .bases) .now)) m (a .more) (lent (a .rk .now) (a .rn .now)) S (lent (a .hk .now) (a .hn .now)) (a .h) (a .u) j HeapFull (Ended HeapFull) refl (tuple-full (a .u) p (getD (a .plan .now) (a .at + 1) 0) (getD (a .plan .now) (a .at + 3) 0) (getD (a .plan .now) (a .at + 4) 0) (omega (arith, (c .if1) .taken, (c .before .wide) .ensures .0, (c .before .before .read) .ensures)))
+    let s : tie.Start = search in
+    λ S p m j et lp. ended _ m (s .args .more) _ S _ _ _ j HeapFull _ refl (tuple-full _ p _ _ _ (omega arith))
 
 returns-2 : tie.Need-returns-2
 returns-2 c =
-    let a = (c .before .before .before .before .before .before .before .before .before .before .before .args) in
-    let e = not-true (a .more) ((c .if2) .taken) in
-    let l : (a .u) + (getD (a .plan .now) (a .at + 4) 0) + 1 ≤ 2048 = omega (arith, (c .before .if1) .left, (c .before .before .wide) .ensures .0, (c .before .before .before .read) .ensures) in
-    λ S p m j et lp. to-tuple (operandTable ((a .operands) .now) ((a .bases) .now)) m (a .more) (lent (a .rk .now) (a .rn .now)) S (lent (a .hk .now) (a .hn .now)) (a .h) (a .u) j ((a .at) + 8) p et lp ((c .before .before .before .before .before .before .before .before .before .before .before .pre) .4) ((c .before .before .before .before .before .before .before .before .before .before .before .pre) .5) Paused (getD (a .plan .now) (a .at + 1) 0) (getD (a .plan .now) (a .at + 3) 0) (getD (a .plan .now) (a .at + 4) 0) l (tuple-done (a .u) p (getD (a .plan .now) (a .at + 1) 0) (getD (a .plan .now) (a .at + 3) 0) (getD (a .plan .now) (a .at + 4) 0) l) (waits (a .more) ((a .at) + 8) (a .h) ((a .u) + (getD (a .plan .now) (a .at + 4) 0) + 1) e) (as-before (a .more) (put (lent (a .rk .now) (a .rn .now)) (getD (a .plan .now) (a .at + 1) 0) (handle (a .u))) (lent (a .rk .now) (a .rn .now)) e) (as-before (a .more) (puts (lent (a .hk .now) (a .hn .now)) (a .u) (tupleOf (operandTable ((a .operands) .now) ((a .bases) .now)) (lent (a .rk .now) (a .rn .now)) (getD (a .plan .now) (a .at + 3) 0) (getD (a .plan .now) (a .at + 4) 0))) (lent (a .hk .now) (a .hn .now)) e)
-
-cast-a : tie.Need-cast-a
-cast-a c = search needs
-
-read-requires-2 : tie.Need-read-requires-2
-read-requires-2 c κs = search needs
+    let s : tie.Start = search in
+    let e = not-true (s .args .more) (c .if2 .taken) in
+    let l : (s .args .u) + (getD (s .args .plan .now) (s .args .at + 4) 0) + 1 ≤ 2048 = omega arith in
+    λ S p m j et lp. to-tuple _ m _ _ S _ _ _ j _ p et lp (search) (search) Paused _ _ _ l (tuple-done _ p _ _ _ l) (waits _ ((s .args .at) + 8) (s .args .h) ((s .args .u) + (getD (s .args .plan .now) (s .args .at + 4) 0) + 1) e) (as-before _ (put _ _ _) _ e) (as-before _ (puts _ _ _) _ e)
 
 put-tuple-requires : tie.Need-put-tuple-requires
 put-tuple-requires c κs =
-    let p = (c .before .before .before .before .before .before .before .before .before .before .before .before .before .before .before .before .pre) in
-    let l : ((c .before .before .before .before .before .before .before .before .before .before .before .before .before .before .before .before .args) .u) + getD (((c .before .before .before .before .before .before .before .before .before .before .before .before .before .before .before .before .args) .plan) .now) (((c .before .before .before .before .before .before .before .before .before .before .before .before .before .before .before .before .args) .at) + 4) 0 < 2048 = omega (arith, (c .before .before .before .before .before .before .if1) .left, (c .before .before .before .before .before .before .before .wide) .ensures .0, (c .before .before .before .before .before .before .before .before .read) .ensures) in
-    (omega (arith, l, (c .before .before .before .before .before .before .before .before .read) .ensures, p .6), omega (arith, l, (c .before .before .before .before .before .before .before .before .read) .ensures, p .7), p .1, p .2, subst (λ (k : ℕ). Sourced (((c .before .before .before .before .before .before .before .before .before .before .before .before .before .before .before .before .args) .operands) .now) (((c .before .before .before .before .before .before .before .before .before .before .before .before .before .before .before .before .args) .bases) .now) ((c .read2) .result) k) (sym ((c .before .before .before .before .before .before .before .before .read) .ensures)) (subst (λ (v : ℕ). Sourced (((c .before .before .before .before .before .before .before .before .before .before .before .before .before .before .before .before .args) .operands) .now) (((c .before .before .before .before .before .before .before .before .before .before .before .before .before .before .before .before .args) .bases) .now) v (getD (((c .before .before .before .before .before .before .before .before .before .before .before .before .before .before .before .before .args) .plan) .now) (((c .before .before .before .before .before .before .before .before .before .before .before .before .before .before .before .before .args) .at) + 4) 0)) (sym ((c .read2) .ensures)) (p .8)))
-
-index-requires : tie.Need-index-requires
-index-requires c κs = search needs
-
-set-requires : tie.Need-set-requires
-set-requires c κs = search needs
+    let r : tie.After-read = search in
+    let s : tie.Start = search in
+    let l : (s .args .u) + getD (s .args .plan .now) ((s .args .at) + 4) 0 < 2048 = omega arith in
+    (omega (arith, l), omega (arith, l), search, search, subst (λ (k : ℕ). Sourced (s .args .operands .now) (s .args .bases .now) (c .read2 .result) k) (sym (r .read .ensures)) (subst (λ (v : ℕ). Sourced (s .args .operands .now) (s .args .bases .now) v (getD (s .args .plan .now) ((s .args .at) + 4) 0)) (sym (c .read2 .ensures)) (s .pre .8)))
 
 add-t16 : tie.Need-add-t16
-add-t16 c = omega (arith, (c .before .before .before .before .before .before .before .before .before .before .before .before .before .before .before .before .before .before .before .before .before .before .before .before .before .before .before .before .before .pre) .0, (c .before .before .before .before .before .before .before .before .before .before .before .before .before .before .before .before .before .before .before .before .before .before .before .before .before .before .before .before .before .good) .0 .0)
-
-add-t33 : tie.Need-add-t33
-add-t33 c = search needs
-
-add-t34 : tie.Need-add-t34
-add-t34 c = search needs
-
-same-length : tie.Need-same-length
-same-length c = search needs
-
-same-length-2 : tie.Need-same-length-2
-same-length-2 c = search needs
-
-same-length-3 : tie.Need-same-length-3
-same-length-3 c = search needs
-
-same-length-4 : tie.Need-same-length-4
-same-length-4 c = search needs
+add-t16 c =
+    let h : tie.After-hk = search in
+    let s = start-of-hk h in
+    omega (arith, s .pre .0, s .good .0 .0)
 
 returns-3 : tie.Need-returns-3
 returns-3 c =
-    let a = (c .before .before .before .before .before .before .before .before .before .before .before .before .before .before .before .before .before .before .before .before .before .before .before .before .before .before .before .before .before .args) in
-    let e = not-false (a .more) ((c .before .before .before .before .before .before .before .before .before .before .before .before .before .before .before .before .before .before .if2) .left) in
-    let l : (a .u) + (getD (a .plan .now) (a .at + 4) 0) + 1 ≤ 2048 = omega (arith, (c .before .before .before .before .before .before .before .before .before .before .before .before .before .before .before .before .before .before .before .if1) .left, (c .before .before .before .before .before .before .before .before .before .before .before .before .before .before .before .before .before .before .before .before .wide) .ensures .0, (c .before .before .before .before .before .before .before .before .before .before .before .before .before .before .before .before .before .before .before .before .before .read) .ensures) in
-    let q : (c .before .before .before .before .before .before .before .before .before .before .before .before .before .before .before .before .before .before .before .before .wide) .result ≡ (getD (a .plan .now) (a .at + 4) 0) = (c .before .before .before .before .before .before .before .before .before .before .before .before .before .before .before .before .before .before .before .before .wide) .ensures .0 ∙ (c .before .before .before .before .before .before .before .before .before .before .before .before .before .before .before .before .before .before .before .before .before .read) .ensures in
-    λ S p m j et lp. to-tuple (operandTable ((a .operands) .now) ((a .bases) .now)) m (a .more) (lent (a .rk .now) (a .rn .now)) S (lent (a .hk .now) (a .hn .now)) (a .h) (a .u) j ((a .at) + 8) p et lp ((c .before .before .before .before .before .before .before .before .before .before .before .before .before .before .before .before .before .before .before .before .before .before .before .before .before .before .before .before .before .pre) .4) ((c .before .before .before .before .before .before .before .before .before .before .before .before .before .before .before .before .before .before .before .before .before .before .before .before .before .before .before .before .before .pre) .5) (To ((a .at) + 8) (a .h) ((a .u) + (c .before .before .before .before .before .before .before .before .before .before .before .before .before .before .before .before .before .before .before .before .wide) .result + 1)) (getD (a .plan .now) (a .at + 1) 0) (getD (a .plan .now) (a .at + 3) 0) (getD (a .plan .now) (a .at + 4) 0) l (tuple-done (a .u) p (getD (a .plan .now) (a .at + 1) 0) (getD (a .plan .now) (a .at + 3) 0) (getD (a .plan .now) (a .at + 4) 0) l) (ap (λ (k : ℕ). To ((a .at) + 8) (a .h) ((a .u) + k + 1)) q ∙ moves (a .more) ((a .at) + 8) (a .h) ((a .u) + (getD (a .plan .now) (a .at + 4) 0) + 1) e) (written (a .more) (put (lent (a .rk .now) (a .rn .now)) (getD (a .plan .now) (a .at + 1) 0) (handle (a .u))) (lent (a .rk .now) (a .rn .now)) e ((c .before .before .before .before .set) .ensures ∙ ap (λ (k : ℕ). put (lent (a .rk .now) (a .rn .now)) k (handle (a .u))) ((c .before .before .before .before .before .index) .ensures .0))) (written (a .more) (puts (lent (a .hk .now) (a .hn .now)) (a .u) (tupleOf (operandTable ((a .operands) .now) ((a .bases) .now)) (lent (a .rk .now) (a .rn .now)) (getD (a .plan .now) (a .at + 3) 0) (getD (a .plan .now) (a .at + 4) 0))) (lent (a .hk .now) (a .hn .now)) e ((c .before .before .before .before .before .before .before .before .before .before .before .before .put-tuple) .ensures ∙ ap₂ (λ (i k : ℕ). puts (lent (a .hk .now) (a .hn .now)) (a .u) (tupleOf (operandTable ((a .operands) .now) ((a .bases) .now)) (lent (a .rk .now) (a .rn .now)) i k)) ((c .before .before .before .before .before .before .before .before .before .before .before .before .before .read2) .ensures) ((c .before .before .before .before .before .before .before .before .before .before .before .before .before .before .before .before .before .before .before .before .before .read) .ensures)))
+    let s2 : tie.After-set = search in
+    let i2 : tie.After-index = search in
+    let p2 : tie.After-put-tuple = search in
+    let r2 : tie.After-read2 = search in
+    let n : tie.Else2 = search in
+    let h2 : tie.After-hk = search in
+    let n2 = else1-of-hk h2 in
+    let w = wide-of-hk h2 in
+    let r = read-of-hk h2 in
+    let s = start-of-hk h2 in
+    let e = not-false (s .args .more) (n .if2 .left) in
+    let l : (s .args .u) + (getD (s .args .plan .now) (s .args .at + 4) 0) + 1 ≤ 2048 = omega (arith, n2 .if1 .left, w .wide .ensures .0, r .read .ensures) in
+    let q : w .wide .result ≡ (getD (s .args .plan .now) (s .args .at + 4) 0) = w .wide .ensures .0 ∙ r .read .ensures in
+    λ S p m j et lp. to-tuple _ m _ _ S _ _ _ j _ p et lp (s .pre .4) (s .pre .5) _ _ _ _ l (tuple-done _ p _ _ _ l) (ap (λ (k : ℕ). To ((s .args .at) + 8) (s .args .h) ((s .args .u) + k + 1)) q ∙ moves _ _ _ _ e) (written _ _ (lent (s .args .rk .now) (s .args .rn .now)) e (s2 .set .ensures ∙ ap (λ (k : ℕ). put (lent (s .args .rk .now) (s .args .rn .now)) k (handle (s .args .u))) (i2 .index .ensures .0))) (written _ _ (lent (s .args .hk .now) (s .args .hn .now)) e (p2 .put-tuple .ensures ∙ ap₂ (λ (i k : ℕ). puts (lent (s .args .hk .now) (s .args .hn .now)) (s .args .u) (tupleOf (operandTable (s .args .operands .now) (s .args .bases .now)) (lent (s .args .rk .now) (s .args .rn .now)) i k)) (r2 .read2 .ensures) (r .read .ensures)))
 
 pub tuple-spec : {M : Type 1} → statement M
 tuple-spec =
-    tie.close
-    (tie.spec
-    read-requires
-    wide-requires
-    add-if1
-    returns
-    returns-2
-    cast-a
-    read-requires-2
-    put-tuple-requires
-    index-requires
-    set-requires
-    add-t16
-    add-t33
-    add-t34
-    same-length
-    same-length-2
-    same-length-3
-    same-length-4
-    returns-3)
+    tie.close (tie.spec (λ c κs. search needs) (λ c κs. search) (λ c. search needs) returns returns-2 (λ c. search needs)
+    (λ c κs. search needs) put-tuple-requires (λ c κs. search needs) (λ c κs. search needs) add-t16 (λ c. search needs)
+    (λ c. search needs) (λ c. search) (λ c. search) (λ c. search) (λ c. search) returns-3)

@@ -1,7 +1,6 @@
 use borrow.Author.Needs.{needs}
 use Prim.Native.Nat.{ℕ, _+_, _-_}
 use mathlib.Core.Path.{ap, _∙_}
-use lib.ListN.{getD}
 use Rattle.exec.specs.Machine.{put}
 use Rattle.exec_words.specs.memory.Lent.{wordIs, lent}
 use borrow.Author.Tests.{not-true, not-false}
@@ -11,39 +10,19 @@ use Rattle.exec_step.proofs.moved.assign.Tie as tie
 
 returns : tie.Need-returns
 returns c =
-    let a = c .before .before .before .before .args in
-    let e = not-true (a .more) ((c .if1) .taken) in
-    (waits (a .more) ((a .at) + 8) (a .h) (a .u) e, as-before (a .more) (put (lent (a .rk .now) (a .rn .now)) (getD (a .plan .now) (a .at + 1) 0) (wordIs (a .w))) (lent (a .rk .now) (a .rn .now)) e)
-
-index-requires : tie.Need-index-requires
-index-requires c κs = search needs
-
-set-requires : tie.Need-set-requires
-set-requires c κs = search needs
-
-add-t15 : tie.Need-add-t15
-add-t15 c = search needs
-
-same-length : tie.Need-same-length
-same-length c = search needs
-
-same-length-2 : tie.Need-same-length-2
-same-length-2 c = search needs
+    let s : tie.Start = search in
+    let e = not-true (s .args .more) (c .if1 .taken) in
+    (waits _ ((s .args .at) + 8) (s .args .h) (s .args .u) e, as-before _ (put _ _ _) _ e)
 
 returns-2 : tie.Need-returns-2
 returns-2 c =
-    let a = c .before .before .before .before .before .before .before .before .before .before .before .before .args in
-    let e = not-false (a .more) ((c .before .before .before .before .before .before .before .before .if1) .left) in
-    (moves (a .more) ((a .at) + 8) (a .h) (a .u) e, written (a .more) (put (lent (a .rk .now) (a .rn .now)) (getD (a .plan .now) (a .at + 1) 0) (wordIs (a .w))) (lent (a .rk .now) (a .rn .now)) e ((c .before .before .before .before .set) .ensures ∙ ap (λ (i : ℕ). put (lent (a .rk .now) (a .rn .now)) i (wordIs (a .w))) ((c .before .before .before .before .before .index) .ensures .0)))
+    let s2 : tie.After-set = search in
+    let i2 : tie.After-index = search in
+    let n : tie.Else1 = search in
+    let s : tie.Start = search in
+    let e = not-false (s .args .more) (n .if1 .left) in
+    (moves _ _ _ _ e, written _ _ (lent (s .args .rk .now) (s .args .rn .now)) e (s2 .set .ensures ∙ ap (λ (i : ℕ). put (lent (s .args .rk .now) (s .args .rn .now)) i (wordIs (s .args .w))) (i2 .index .ensures .0)))
 
 pub assign-spec : {M : Type 1} → statement M
 assign-spec =
-    tie.close
-    (tie.spec
-    returns
-    index-requires
-    set-requires
-    add-t15
-    same-length
-    same-length-2
-    returns-2)
+    tie.close (tie.spec returns (λ c κs. search needs) (λ c κs. search needs) (λ c. search needs) (λ c. search) (λ c. search) returns-2)

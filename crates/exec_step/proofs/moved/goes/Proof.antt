@@ -6,17 +6,13 @@ use Rattle.exec_step.proofs.moved.goes.Tie as tie
 
 returns : tie.Need-returns
 returns c =
-    let a = c .before .args in
-    waits (a .more) (a .to) (a .h) (a .u) (not-true (a .more) ((c .if1) .taken))
+    let s : tie.Start = search in
+    waits (s .args .more) (s .args .to) (s .args .h) (s .args .u) (not-true _ (c .if1 .taken))
 
 returns-2 : tie.Need-returns-2
 returns-2 c =
-    let a = c .before .args in
-    moves (a .more) (a .to) (a .h) (a .u) (not-false (a .more) ((c .if1) .left))
+    let s : tie.Start = search in
+    moves (s .args .more) _ _ _ (not-false _ (c .if1 .left))
 
 pub goes-spec : {M : Type 1} → statement M
-goes-spec =
-    tie.close
-    (tie.spec
-    returns
-    returns-2)
+goes-spec = tie.close (tie.spec returns returns-2)

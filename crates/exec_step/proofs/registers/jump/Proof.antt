@@ -1,5 +1,5 @@
 use borrow.Author.Needs.{needs}
-use Prim.Native.Nat.{_-_, _*_}
+use Prim.Native.Nat.{_-_}
 use native.Mathlib.Omega.{arith}
 use mathlib.Core.Path.{refl}
 use Rattle.exec_machine.specs.declared.Stop.the-variants.{Stuck}
@@ -8,49 +8,24 @@ use Rattle.exec_machine.proofs.Leaves.{jump-kind, jump-label, jump-done}
 use Rattle.exec_step.proofs.registers.jump.Statement.{statement}
 use Rattle.exec_step.proofs.registers.jump.Tie as tie
 
-stuck-requires : tie.Need-stuck-requires
-stuck-requires c κs = search needs
-
 returns : tie.Need-returns
-returns c =
-    let a = c .before .before .before .before .args in
-    λ ω R S H m j starts. ended ω m (a .more) R S H (a .h) (a .u) j Stuck ((c .stuck) .result) ((c .stuck) .ensures) (jump-kind ((a .blocks) .now) (a .labels) (a .w) refl ((c .before .if1) .taken))
-
-wide-requires : tie.Need-wide-requires
-wide-requires c κs = search needs
-
-stuck-requires-2 : tie.Need-stuck-requires-2
-stuck-requires-2 c κs = search needs
+returns c = λ ω R S H m j starts. ended ω m _ R S H _ _ j Stuck _ (c .stuck .ensures) (jump-kind _ _ _ refl (search))
 
 returns-2 : tie.Need-returns-2
 returns-2 c =
-    let a = c .before .before .before .before .before .before .args in
-    λ ω R S H m j starts. ended ω m (a .more) R S H (a .h) (a .u) j Stuck ((c .stuck2) .result) ((c .stuck2) .ensures) (jump-label ((a .blocks) .now) (a .labels) (a .w) ((c .before .before .wide) .result) ((c .before .before .wide) .ensures .0) ((c .before .before .before .if1) .left) refl ((c .before .if2) .taken))
-
-entry-requires : tie.Need-entry-requires
-entry-requires c κs = search needs
-
-mul-goes : tie.Need-mul-goes
-mul-goes c = search needs
-
-goes-requires : tie.Need-goes-requires
-goes-requires c κs = search needs
+    let w2 : tie.After-wide = search in
+    λ ω R S H m j starts. ended ω m _ R S H _ _ j Stuck _ (c .stuck2 .ensures) (jump-label _ _ _ _ (w2 .wide .ensures .0) (search) refl (search))
 
 returns-3 : tie.Need-returns-3
 returns-3 c =
-    let a = c .before .before .before .before .before .before .before .args in
-    λ ω R S H m j starts. to-position ω m (a .more) R S H (a .h) (a .u) j (8 * (c .before .entry) .result) ((c .before .entry) .result) refl (omega (arith, (c .before .entry) .ensures .0, starts ((c .before .before .before .wide) .result) ((c .before .before .if2) .left))) ((c .before .before .before .before .before .before .before .pre) .0) ((c .before .before .before .before .before .before .before .pre) .1) ((c .goes) .result) (jump-done ((a .blocks) .now) (a .labels) (a .w) ((c .before .before .before .wide) .result) ((c .before .before .before .wide) .ensures .0) ((c .before .before .before .before .if1) .left) ((c .before .before .if2) .left) ((c .before .entry) .ensures .0)) ((c .goes) .ensures)
+    let e : tie.After-entry = search in
+    let n : tie.Else2 = search in
+    let w2 : tie.After-wide = search in
+    let n2 : tie.Else1 = search in
+    let s : tie.Start = search in
+    λ ω R S H m j starts. to-position ω m _ R S H _ _ j _ _ refl (omega (arith, e .entry .ensures .0, starts _ (n .if2 .left))) (s .pre .0) (s .pre .1) _ (jump-done _ _ _ _ (w2 .wide .ensures .0) (n2 .if1 .left) (n .if2 .left) (e .entry .ensures .0)) (c .goes .ensures)
 
 pub jump-spec : {M : Type 1} → statement M
 jump-spec =
-    tie.close
-    (tie.spec
-    stuck-requires
-    returns
-    wide-requires
-    stuck-requires-2
-    returns-2
-    entry-requires
-    mul-goes
-    goes-requires
-    returns-3)
+    tie.close (tie.spec (λ c κs. search) returns (λ c κs. search) (λ c κs. search) returns-2 (λ c κs. search needs) (λ c. search needs)
+    (λ c κs. search) returns-3)

@@ -4,16 +4,8 @@ use Rattle.exec_step.proofs.registers.Laws.{word-lit}
 use Rattle.exec_step.proofs.registers.literal.Statement.{statement}
 use Rattle.exec_step.proofs.registers.literal.Tie as tie
 
-read-requires : tie.Need-read-requires
-read-requires c κs = search needs
-
 returns : tie.Need-returns
-returns c =
-    λ R. word-lit R ((c .read) .ensures)
+returns c = λ R. word-lit R (search)
 
 pub literal-spec : {M : Type 1} → statement M
-literal-spec =
-    tie.close
-    (tie.spec
-    read-requires
-    returns)
+literal-spec = tie.close (tie.spec (λ c κs. search needs) returns)

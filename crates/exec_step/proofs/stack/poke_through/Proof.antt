@@ -1,8 +1,7 @@
 use borrow.Author.Needs.{needs}
-use Prim.Native.Nat.{ℕ, _+_, _-_}
+use Prim.Native.Nat.{ℕ, _-_}
 use native.Mathlib.Omega.{arith}
 use mathlib.Core.Path.{refl, ap, _∙_}
-use lib.ListN.{getD}
 use Rattle.exec.specs.Machine.{put}
 use Rattle.exec_words.specs.memory.Lent.{wordIs, lent}
 use Rattle.exec_machine.specs.declared.Stop.the-variants.{Stuck}
@@ -12,91 +11,43 @@ use Rattle.exec_machine.proofs.Leaves.{into-kind, into-above, into-past, into-d
 use Rattle.exec_step.proofs.stack.poke_through.Statement.{statement}
 use Rattle.exec_step.proofs.stack.poke_through.Tie as tie
 
-index-requires : tie.Need-index-requires
-index-requires c κs = search needs
-
-get-requires : tie.Need-get-requires
-get-requires c κs = search needs
-
-stuck-requires : tie.Need-stuck-requires
-stuck-requires c κs = search needs
+abbrev start-of-write-arg2 : tie.After-write-arg2 → tie.Start
+start-of-write-arg2 x = search
 
 returns : tie.Need-returns
 returns c =
-    let a = c .before .before .before .before .before .before .before .before .before .before .args in
-    λ ω H p m j et lp. ended ω m (a .more) (lent (a .rk .now) (a .rn .now)) (lent (a .sk .now) (a .sn .now)) H (a .h) (a .u) j Stuck ((c .stuck) .result) ((c .stuck) .ensures) (into-kind (lent (a .rk .now) (a .rn .now)) (a .h) p (getD (a .plan .now) (a .at + 1) 0) (getD (a .plan .now) (a .at + 3) 0) (getD (a .plan .now) (a .at + 2) 0) ((c .before .before .before .get) .result) (named (lent (a .rk .now) (a .rn .now)) ((c .before .before .before .get) .ensures) ((c .before .before .before .before .index) .ensures .0)) refl ((c .before .if1) .taken))
-
-stuck-requires-2 : tie.Need-stuck-requires-2
-stuck-requires-2 c κs = search needs
+    let g : tie.After-get = search in
+    λ ω H p m j et lp. ended ω m _ _ _ H _ _ j Stuck _ (c .stuck .ensures) (into-kind _ _ p _ _ _ _ (named _ (g .get .ensures) (search)) refl (search))
 
 returns-2 : tie.Need-returns-2
 returns-2 c =
-    let a = c .before .before .before .before .before .before .before .before .before .before .before .before .args in
-    λ ω H p m j et lp. ended ω m (a .more) (lent (a .rk .now) (a .rn .now)) (lent (a .sk .now) (a .sn .now)) H (a .h) (a .u) j Stuck ((c .stuck2) .result) ((c .stuck2) .ensures) (into-above (lent (a .rk .now) (a .rn .now)) (a .h) p (getD (a .plan .now) (a .at + 1) 0) (getD (a .plan .now) (a .at + 3) 0) (getD (a .plan .now) (a .at + 2) 0) ((c .before .before .before .before .before .get) .result) (named (lent (a .rk .now) (a .rn .now)) ((c .before .before .before .before .before .get) .ensures) ((c .before .before .before .before .before .before .index) .ensures .0)) ((c .before .before .before .before .before .get) .result .number) refl ((c .before .before .before .if1) .left) refl ((c .before .if2) .taken))
-
-wide-requires : tie.Need-wide-requires
-wide-requires c κs = search needs
-
-index-requires-2 : tie.Need-index-requires-2
-index-requires-2 c κs = search needs
-
-stuck-requires-3 : tie.Need-stuck-requires-3
-stuck-requires-3 c κs = search needs
+    let g : tie.After-get = search in
+    λ ω H p m j et lp. ended ω m _ _ _ H _ _ j Stuck _ (c .stuck2 .ensures) (into-above _ _ p _ _ _ _ (named _ (g .get .ensures) (search)) _ refl (search) refl (search))
 
 returns-3 : tie.Need-returns-3
 returns-3 c =
-    let a = c .before .before .before .before .before .before .before .before .before .before .before .before .before .before .before .args in
-    λ ω H p m j et lp. ended ω m (a .more) (lent (a .rk .now) (a .rn .now)) (lent (a .sk .now) (a .sn .now)) H (a .h) (a .u) j Stuck ((c .stuck3) .result) ((c .stuck3) .ensures) (into-past (lent (a .rk .now) (a .rn .now)) (a .h) p (getD (a .plan .now) (a .at + 1) 0) (getD (a .plan .now) (a .at + 3) 0) (getD (a .plan .now) (a .at + 2) 0) ((c .before .before .before .before .before .before .before .before .get) .result) (named (lent (a .rk .now) (a .rn .now)) ((c .before .before .before .before .before .before .before .before .get) .ensures) ((c .before .before .before .before .before .before .before .before .before .index) .ensures .0)) ((c .before .before .before .wide) .result) ((c .before .before .before .wide) .ensures .0) ((c .before .before .before .before .before .before .if1) .left) refl (omega (arith, (c .before .before .before .wide) .ensures .0, (c .before .before .before .before .if2) .left)) (omega (arith, (c .before .if3) .taken, (c .before .before .index2) .ensures .0)))
-
-index-requires-3 : tie.Need-index-requires-3
-index-requires-3 c κs = search needs
-
-get-requires-2 : tie.Need-get-requires-2
-get-requires-2 c κs = search needs
-
-sub-write : tie.Need-sub-write
-sub-write c = search needs
-
-sub-write-2 : tie.Need-sub-write-2
-sub-write-2 c = search needs
-
-add-write : tie.Need-add-write
-add-write c = search needs
-
-write-requires : tie.Need-write-requires
-write-requires c κs = search needs
-
-same-length : tie.Need-same-length
-same-length c = search needs
-
-same-length-2 : tie.Need-same-length-2
-same-length-2 c = search needs
+    let w : tie.After-wide = search in
+    let g : tie.After-get = search in
+    λ ω H p m j et lp. ended ω m _ _ _ H _ _ j Stuck _ (c .stuck3 .ensures) (into-past _ _ p _ _ _ _ (named _ (g .get .ensures) (search)) _ (w .wide .ensures .0) (search) refl (omega arith) (omega arith))
 
 returns-4 : tie.Need-returns-4
 returns-4 c =
-    let a = c .before .before .before .before .before .before .before .before .before .before .before .before .before .before .before .before .before .before .before .before .before .before .before .args in
-    λ ω H p m j et lp. to-stack ω m (a .more) (lent (a .rk .now) (a .rn .now)) (lent (a .sk .now) (a .sn .now)) H (a .h) (a .u) j ((a .at) + 8) p et lp ((c .before .before .before .before .before .before .before .before .before .before .before .before .before .before .before .before .before .before .before .before .before .before .before .pre) .6) ((c .before .before .before .before .before .before .before .before .before .before .before .before .before .before .before .before .before .before .before .before .before .before .before .pre) .7) ((c .before .before .before .before .write) .result) ((c .before .before .before .before .before .before .before .before .before .before .before .wide) .result - (getD (a .plan .now) (a .at + 3) 0) - 1) ((c .before .before .before .before .before .before .before .get2) .result) (into-done (lent (a .rk .now) (a .rn .now)) (a .h) p (getD (a .plan .now) (a .at + 1) 0) (getD (a .plan .now) (a .at + 3) 0) (getD (a .plan .now) (a .at + 2) 0) ((c .before .before .before .before .before .before .before .before .before .before .before .before .before .before .before .before .get) .result) (named (lent (a .rk .now) (a .rn .now)) ((c .before .before .before .before .before .before .before .before .before .before .before .before .before .before .before .before .get) .ensures) ((c .before .before .before .before .before .before .before .before .before .before .before .before .before .before .before .before .before .index) .ensures .0)) ((c .before .before .before .before .before .before .before .before .before .before .before .wide) .result) ((c .before .before .before .before .before .before .before .before .before .before .before .wide) .ensures .0) ((c .before .before .before .before .before .before .before .before .before .before .before .before .before .before .if1) .left) ((c .before .before .before .before .before .before .before .get2) .result) (omega (arith, (c .before .before .before .before .before .before .before .before .before .before .before .wide) .ensures .0, (c .before .before .before .before .before .before .before .before .before .before .before .before .if2) .left)) (omega (arith, (c .before .before .before .before .before .before .before .before .before .if3) .left, (c .before .before .before .before .before .before .before .before .before .before .index2) .ensures .0)) (named (lent (a .rk .now) (a .rn .now)) ((c .before .before .before .before .before .before .before .get2) .ensures) ((c .before .before .before .before .before .before .before .before .index3) .ensures .0))) ((c .before .before .before .before .write) .ensures .0) ((c .before .before .before .before .write) .ensures .1 ∙ ap (λ (k : ℕ). cond (a .more) (put (lent (a .sk .now) (a .sn .now)) ((c .before .before .before .before .before .before .before .before .before .before .before .wide) .result - k - 1) (wordIs ((c .before .before .before .before .before .before .before .get2) .result))) (lent (a .sk .now) (a .sn .now))) ((c .before .before .before .before .before .before .before .before .before .before .index2) .ensures .0))
+    let w : tie.After-write = search in
+    let g : tie.After-get2 = search in
+    let i3 : tie.After-index3 = search in
+    let n3 : tie.Else3 = search in
+    let i2 : tie.After-index2 = search in
+    let w2 : tie.After-wide = search in
+    let n2 : tie.Else2 = search in
+    let n : tie.Else1 = search in
+    let g2 : tie.After-get = search in
+    let i : tie.After-index = search in
+    let w3 : tie.After-write-arg2 = search in
+    let s = start-of-write-arg2 w3 in
+    λ ω H p m j et lp. to-stack ω m _ _ _ H _ _ j _ p et lp (s .pre .6) (s .pre .7) _ _ _ (into-done _ _ p _ _ _ _ (named _ (g2 .get .ensures) (i .index .ensures .0)) _ (w2 .wide .ensures .0) (n .if1 .left) _ (omega (arith, w2 .wide .ensures .0, n2 .if2 .left)) (omega (arith, n3 .if3 .left, i2 .index2 .ensures .0)) (named _ (g .get2 .ensures) (i3 .index3 .ensures .0))) (w .write .ensures .0) (w .write .ensures .1 ∙ ap (λ (k : ℕ). cond (s .args .more) (put (lent (s .args .sk .now) (s .args .sn .now)) (w2 .wide .result - k - 1) (wordIs (g .get2 .result))) (lent (s .args .sk .now) (s .args .sn .now))) (i2 .index2 .ensures .0))
 
 pub poke-through-spec : {M : Type 1} → statement M
 poke-through-spec =
-    tie.close
-    (tie.spec
-    index-requires
-    get-requires
-    stuck-requires
-    returns
-    stuck-requires-2
-    returns-2
-    wide-requires
-    index-requires-2
-    stuck-requires-3
-    returns-3
-    index-requires-3
-    get-requires-2
-    sub-write
-    sub-write-2
-    add-write
-    write-requires
-    same-length
-    same-length-2
-    returns-4)
+    tie.close (tie.spec (λ c κs. search needs) (λ c κs. search needs) (λ c κs. search) returns (λ c κs. search) returns-2 (λ c κs. search)
+    (λ c κs. search needs) (λ c κs. search) returns-3 (λ c κs. search needs) (λ c κs. search needs) (λ c. search needs)
+    (λ c. search needs) (λ c. search needs) (λ c κs. search needs) (λ c. search) (λ c. search) returns-4)

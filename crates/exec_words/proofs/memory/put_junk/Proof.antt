@@ -20,66 +20,28 @@ Inv-loop kinds₀ numbers₀ from n start count i₀ kinds numbers i =
 abbrev μ-loop : tie.MeasureT-loop
 μ-loop kinds₀ numbers₀ from n start count i₀ kinds numbers i = count - i
 
-wide-requires : tie.Need-wide-requires Inv-loop μ-loop
-wide-requires c κs = search needs
-
-wide-requires-2 : tie.Need-wide-requires-2 Inv-loop μ-loop
-wide-requires-2 c κs = search needs
-
 loop-holds : tie.Need-loop-holds Inv-loop μ-loop
 loop-holds c =
-    let a = c .before .before .before .before .args in
-    (search needs, refl, refl, rw (add-zero, sub-zero) (ap₂ (λ (x y : ℕ). puts (lent (a .kinds .now) (a .numbers .now)) x (replicate y junkWord)) (c .before .wide .ensures .0) (c .wide2 .ensures .0)))
-
-add-set : tie.Need-add-set Inv-loop μ-loop
-add-set c = search needs
-
-set-requires : tie.Need-set-requires Inv-loop μ-loop
-set-requires c κs = search needs
-
-add-i : tie.Need-add-i Inv-loop μ-loop
-add-i c = search needs
-
-loop-less : tie.Need-loop-less Inv-loop μ-loop
-loop-less c = search needs
+    let w : tie.After-wide Inv-loop μ-loop = search in
+    let s : tie.Start Inv-loop μ-loop = search in
+    (search needs, refl, refl, rw (add-zero, sub-zero) (ap₂ (λ (x y : ℕ). puts (lent (s .args .kinds .now) (s .args .numbers .now)) x (replicate y junkWord)) (w .wide .ensures .0) (c .wide2 .ensures .0)))
 
 loop-again : tie.Need-loop-again Inv-loop μ-loop
 loop-again c =
-    let l = c .before .before .before .before .before .before .before .before .loop in
-    let s = c .before .before .before .before .before .before .before .before .before .before .wide .result in
-    let p = c .before .before .before .before .set in
-    let e : s + (l .i + 1) ≡ suc (s + l .i) = omega arith in (
-      search needs,
-      p .kept .0 ∙ l .inv .1,
-      p .kept .1 .0 ∙ l .inv .2,
-      one-written (lent (l .kinds) (l .numbers)) (s + l .i) (s + (l .i + 1)) (λ t. replicate t junkWord) (λ t. replicate t junkWord) junkWord (c .before .before .before .before .before .before .before .before .before .wide2 .result) (l .i) (c .before .before .before .before .before .before .before .loop-test .taken) e (λ t. refl) (p .ensures) (l .inv .3),
-    )
-
-same-length : tie.Need-same-length Inv-loop μ-loop
-same-length c = c .before .loop .inv .1
-
-same-length-2 : tie.Need-same-length-2 Inv-loop μ-loop
-same-length-2 c = c .before .loop .inv .2
+    let s2 : tie.After-set Inv-loop μ-loop = search in
+    let i2 : tie.In-loop Inv-loop μ-loop = search in
+    let l2 : tie.At-loop Inv-loop μ-loop = search in
+    let w : tie.After-wide Inv-loop μ-loop = search in
+    let s = w .wide .result in
+    let e : s + (l2 .loop .i + 1) ≡ suc (s + l2 .loop .i) = omega arith in
+    (search needs, s2 .set .kept .0 ∙ l2 .loop .inv .1, s2 .set .kept .1 .0 ∙ l2 .loop .inv .2, one-written _ _ _ (λ t. replicate t junkWord) (λ t. replicate t junkWord) junkWord _ _ (i2 .loop-test .taken) e (λ t. refl) (s2 .set .ensures) (search))
 
 returns : tie.Need-returns Inv-loop μ-loop
 returns c =
-    let l = c .before .loop in
-    nothing-left (c .before .before .before .wide .result + l .i) (λ t. replicate t junkWord) (c .before .before .wide2 .result) (l .i) (c .loop-test .left) refl (l .inv .3)
+    let l2 : tie.At-loop Inv-loop μ-loop = search in
+    nothing-left _ (λ t. replicate t junkWord) _ _ (c .loop-test .left) refl (l2 .loop .inv .3)
 
 pub put-junk-spec : {M : Type 1} → statement M
 put-junk-spec =
-    tie.close
-    (tie.spec
-    Inv-loop
-    μ-loop
-    wide-requires
-    wide-requires-2
-    loop-holds
-    add-set
-    set-requires
-    add-i
-    loop-less
-    loop-again
-    same-length
-    same-length-2
-    returns)
+    tie.close (tie.spec Inv-loop μ-loop (λ c κs. search) (λ c κs. search) loop-holds (λ c. search needs) (λ c κs. search needs)
+    (λ c. search needs) (λ c. search needs) loop-again (λ c. search) (λ c. search) returns)

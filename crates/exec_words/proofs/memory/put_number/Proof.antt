@@ -4,23 +4,8 @@ use borrow.Author.Needs.{needs}
 use Rattle.exec_words.proofs.memory.put_number.Statement.{statement}
 use Rattle.exec_words.proofs.memory.put_number.Tie as tie
 
-mul-numbers : tie.Need-mul-numbers
-mul-numbers c = search needs
-
-slice-write-numbers : tie.Need-slice-write-numbers
-slice-write-numbers c = search needs
-
-same-length : tie.Need-same-length
-same-length c = search needs
-
-returns : tie.Need-returns
-returns c = search needs
-
 returns-2 : tie.Need-returns-2
-returns-2 c =
-    let a = c .before .args in
-    sym (set-out (a .numbers .now) (a .i) (a .n) (c .if1 .left))
+returns-2 c = sym (set-out _ _ _ (search))
 
 pub put-number-spec : {M : Type 1} → statement M
-put-number-spec =
-    tie.close (tie.spec mul-numbers slice-write-numbers same-length returns returns-2)
+put-number-spec = tie.close (tie.spec (λ c. search needs) (λ c. search) (λ c. search needs) (λ c. search) returns-2)

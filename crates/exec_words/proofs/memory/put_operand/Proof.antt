@@ -9,85 +9,42 @@ use borrow.Author.Needs.{needs}
 use Rattle.exec_words.proofs.memory.put_operand.Statement.{statement}
 use Rattle.exec_words.proofs.memory.put_operand.Tie as tie
 
-mul-k : tie.Need-mul-k
-mul-k c = search needs
-
-mul-k-2 : tie.Need-mul-k-2
-mul-k-2 c = search needs
-
-shared-slice-read-k : tie.Need-shared-slice-read-k
-shared-slice-read-k c = search needs
-
-mul-m : tie.Need-mul-m
-mul-m c = search needs
-
-shared-slice-read-m : tie.Need-shared-slice-read-m
-shared-slice-read-m c = search needs
-
-wide-requires : tie.Need-wide-requires
-wide-requires c κs = search needs
+abbrev start-of-set-arg : tie.After-set-arg → tie.Start
+start-of-set-arg x = search
 
 get-requires : tie.Need-get-requires
 get-requires c κs =
-    let q : getD (((c .before .before .before .before .before .before .before .before .before .before .before .before .args) .bases) .now) ((c .before .before .before .before .before .before .before .before .before .before .before .before .args) .v) 0 < 8 = (c .before .before .before .before .before .before .before .before .before .before .before .before .pre) .6 ((c .before .before .before .if1) .taken) in
-    (omega (arith, q, (c .wide) .ensures .0, (c .before .before .before .before .before .before .before .before .before .before .before .before .pre) .2), omega (arith, q, (c .wide) .ensures .0, (c .before .before .before .before .before .before .before .before .before .before .before .before .pre) .3))
-
-set-requires : tie.Need-set-requires
-set-requires c κs = search needs
-
-same-length : tie.Need-same-length
-same-length c = search needs
-
-same-length-2 : tie.Need-same-length-2
-same-length-2 c = search needs
+    let s : tie.Start = search in
+    let q : getD (s .args .bases .now) (s .args .v) 0 < 8 = s .pre .6 (search) in
+    (omega (arith, q), omega (arith, q))
 
 returns : tie.Need-returns
-returns c = (c .before .before .before .before .set) .ensures ∙ ap (λ (w : Word). put (lent (((c .before .before .before .before .before .before .before .before .before .before .before .before .before .before .before .before .before .before .args) .kinds) .now) (((c .before .before .before .before .before .before .before .before .before .before .before .before .before .before .before .before .before .before .args) .numbers) .now)) ((c .before .before .before .before .before .before .before .before .before .before .before .before .before .before .before .before .before .before .args) .i) w) (operand-reg (lent (((c .before .before .before .before .before .before .before .before .before .before .before .before .before .before .before .before .before .before .args) .rk) .now) (((c .before .before .before .before .before .before .before .before .before .before .before .before .before .before .before .before .before .before .args) .rn) .now)) (((c .before .before .before .before .before .before .before .before .before .before .before .before .before .before .before .before .before .before .args) .operands) .now) (((c .before .before .before .before .before .before .before .before .before .before .before .before .before .before .before .before .before .before .args) .bases) .now) ((c .before .before .before .before .before .before .before .before .before .before .before .before .before .before .before .before .before .before .args) .v) ((c .before .before .before .before .before .before .before .before .before .if1) .taken) ((c .before .before .before .before .before .before .wide) .ensures .0) ((c .before .before .before .before .before .get) .ensures))
-
-set-requires-2 : tie.Need-set-requires-2
-set-requires-2 c κs = search needs
-
-same-length-3 : tie.Need-same-length-3
-same-length-3 c = search needs
-
-same-length-4 : tie.Need-same-length-4
-same-length-4 c = search needs
+returns c =
+    let s : tie.After-set = search in
+    let g : tie.After-get = search in
+    let w2 : tie.After-wide = search in
+    let y : tie.Then1 = search in
+    let s3 : tie.After-set-arg = search in
+    let s2 = start-of-set-arg s3 in
+    s .set .ensures ∙ ap (λ (w : Word). put (lent (s2 .args .kinds .now) (s2 .args .numbers .now)) (s2 .args .i) w) (operand-reg (lent (s2 .args .rk .now) (s2 .args .rn .now)) (s2 .args .operands .now) (s2 .args .bases .now) (s2 .args .v) (y .if1 .taken) (w2 .wide .ensures .0) (g .get .ensures))
 
 returns-2 : tie.Need-returns-2
-returns-2 c = (c .before .before .before .before .set2) .ensures ∙ ap (λ (w : Word). put (lent (((c .before .before .before .before .before .before .before .before .before .before .before .before .before .before .before .before .before .args) .kinds) .now) (((c .before .before .before .before .before .before .before .before .before .before .before .before .before .before .before .before .before .args) .numbers) .now)) ((c .before .before .before .before .before .before .before .before .before .before .before .before .before .before .before .before .before .args) .i) w) (operand-lit (lent (((c .before .before .before .before .before .before .before .before .before .before .before .before .before .before .before .before .before .args) .rk) .now) (((c .before .before .before .before .before .before .before .before .before .before .before .before .before .before .before .before .before .args) .rn) .now)) (((c .before .before .before .before .before .before .before .before .before .before .before .before .before .before .before .before .before .args) .operands) .now) (((c .before .before .before .before .before .before .before .before .before .before .before .before .before .before .before .before .before .args) .bases) .now) ((c .before .before .before .before .before .before .before .before .before .before .before .before .before .before .before .before .before .args) .v) ((c .before .before .before .before .before .before .before .if2) .taken))
-
-set-requires-3 : tie.Need-set-requires-3
-set-requires-3 c κs = search needs
-
-same-length-5 : tie.Need-same-length-5
-same-length-5 c = search needs
-
-same-length-6 : tie.Need-same-length-6
-same-length-6 c = search needs
+returns-2 c =
+    let s : tie.After-set2 = search in
+    let y : tie.Then2 = search in
+    let s2 : tie.Start = search in
+    s .set2 .ensures ∙ ap (λ (w : Word). put (lent (s2 .args .kinds .now) (s2 .args .numbers .now)) (s2 .args .i) w) (operand-lit (lent (s2 .args .rk .now) (s2 .args .rn .now)) (s2 .args .operands .now) (s2 .args .bases .now) (s2 .args .v) (y .if2 .taken))
 
 returns-3 : tie.Need-returns-3
-returns-3 c = (c .before .before .before .before .set3) .ensures ∙ ap (λ (w : Word). put (lent (((c .before .before .before .before .before .before .before .before .before .before .before .before .before .before .before .before .before .args) .kinds) .now) (((c .before .before .before .before .before .before .before .before .before .before .before .before .before .before .before .before .before .args) .numbers) .now)) ((c .before .before .before .before .before .before .before .before .before .before .before .before .before .before .before .before .before .args) .i) w) (operand-lab (lent (((c .before .before .before .before .before .before .before .before .before .before .before .before .before .before .before .before .before .args) .rk) .now) (((c .before .before .before .before .before .before .before .before .before .before .before .before .before .before .before .before .before .args) .rn) .now)) (((c .before .before .before .before .before .before .before .before .before .before .before .before .before .before .before .before .before .args) .operands) .now) (((c .before .before .before .before .before .before .before .before .before .before .before .before .before .before .before .before .before .args) .bases) .now) ((c .before .before .before .before .before .before .before .before .before .before .before .before .before .before .before .before .before .args) .v) ((c .before .before .before .before .before .before .before .before .if1) .left) ((c .before .before .before .before .before .before .before .if2) .left))
+returns-3 c =
+    let s : tie.After-set3 = search in
+    let n2 : tie.Else2 = search in
+    let n : tie.Else1 = search in
+    let s2 : tie.Start = search in
+    s .set3 .ensures ∙ ap (λ (w : Word). put (lent (s2 .args .kinds .now) (s2 .args .numbers .now)) (s2 .args .i) w) (operand-lab (lent (s2 .args .rk .now) (s2 .args .rn .now)) (s2 .args .operands .now) (s2 .args .bases .now) (s2 .args .v) (n .if1 .left) (n2 .if2 .left))
 
 pub put-operand-spec : {M : Type 1} → statement M
 put-operand-spec =
-    tie.close
-    (tie.spec
-    mul-k
-    mul-k-2
-    shared-slice-read-k
-    mul-m
-    shared-slice-read-m
-    wide-requires
-    get-requires
-    set-requires
-    same-length
-    same-length-2
-    returns
-    set-requires-2
-    same-length-3
-    same-length-4
-    returns-2
-    set-requires-3
-    same-length-5
-    same-length-6
-    returns-3)
+    tie.close (tie.spec (λ c. search needs) (λ c. search needs) (λ c. search) (λ c. search needs) (λ c. search) (λ c κs. search)
+    get-requires (λ c κs. search) (λ c. search) (λ c. search) returns (λ c κs. search) (λ c. search) (λ c. search) returns-2
+    (λ c κs. search) (λ c. search) (λ c. search) returns-3)

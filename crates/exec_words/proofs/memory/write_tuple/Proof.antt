@@ -21,87 +21,46 @@ Inv-loop kinds₀ numbers₀ operands bases rk rn v n first count i₀ kinds num
 abbrev μ-loop : tie.MeasureT-loop
 μ-loop kinds₀ numbers₀ operands bases rk rn v n first count i₀ kinds numbers i = count - i
 
-wide-requires : tie.Need-wide-requires Inv-loop μ-loop
-wide-requires c κs = search needs
-
-wide-requires-2 : tie.Need-wide-requires-2 Inv-loop μ-loop
-wide-requires-2 c κs = search needs
-
-set-requires : tie.Need-set-requires Inv-loop μ-loop
-set-requires c κs = search needs
-
-loop-holds : tie.Need-loop-holds Inv-loop μ-loop
-loop-holds c = (search needs, refl, refl, refl)
-
-add-put-operand : tie.Need-add-put-operand Inv-loop μ-loop
-add-put-operand c = search needs
-
-add-put-operand-2 : tie.Need-add-put-operand-2 Inv-loop μ-loop
-add-put-operand-2 c = search needs
+abbrev start-of-put-operand-arg : tie.After-put-operand-arg Inv-loop μ-loop → tie.Start Inv-loop μ-loop
+start-of-put-operand-arg x = search
 
 put-operand-requires : tie.Need-put-operand-requires Inv-loop μ-loop
 put-operand-requires c κs =
-    let a = (c .before .before .before .before .before .before .before .before .before .before .before .before .before .before .before .before .before .before .before .args) in
-    let p = (c .before .before .before .before .before .before .before .before .before .before .before .before .before .before .before .before .before .before .before .pre) in
-    let l = (c .before .before .before .loop) in
-    let w = (c .before .before .before .before .before .before .before .before .before .before .before .before .wide) .ensures .0 in
-    let h : l .i < a .n = omega (arith, (c .before .before .loop-test) .taken, (c .before .before .before .before .before .before .before .before .before .before .before .wide2) .ensures .0) in
-    (omega (arith, h, p .0, l .inv .1, (c .before .before .before .before .before .before .before .before .set) .kept .0), omega (arith, h, p .1, l .inv .2, (c .before .before .before .before .before .before .before .before .set) .kept .1 .0), p .2, p .3, omega (arith, w, h, p .4 .operands), omega (arith, w, h, p .4 .bases), low-at (a .operands .now) (a .bases .now) (a .v) (a .n) ((c .before .before .before .before .before .before .before .before .before .before .before .before .wide) .result) (l .i) (p .4) w h)
-
-add-i : tie.Need-add-i Inv-loop μ-loop
-add-i c = search needs
-
-loop-less : tie.Need-loop-less Inv-loop μ-loop
-loop-less c = search needs
+    let i2 : tie.In-loop Inv-loop μ-loop = search in
+    let l2 : tie.At-loop Inv-loop μ-loop = search in
+    let s2 : tie.After-set Inv-loop μ-loop = search in
+    let w3 : tie.After-wide2 Inv-loop μ-loop = search in
+    let w2 : tie.After-wide Inv-loop μ-loop = search in
+    let p2 : tie.After-put-operand-arg Inv-loop μ-loop = search in
+    let s = start-of-put-operand-arg p2 in
+    let w = w2 .wide .ensures .0 in
+    let h : l2 .loop .i < s .args .n = omega (arith, i2 .loop-test .taken, w3 .wide2 .ensures .0) in
+    (omega (arith, h, s .pre .0, l2 .loop .inv .1, s2 .set .kept .0), omega (arith, h, s .pre .1, l2 .loop .inv .2, s2 .set .kept .1 .0), search, search, omega (arith, w, h, s .pre .4 .operands), omega (arith, w, h, s .pre .4 .bases), low-at _ _ _ _ _ _ (s .pre .4) w h)
 
 loop-again : tie.Need-loop-again Inv-loop μ-loop
 loop-again c =
-    let a = (c .before .before .before .before .before .before .before .before .before .before .before .before .before .before .before .before .before .before .before .before .before .before .before .before .args) in
-    let l = (c .before .before .before .before .before .before .before .before .loop) in
-    let s = (c .before .before .before .before .before .before .before .before .before .before .before .before .before .before .before .before .before .wide) .result in
-    let p = (c .before .before .before .before .put-operand) in
-    let ω : OperandTable = operandTable (a .operands .now) (a .bases .now) in
-    let R : Memory = lent (a .rk .now) (a .rn .now) in
-    let e : (l .i + 1) + 1 ≡ suc (l .i + 1) = omega arith in
-    let w : Word = wordOf R (operandAt ω (s + l .i)) in (
-      search needs,
-      p .kept .0 ∙ l .inv .1,
-      p .kept .1 .0 ∙ l .inv .2,
-      one-written (lent (l .kinds) (l .numbers)) (l .i + 1) ((l .i + 1) + 1) (λ t. components ω R (s + l .i) t) (λ t. components ω R (s + (l .i + 1)) t) w ((c .before .before .before .before .before .before .before .before .before .before .before .before .before .before .before .before .wide2) .result) (l .i) ((c .before .before .before .before .before .before .before .loop-test) .taken) e (λ t. next-component ω R s (l .i) t) (p .ensures) (l .inv .3),
-    )
-
-same-length : tie.Need-same-length Inv-loop μ-loop
-same-length c = (c .before .loop) .inv .1 ∙ (c .before .before .before .before .before .before .set) .kept .0
-
-same-length-2 : tie.Need-same-length-2 Inv-loop μ-loop
-same-length-2 c = (c .before .loop) .inv .2 ∙ (c .before .before .before .before .before .before .set) .kept .1 .0
+    let p2 : tie.After-put-operand Inv-loop μ-loop = search in
+    let i2 : tie.In-loop Inv-loop μ-loop = search in
+    let l2 : tie.At-loop Inv-loop μ-loop = search in
+    let w2 : tie.After-wide Inv-loop μ-loop = search in
+    let s = w2 .wide .result in
+    let ω : OperandTable = operandTable _ _ in
+    let R : Memory = lent _ _ in
+    let e : (l2 .loop .i + 1) + 1 ≡ suc (l2 .loop .i + 1) = omega arith in
+    let w : Word = wordOf R (operandAt ω _) in
+    (search needs, p2 .put-operand .kept .0 ∙ l2 .loop .inv .1, p2 .put-operand .kept .1 .0 ∙ l2 .loop .inv .2, one-written _ _ _ (λ t. components ω R (s + l2 .loop .i) t) (λ t. components ω R _ t) w _ _ (i2 .loop-test .taken) e (λ t. next-component ω R s _ t) (p2 .put-operand .ensures) (l2 .loop .inv .3))
 
 returns : tie.Need-returns Inv-loop μ-loop
 unfolding operandsAt
 returns c =
-    let a = (c .before .before .before .before .before .before .before .before .before .before .before .before .before .before .before .before .before .args) in
-    let l = (c .before .loop) in
-    let ω : OperandTable = operandTable (a .operands .now) (a .bases .now) in
-    let R : Memory = lent (a .rk .now) (a .rn .now) in
-    nothing-left (l .i + 1) (λ t. components ω R ((c .before .before .before .before .before .before .before .before .before .before .wide) .result + l .i) t) ((c .before .before .before .before .before .before .before .before .before .wide2) .result) (l .i) ((c .loop-test) .left) refl (l .inv .3)
-    ∙ length-word ω R (lent (a .kinds .now) (a .numbers .now)) (a .v) (a .n) ((c .before .before .before .before .before .before .before .before .before .before .wide) .result) ((c .before .before .before .before .before .before .before .before .before .wide2) .result) ((c .before .before .before .before .before .before .before .before .before .before .wide) .ensures .0) ((c .before .before .before .before .before .before .before .before .before .wide2) .ensures .0) ((c .before .before .before .before .before .before .set) .ensures)
+    let l2 : tie.At-loop Inv-loop μ-loop = search in
+    let w2 : tie.After-wide2 Inv-loop μ-loop = search in
+    let w : tie.After-wide Inv-loop μ-loop = search in
+    let ω : OperandTable = operandTable _ _ in
+    let R : Memory = lent _ _ in
+    nothing-left _ (λ t. components ω R (w .wide .result + l2 .loop .i) t) _ _ (c .loop-test .left) refl (l2 .loop .inv .3) ∙ length-word ω R _ _ _ _ _ (w .wide .ensures .0) (w2 .wide2 .ensures .0) (search)
 
 pub write-tuple-spec : {M : Type 1} → statement M
 write-tuple-spec =
-    tie.close
-    (tie.spec
-    Inv-loop
-    μ-loop
-    wide-requires
-    wide-requires-2
-    set-requires
-    loop-holds
-    add-put-operand
-    add-put-operand-2
-    put-operand-requires
-    add-i
-    loop-less
-    loop-again
-    same-length
-    same-length-2
-    returns)
+    tie.close (tie.spec Inv-loop μ-loop (λ c κs. search) (λ c κs. search) (λ c κs. search needs) (λ c. search needs) (λ c. search needs)
+    (λ c. search needs) put-operand-requires (λ c. search needs) (λ c. search needs) loop-again (λ c. search) (λ c. search) returns)
