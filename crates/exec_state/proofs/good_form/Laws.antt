@@ -58,6 +58,14 @@ unmarked zero h = absurd (h refl)
 unmarked (suc k) h = refl
 
 -- ---- the walk
+-- the walk is before word i of those used, with k components left; what it found so far is in `starts`
+pub record Marking (m : Memory) (used : ℕ) (starts₀ starts : List ℕ) (k i : ℕ) : Type 0 where
+  pub passed : i ≤ used
+  pub few : k ≤ 16
+  pub size : length starts ≡ length starts₀
+  pub rest : endToEnd (wordsFrom m i (used - i)) k ≡ endToEnd (wordsFrom m 0 used) 0
+  pub marks : take i starts ++ marksFrom (wordsFrom m i (used - i)) k ≡ marksFrom (wordsFrom m 0 used) 0
+
 -- a word of the walk, with k components left before it
 walked : (w : Word) (ws : List Word) (k : ℕ) → k ≤ 16 → endToEnd (w ∷ ws) k ≡ leb (leftAfter k w) 16 && endToEnd ws (leftAfter k w)
 unfolding endToEnd leftAfter
