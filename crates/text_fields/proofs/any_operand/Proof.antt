@@ -1,11 +1,10 @@
+use borrow.Author.Needs.{needs}
 -- `text_fields::any_operand` meets its contract.
 -- Assumes nothing.
 use mathlib.Core.Path.{ap, sym, _∙_}
 use mathlib.Core.List.{List}
 use mathlib.Core.Option.{Option}
-use Prim.Native.Nat.{ℕ, _+_, _-_, _<_, _≤_, zero-le}
-use native.Mathlib.Nat.{le-refl, le-of-lt}
-use native.Mathlib.Numerals.{add-one-le}
+use Prim.Native.Nat.{ℕ, _+_, _-_, _<_, _≤_}
 use native.Mathlib.Omega.{arith}
 use lib.ListN.{length, take, drop, length-drop}
 use lib.Seq.{sets}
@@ -15,92 +14,43 @@ use Rattle.text.specs.Grammar.{carried, operand}
 use Rattle.text_lines.specs.Parts.{firstPart}
 use Rattle.text_fields.proofs.numbers.Laws.{part-from}
 use Rattle.text_fields.specs.plain_operands.Answers.{answerOf, argsOf}
-use Rattle.text_fields.proofs.Stores.{fits-next}
 use Rattle.text_fields.proofs.Operands.{nothing-is, plain-is, field-plain, field-more, field-sides}
 use Rattle.text_fields.proofs.any_operand.Statement.{statement}
 use Rattle.text_fields.proofs.any_operand.Tie as tie
 
-part-end-requires : tie.Need-part-end-requires
-part-end-requires c κs = tt
-
-base-requires : tie.Need-base-requires
-base-requires c κs = tt
-
 returns : tie.Need-returns
 returns c =
-    let a = c .before .before .before .before .before .args in
-    let p = c .before .before .part-end in
-    plain-is (a .f .now) (operand (a .f .now)) (a .out .now) (a .at) (c .base .result) (field-plain (a .f .now) (p .result) (p .ensures) (c .before .if1 .taken)) (c .base .ensures)
-
-add-k : tie.Need-add-k
-add-k c = fits-next (c .if1 .left) (c .before .before .before .before .good .0 .0)
-
-sub-t : tie.Need-sub-t
-sub-t c = add-one-le (c .if1 .left)
-
-part-t-start : tie.Need-part-t-start
-part-t-start c = add-one-le (c .if1 .left)
-
-part-t-end : tie.Need-part-t-end
-part-t-end c = le-refl (length (c .before .before .before .before .args .f .now))
-
-part-end-requires-2 : tie.Need-part-end-requires-2
-part-end-requires-2 c κs = tt
-
-no-operand-requires : tie.Need-no-operand-requires
-no-operand-requires c κs = tt
+    let p2 : tie.After-part-end = search in
+    plain-is _ _ _ _ _ (field-plain _ _ (p2 .part-end .ensures) (search)) (search)
 
 returns-2 : tie.Need-returns-2
 returns-2 c =
-    let a = c .before .before .before .before .before .before .before .before .args in
-    let p = c .before .before .before .before .before .part-end in
-    let f = a .f .now in
-    let d = c .before .before .part-end2 .ensures ∙ ap (λ (s : List ℕ). 0 + length (firstPart 61 (drop 0 s))) (part-from f (p .result + 1)) in
-    let k : (c .before .before .part-end2) .result < length (drop (p .result + 1) f) = omega (arith, length-drop (p .result + 1) f, c .before .if2 .taken) in
-    nothing-is (operand f) (a .out .now) (a .at) (c .no-operand .result) (field-more f (p .result) (p .ensures) (c .before .before .before .before .if1 .left) (c .before .before .part-end2 .result) d k) (c .no-operand .ensures)
-
-sub-carried : tie.Need-sub-carried
-sub-carried c = zero-le
-
-part-carried-start : tie.Need-part-carried-start
-part-carried-start c = zero-le
-
-part-carried-end : tie.Need-part-carried-end
-part-carried-end c = le-of-lt (c .before .before .before .if1 .left)
-
-carried-requires : tie.Need-carried-requires
-carried-requires c κs = tt
-
-same-length : tie.Need-same-length
-same-length c = c .before .before .carried .kept .1 .1 .0
+    let y : tie.Then2 = search in
+    let p2 : tie.After-part-end2 = search in
+    let n : tie.Else1 = search in
+    let p3 : tie.After-part-end = search in
+    let s2 : tie.Start = search in
+    let f = s2 .args .f .now in
+    let d = p2 .part-end2 .ensures ∙ ap (λ (s : List ℕ). 0 + length (firstPart 61 (drop 0 s))) (part-from f (p3 .part-end .result + 1)) in
+    let k : p2 .part-end2 .result < length (drop (p3 .part-end .result + 1) f) = omega (arith, length-drop (p3 .part-end .result + 1) f, y .if2 .taken) in
+    nothing-is (operand f) (s2 .args .out .now) (s2 .args .at) (c .no-operand .result) (field-more f (p3 .part-end .result) (p3 .part-end .ensures) (n .if1 .left) (p2 .part-end2 .result) d k) (c .no-operand .ensures)
 
 returns-3 : tie.Need-returns-3
 returns-3 c =
-    let a = c .before .before .before .before .before .before .before .before .before .before .before .before .args in
-    let p = c .before .before .before .before .before .before .before .before .before .part-end in
-    let f = a .f .now in
-    let d = c .before .before .before .before .before .before .part-end2 .ensures ∙ ap (λ (s : List ℕ). 0 + length (firstPart 61 (drop 0 s))) (part-from f (p .result + 1)) in
-    let k : length (drop (p .result + 1) f) ≤ (c .before .before .before .before .before .before .part-end2) .result = omega (arith, length-drop (p .result + 1) f, c .before .before .before .before .before .if2 .left) in
-    let e = ap (carried (split 58 (take (p .result - 0) (drop 0 f)))) (part-from f (p .result + 1)) ∙ sym (field-sides f (p .result) (p .ensures) (c .before .before .before .before .before .before .before .before .if1 .left) (c .before .before .before .before .before .before .part-end2 .result) d k) in
-    record { answer = c .before .before .carried .ensures .answer ∙ ap answerOf e; stored = c .before .before .carried .ensures .stored ∙ ap (λ (o : Option Operand). sets (a .out .now) (a .at) (argsOf o)) e }
+    let c2 : tie.After-carried = search in
+    let n : tie.Else2 = search in
+    let p2 : tie.After-part-end2 = search in
+    let n2 : tie.Else1 = search in
+    let p3 : tie.After-part-end = search in
+    let s2 : tie.Start = search in
+    let f = s2 .args .f .now in
+    let d = p2 .part-end2 .ensures ∙ ap (λ (s : List ℕ). 0 + length (firstPart 61 (drop 0 s))) (part-from f (p3 .part-end .result + 1)) in
+    let k : length (drop (p3 .part-end .result + 1) f) ≤ p2 .part-end2 .result = omega (arith, length-drop (p3 .part-end .result + 1) f, n .if2 .left) in
+    let e = ap (carried (split 58 (take (p3 .part-end .result - 0) (drop 0 f)))) (part-from f (p3 .part-end .result + 1)) ∙ sym (field-sides f (p3 .part-end .result) (p3 .part-end .ensures) (n2 .if1 .left) (p2 .part-end2 .result) d k) in
+    record { answer = c2 .carried .ensures .answer ∙ ap answerOf e; stored = c2 .carried .ensures .stored ∙ ap (λ (o : Option Operand). sets (s2 .args .out .now) (s2 .args .at) (argsOf o)) e }
 
 pub any-operand-spec : {M : Type 1} → statement M
 any-operand-spec =
-    tie.close
-    (tie.spec
-    part-end-requires
-    base-requires
-    returns
-    add-k
-    sub-t
-    part-t-start
-    part-t-end
-    part-end-requires-2
-    no-operand-requires
-    returns-2
-    sub-carried
-    part-carried-start
-    part-carried-end
-    carried-requires
-    same-length
-    returns-3)
+    tie.close (tie.spec (λ c κs. search) (λ c κs. search) returns (λ c. search needs) (λ c. search needs) (λ c. search needs)
+    (λ c. search needs) (λ c κs. search) (λ c κs. search) returns-2 (λ c. search needs) (λ c. search needs) (λ c. search needs)
+    (λ c κs. search) (λ c. search) returns-3)

@@ -1,14 +1,14 @@
 -- `text_fields::count_rows` meets its contract: n parts are counted, and those from `i` on are left.
 -- Assumes nothing.
 use borrow.Author.Needs.{needs}
-use mathlib.Core.Path.{_≡_, refl, ap, sym, _∙_}
+use mathlib.Core.Path.{_≡_, ap, sym, _∙_}
 use mathlib.Core.List.{List}
-use Prim.Native.Nat.{ℕ, _≤_, _<_, _-_, _+_}
+use Prim.Native.Nat.{_≤_, _<_, _-_}
 use native.Mathlib.Omega.{arith}
-use lib.ListN.{length, take, drop}
+use lib.ListN.{length, drop}
 use borrow.Author.Tests.{not-true, not-false}
 use Rattle.text.specs.Bytes.{split}
-use Rattle.text_lines.proofs.Parts.{othersOf, end-from, end-within, split-part, split-more, split-last, split-is}
+use Rattle.text_lines.proofs.Parts.{end-within, split-part, split-more, split-last, split-is}
 use Rattle.text_fields.specs.Pieces.{orZero, rowCount}
 use Rattle.text_fields.proofs.Operands.{count-bad, count-more, count-last, count-many}
 use Rattle.text_fields.proofs.count_rows.Statement.{statement}
@@ -20,88 +20,47 @@ Inv-loop s n₀ i₀ n i = (i ≤ length s) × (n ≤ 8) × (rowCount n (split 5
 abbrev μ-loop : tie.MeasureT-loop
 μ-loop s n₀ i₀ n i = 8 - n
 
-loop-holds : tie.Need-loop-holds Inv-loop μ-loop
-loop-holds c = (search needs, search needs, refl)
-
-part-end-requires : tie.Need-part-end-requires Inv-loop μ-loop
-part-end-requires c κs = tt
-
-sub-is-row : tie.Need-sub-is-row Inv-loop μ-loop
-sub-is-row c = end-from 58 (c .before .before .before .before .args .s .now) (c .before .before .loop .i) (c .part-end .result) (c .part-end .ensures)
-
-part-is-row-start : tie.Need-part-is-row-start Inv-loop μ-loop
-part-is-row-start c = end-from 58 (c .before .before .before .before .args .s .now) (c .before .before .loop .i) (c .part-end .result) (c .part-end .ensures)
-
 part-is-row-end : tie.Need-part-is-row-end Inv-loop μ-loop
-part-is-row-end c = end-within 58 (c .before .before .before .before .args .s .now) (c .before .before .loop .i) (c .part-end .result) (c .part-end .ensures) (c .before .before .loop .inv .0)
-
-is-row-requires : tie.Need-is-row-requires Inv-loop μ-loop
-is-row-requires c κs = tt
+part-is-row-end c = end-within 58 _ _ _ (c .part-end .ensures) (search)
 
 returns : tie.Need-returns Inv-loop μ-loop
 returns c =
-    let s = c .before .before .before .before .before .before .before .args .s .now in
-    let l = c .before .before .before .before .before .loop in
-    let e = c .before .before .before .part-end .result in
-    let ps = split 58 (drop (l .i) s) in
-    let p = split-part 58 s (l .i) e (c .before .before .before .part-end .ensures) in
-    let b = sym (c .before .is-row .ensures) ∙ not-true (c .before .is-row .result) (c .if1 .taken) in
-    sym (ap orZero (count-bad (l .n) (take (e - l .i) (drop (l .i) s)) (othersOf ps) b)) ∙ sym (ap (λ (x : List (List ℕ)). orZero (rowCount (l .n) x)) p) ∙ ap orZero (l .inv .2)
-
-add-n : tie.Need-add-n Inv-loop μ-loop
-add-n c = search needs
+    let i2 : tie.After-is-row Inv-loop μ-loop = search in
+    let p2 : tie.After-part-end Inv-loop μ-loop = search in
+    let l2 : tie.At-loop Inv-loop μ-loop = search in
+    let p = split-part 58 _ _ _ (p2 .part-end .ensures) in
+    let b = sym (i2 .is-row .ensures) ∙ not-true _ (search) in
+    sym (ap orZero (count-bad _ _ _ b)) ∙ sym (ap (λ (x : List _). orZero (rowCount (l2 .loop .n) x)) p) ∙ ap orZero (l2 .loop .inv .2)
 
 returns-2 : tie.Need-returns-2 Inv-loop μ-loop
 returns-2 c =
-    let s = c .before .before .before .before .before .before .before .before .args .s .now in
-    let l = c .before .before .before .before .before .before .loop in
-    let e = c .before .before .before .before .part-end .result in
-    let p = split-last 58 s (l .i) e (c .before .before .before .before .part-end .ensures) (c .if2 .taken) in
-    let b = sym (c .before .before .is-row .ensures) ∙ not-false (c .before .before .is-row .result) (c .before .if1 .left) in
-    sym (ap orZero (count-last (l .n) (take (e - l .i) (drop (l .i) s)) (c .before .before .before .before .before .loop-test .taken) b)) ∙ sym (ap (λ (x : List (List ℕ)). orZero (rowCount (l .n) x)) p) ∙ ap orZero (l .inv .2)
-
-add-i : tie.Need-add-i Inv-loop μ-loop
-add-i c = omega (arith, c .if2 .left)
-
-loop-less : tie.Need-loop-less Inv-loop μ-loop
-loop-less c = search needs
+    let i2 : tie.After-is-row Inv-loop μ-loop = search in
+    let p2 : tie.After-part-end Inv-loop μ-loop = search in
+    let i3 : tie.In-loop Inv-loop μ-loop = search in
+    let l2 : tie.At-loop Inv-loop μ-loop = search in
+    let p = split-last 58 _ _ _ (p2 .part-end .ensures) (search) in
+    let b = sym (i2 .is-row .ensures) ∙ not-false _ (search) in
+    sym (ap orZero (count-last _ _ (i3 .loop-test .taken) b)) ∙ sym (ap (λ (x : List _). orZero (rowCount (l2 .loop .n) x)) p) ∙ ap orZero (l2 .loop .inv .2)
 
 loop-again : tie.Need-loop-again Inv-loop μ-loop
 loop-again c =
-    let s = c .before .before .before .before .before .before .before .before .args .s .now in
-    let l = c .before .before .before .before .before .before .loop in
-    let e = c .before .before .before .before .part-end .result in
-    let p = split-more 58 s (l .i) e (c .before .before .before .before .part-end .ensures) (c .if2 .left) in
-    let b = sym (c .before .before .is-row .ensures) ∙ not-false (c .before .before .is-row .result) (c .before .if1 .left) in (
-      search needs,
-      search needs,
-      sym (count-more (l .n) (take (e - l .i) (drop (l .i) s)) (split 58 (drop (e + 1) s)) b) ∙ sym (ap (rowCount (l .n)) p) ∙ l .inv .2,
-    )
+    let i2 : tie.After-is-row Inv-loop μ-loop = search in
+    let p2 : tie.After-part-end Inv-loop μ-loop = search in
+    let l2 : tie.At-loop Inv-loop μ-loop = search in
+    let p = split-more 58 _ _ _ (p2 .part-end .ensures) (search) in
+    let b = sym (i2 .is-row .ensures) ∙ not-false _ (search) in
+    (search needs, search needs, sym (count-more _ _ _ b) ∙ sym (ap (rowCount _) p) ∙ l2 .loop .inv .2)
 
 returns-3 : tie.Need-returns-3 Inv-loop μ-loop
 returns-3 c =
-    let s = c .before .before .before .args .s .now in
-    let l = c .before .loop in
-    let ps = split 58 (drop (l .i) s) in
-    let q : 0 < length ps = omega (arith, ap length (split-is 58 (drop (l .i) s))) in
-    sym (ap orZero (count-many (l .n) ps (c .loop-test .left) q)) ∙ ap orZero (l .inv .2)
+    let l2 : tie.At-loop Inv-loop μ-loop = search in
+    let s2 : tie.Start Inv-loop μ-loop = search in
+    let s = s2 .args .s .now in
+    let ps = split 58 (drop (l2 .loop .i) s) in
+    let q : 0 < length ps = omega (arith, ap length (split-is 58 (drop (l2 .loop .i) s))) in
+    sym (ap orZero (count-many (l2 .loop .n) ps (c .loop-test .left) q)) ∙ ap orZero (l2 .loop .inv .2)
 
 pub count-rows-spec : {M : Type 1} → statement M
 count-rows-spec =
-    tie.close
-    (tie.spec
-    Inv-loop
-    μ-loop
-    loop-holds
-    part-end-requires
-    sub-is-row
-    part-is-row-start
-    part-is-row-end
-    is-row-requires
-    returns
-    add-n
-    returns-2
-    add-i
-    loop-less
-    loop-again
-    returns-3)
+    tie.close (tie.spec Inv-loop μ-loop (λ c. search needs) (λ c κs. search) (λ c. search needs) (λ c. search needs) part-is-row-end
+    (λ c κs. search) returns (λ c. search needs) returns-2 (λ c. search needs) (λ c. search needs) loop-again returns-3)

@@ -6,20 +6,15 @@ use Rattle.text_fields.specs.Pieces.{isSome}
 use Rattle.text_fields.proofs.is_row.Statement.{statement}
 use Rattle.text_fields.proofs.is_row.Tie as tie
 
-row-number-requires : tie.Need-row-number-requires
-row-number-requires c κs = tt
-
-enum-told : tie.Need-enum-told
-enum-told c = c .match .keys1
-
-enum-told-2 : tie.Need-enum-told-2
-enum-told-2 c = c .match .keys2
-
 returns : tie.Need-returns
-returns c = sym (ap isSome (value-is (c .before .before .row-number .ensures) (c .enum-told .given .1)))
+returns c =
+    let r : tie.After-row-number = search in
+    sym (ap isSome (value-is (r .row-number .ensures) (c .enum-told .given .1)))
 
 returns-2 : tie.Need-returns-2
-returns-2 c = sym (ap isSome (bad-is (c .before .before .row-number .ensures) (c .enum-told2 .given .1)))
+returns-2 c =
+    let r : tie.After-row-number = search in
+    sym (ap isSome (bad-is (r .row-number .ensures) (c .enum-told2 .given .1)))
 
 pub is-row-spec : {M : Type 1} → statement M
-is-row-spec = tie.close (tie.spec row-number-requires enum-told enum-told-2 returns returns-2)
+is-row-spec = tie.close (tie.spec (λ c κs. search) (λ c. search) (λ c. search) returns returns-2)

@@ -7,22 +7,19 @@ use Rattle.text_fields.specs.Pieces.{plainRead}
 use Rattle.text_fields.proofs.plain.Statement.{statement}
 use Rattle.text_fields.proofs.plain.Tie as tie
 
-enum-known-n : tie.Need-enum-known-n
-enum-known-n c = c .match .keys1
-
-enum-told : tie.Need-enum-told
-enum-told c = c .match .keys2
-
-no-operand-requires : tie.Need-no-operand-requires
-no-operand-requires c κs = tt
-
 returns : tie.Need-returns
 unfolding plainRead
-returns c = ap (λ (m : Number). plainRead (c .before .before .before .args .kind) (numberOf m)) (sym (c .before .n .given .1))
+returns c =
+    let n2 : tie.After-n = search in
+    let s : tie.Start = search in
+    ap (λ (m : Number). plainRead (s .args .kind) (numberOf m)) (sym (n2 .n .given .1))
 
 returns-2 : tie.Need-returns-2
 unfolding plainRead
-returns-2 c = c .no-operand .ensures ∙ ap (λ (m : Number). plainRead (c .before .before .before .args .kind) (numberOf m)) (sym (c .before .enum-told .given .1))
+returns-2 c =
+    let e : tie.After-enum-told = search in
+    let s : tie.Start = search in
+    c .no-operand .ensures ∙ ap (λ (m : Number). plainRead (s .args .kind) (numberOf m)) (sym (e .enum-told .given .1))
 
 pub plain-spec : {M : Type 1} → statement M
-plain-spec = tie.close (tie.spec enum-known-n enum-told no-operand-requires returns returns-2)
+plain-spec = tie.close (tie.spec (λ c. search) (λ c. search) (λ c κs. search) returns returns-2)

@@ -1,14 +1,14 @@
 -- `text_fields::put_rows` meets its contract: the parts from `i` on are left to store from `to` on.
 -- Assumes nothing.
 use borrow.Author.Needs.{needs}
-use mathlib.Core.Path.{_≡_, refl, ap, sym, _∙_}
+use mathlib.Core.Path.{_≡_, ap, sym, _∙_}
 use Prim.Native.Nat.{ℕ, _≤_, _-_, _+_}
 use native.Mathlib.Omega.{arith}
-use lib.ListN.{length, take, drop, set, length-set}
+use lib.ListN.{length, drop, set, length-set}
 use lib.Seq.{sets}
 use Rattle.text.specs.Bytes.{split}
 use Rattle.text.specs.Grammar.{rowNumber}
-use Rattle.text_lines.proofs.Parts.{end-from, end-within, split-more, split-last}
+use Rattle.text_lines.proofs.Parts.{end-within, split-more, split-last}
 use Rattle.text_fields.specs.Pieces.{orZero, rowsIn}
 use Rattle.text_fields.proofs.names.Stores.{sets-out, sets-one}
 use Rattle.text_fields.proofs.Operands.{rows-cons, rows-one}
@@ -21,95 +21,36 @@ Inv-loop s out₀ at i₀ to₀ out i to = (i ≤ length s) × (length out ≡ l
 abbrev μ-loop : tie.MeasureT-loop
 μ-loop s out₀ at i₀ to₀ out i to = length out₀ - to
 
-loop-holds : tie.Need-loop-holds Inv-loop μ-loop
-loop-holds c = (search needs, refl, refl)
-
-part-end-requires : tie.Need-part-end-requires Inv-loop μ-loop
-part-end-requires c κs = tt
-
-sub-row-of : tie.Need-sub-row-of Inv-loop μ-loop
-sub-row-of c = end-from 58 (c .before .before .before .before .before .args .s .now) (c .before .before .loop .i) (c .part-end .result) (c .part-end .ensures)
-
-part-row-of-start : tie.Need-part-row-of-start Inv-loop μ-loop
-part-row-of-start c = end-from 58 (c .before .before .before .before .before .args .s .now) (c .before .before .loop .i) (c .part-end .result) (c .part-end .ensures)
-
 part-row-of-end : tie.Need-part-row-of-end Inv-loop μ-loop
-part-row-of-end c = end-within 58 (c .before .before .before .before .before .args .s .now) (c .before .before .loop .i) (c .part-end .result) (c .part-end .ensures) (c .before .before .loop .inv .0)
-
-row-of-requires : tie.Need-row-of-requires Inv-loop μ-loop
-row-of-requires c κs = tt
-
-mul-out : tie.Need-mul-out Inv-loop μ-loop
-mul-out c = omega arith
-
-slice-write-out : tie.Need-slice-write-out Inv-loop μ-loop
-slice-write-out c = omega arith
-
-same-length : tie.Need-same-length Inv-loop μ-loop
-same-length c = simp length-set (c .before .before .before .before .before .loop .inv .1)
+part-row-of-end c = end-within 58 _ _ _ (c .part-end .ensures) (search)
 
 returns : tie.Need-returns Inv-loop μ-loop
 returns c =
-    let s = c .before .before .before .before .before .before .before .before .args .s .now in
-    let l = c .before .before .before .before .before .loop in
-    let e = c .before .before .before .part-end .result in
-    let p = split-last 58 s (l .i) e (c .before .before .before .part-end .ensures) (c .if1 .taken) in
-    ap (set (l .out) (l .to)) (c .before .row-of .ensures)
-    ∙ sym (ap (sets (l .out) (l .to)) (ap rowsIn p ∙ rows-one (take (e - l .i) (drop (l .i) s))))
-    ∙ l .inv .2
-
-add-i : tie.Need-add-i Inv-loop μ-loop
-add-i c = omega (arith, c .if1 .left)
-
-add-to : tie.Need-add-to Inv-loop μ-loop
-add-to c = omega arith
-
-loop-less : tie.Need-loop-less Inv-loop μ-loop
-loop-less c = omega arith
+    let r : tie.After-row-of Inv-loop μ-loop = search in
+    let p2 : tie.After-part-end Inv-loop μ-loop = search in
+    let l2 : tie.At-loop Inv-loop μ-loop = search in
+    let p = split-last 58 _ _ _ (p2 .part-end .ensures) (search) in
+    ap (set (l2 .loop .out) (l2 .loop .to)) (r .row-of .ensures) ∙ sym (ap (sets _ _) (ap rowsIn p ∙ rows-one _)) ∙ l2 .loop .inv .2
 
 loop-again : tie.Need-loop-again Inv-loop μ-loop
 loop-again c =
-    let s = c .before .before .before .before .before .before .before .before .args .s .now in
-    let l = c .before .before .before .before .before .loop in
-    let e = c .before .before .before .part-end .result in
-    let x = take (e - l .i) (drop (l .i) s) in
+    let r : tie.After-row-of Inv-loop μ-loop = search in
+    let p2 : tie.After-part-end Inv-loop μ-loop = search in
+    let l2 : tie.At-loop Inv-loop μ-loop = search in
+    let s2 : tie.Start Inv-loop μ-loop = search in
+    let s = s2 .args .s .now in
+    let e = p2 .part-end .result in
     let vs = rowsIn (split 58 (drop (e + 1) s)) in
-    let p = split-more 58 s (l .i) e (c .before .before .before .part-end .ensures) (c .if1 .left) in (
-      omega (arith, c .if1 .left),
-      simp length-set (l .inv .1),
-      ap (λ (v : ℕ). sets (set (l .out) (l .to) v) (l .to + 1) vs) (c .before .row-of .ensures)
-          ∙ sets-one (l .out) (l .to) (orZero (rowNumber x)) vs
-          ∙ sym (ap (sets (l .out) (l .to)) (ap rowsIn p ∙ rows-cons x (split 58 (drop (e + 1) s))))
-          ∙ l .inv .2,
-    )
-
-same-length-2 : tie.Need-same-length-2 Inv-loop μ-loop
-same-length-2 c = c .before .loop .inv .1
+    let p = split-more 58 _ _ _ (p2 .part-end .ensures) (search) in
+    (omega arith, simp length-set (search), ap (λ (v : ℕ). sets (set (l2 .loop .out) (l2 .loop .to) v) (l2 .loop .to + 1) vs) (r .row-of .ensures) ∙ sets-one (l2 .loop .out) (l2 .loop .to) (orZero (rowNumber _)) vs ∙ sym (ap (sets _ _) (ap rowsIn p ∙ rows-cons _ _)) ∙ l2 .loop .inv .2)
 
 returns-2 : tie.Need-returns-2 Inv-loop μ-loop
 returns-2 c =
-    let l = c .before .loop in
-    sym (sets-out (l .out) (l .to) (rowsIn (split 58 (drop (l .i) (c .before .before .before .before .args .s .now)))) (c .loop-test .left)) ∙ l .inv .2
+    let l2 : tie.At-loop Inv-loop μ-loop = search in
+    sym (sets-out _ _ (rowsIn _) (c .loop-test .left)) ∙ l2 .loop .inv .2
 
 pub put-rows-spec : {M : Type 1} → statement M
 put-rows-spec =
-    tie.close
-    (tie.spec
-    Inv-loop
-    μ-loop
-    loop-holds
-    part-end-requires
-    sub-row-of
-    part-row-of-start
-    part-row-of-end
-    row-of-requires
-    mul-out
-    slice-write-out
-    same-length
-    returns
-    add-i
-    add-to
-    loop-less
-    loop-again
-    same-length-2
-    returns-2)
+    tie.close (tie.spec Inv-loop μ-loop (λ c. search needs) (λ c κs. search) (λ c. search needs) (λ c. search needs) part-row-of-end
+    (λ c κs. search) (λ c. search needs) (λ c. search) (λ c. search needs) returns (λ c. search needs) (λ c. search needs)
+    (λ c. search needs) loop-again (λ c. search) returns-2)

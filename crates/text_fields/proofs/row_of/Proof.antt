@@ -7,24 +7,22 @@ use Rattle.text_fields.proofs.Stores.{fits-row}
 use Rattle.text_fields.proofs.row_of.Statement.{statement}
 use Rattle.text_fields.proofs.row_of.Tie as tie
 
-row-number-requires : tie.Need-row-number-requires
-row-number-requires c κs = tt
-
-enum-known-t : tie.Need-enum-known-t
-enum-known-t c = c .match .keys1
-
 cast-result : tie.Need-cast-result
-cast-result c = fits-row (row-small (c .before .before .before .before .before .args .f .now) (c .before .t .given .0 .0) (value-is (c .before .before .before .row-number .ensures) (c .before .t .given .1)))
-
-enum-told : tie.Need-enum-told
-enum-told c = c .match .keys2
+cast-result c =
+    let t2 : tie.After-t = search in
+    let r : tie.After-row-number = search in
+    fits-row (row-small _ (t2 .t .given .0 .0) (value-is (r .row-number .ensures) (t2 .t .given .1)))
 
 returns : tie.Need-returns
-returns c = sym (ap orZero (value-is (c .before .before .before .row-number .ensures) (c .before .t .given .1)))
+returns c =
+    let t2 : tie.After-t = search in
+    let r : tie.After-row-number = search in
+    sym (ap orZero (value-is (r .row-number .ensures) (t2 .t .given .1)))
 
 returns-2 : tie.Need-returns-2
-returns-2 c = sym (ap orZero (bad-is (c .before .before .row-number .ensures) (c .enum-told .given .1)))
+returns-2 c =
+    let r : tie.After-row-number = search in
+    sym (ap orZero (bad-is (r .row-number .ensures) (c .enum-told .given .1)))
 
 pub row-of-spec : {M : Type 1} → statement M
-row-of-spec =
-    tie.close (tie.spec row-number-requires enum-known-t cast-result enum-told returns returns-2)
+row-of-spec = tie.close (tie.spec (λ c κs. search) (λ c. search) cast-result (λ c. search) returns returns-2)

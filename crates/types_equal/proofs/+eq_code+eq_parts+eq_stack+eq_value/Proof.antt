@@ -127,39 +127,6 @@ c-count2 t c = search
 abbrev c-start : (t : ℕ) → C-Letters t → C-Start t
 c-start t c = search
 
-eq-code-letter-count-requires : (t : ℕ) → eq-code-lts.Need-letter-count-requires (eq-code-claims t) (eq-code-at t) eq-code.Post
-eq-code-letter-count-requires t c κs = search
-
-eq-code-letter-count-requires-2 : (t : ℕ) → eq-code-lts.Need-letter-count-requires-2 (eq-code-claims t) (eq-code-at t) eq-code.Post
-eq-code-letter-count-requires-2 t c κs = search
-
-eq-code-add-same-letters : (t : ℕ) → eq-code-lts.Need-add-same-letters (eq-code-claims t) (eq-code-at t) eq-code.Post
-eq-code-add-same-letters t c = search needs
-
-eq-code-add-same-letters-2 : (t : ℕ) → eq-code-lts.Need-add-same-letters-2 (eq-code-claims t) (eq-code-at t) eq-code.Post
-eq-code-add-same-letters-2 t c = search needs
-
-eq-code-same-letters-requires : (t : ℕ) → eq-code-lts.Need-same-letters-requires (eq-code-claims t) (eq-code-at t) eq-code.Post
-eq-code-same-letters-requires t c κs = search needs
-
-eq-code-cast-t16 : (t : ℕ) → eq-code-lts.Need-cast-t16 (eq-code-claims t) (eq-code-at t) eq-code.Post
-eq-code-cast-t16 t c = search needs
-
-eq-code-add-t17 : (t : ℕ) → eq-code-lts.Need-add-t17 (eq-code-claims t) (eq-code-at t) eq-code.Post
-eq-code-add-t17 t c = search needs
-
-eq-code-cast-t18 : (t : ℕ) → eq-code-lts.Need-cast-t18 (eq-code-claims t) (eq-code-at t) eq-code.Post
-eq-code-cast-t18 t c = search needs
-
-eq-code-cast-t19 : (t : ℕ) → eq-code-lts.Need-cast-t19 (eq-code-claims t) (eq-code-at t) eq-code.Post
-eq-code-cast-t19 t c = search needs
-
-eq-code-add-t20 : (t : ℕ) → eq-code-lts.Need-add-t20 (eq-code-claims t) (eq-code-at t) eq-code.Post
-eq-code-add-t20 t c = search needs
-
-eq-code-cast-t21 : (t : ℕ) → eq-code-lts.Need-cast-t21 (eq-code-claims t) (eq-code-at t) eq-code.Post
-eq-code-cast-t21 t c = search needs
-
 eq-code-eq-stack-requires : (t : ℕ) → eq-code-lts.Need-eq-stack-requires (eq-code-claims t) (eq-code-at t) eq-code.Post
 eq-code-eq-stack-requires t c κs =
     let s : C-Start t = search in
@@ -210,9 +177,6 @@ eq-code-eq-parts-requires t c κs =
     let lb = b .letter-count2 .ensures .1 in
     (omega arith, (s .pre .1 .0, omega arith, omega arith, omega arith, omega arith, omega arith, omega arith, omega arith, spare-kept (s .args .k .m) (s .args .l) (s .args .r) _ _ (s .pre .1 .7) (e .eq-stack .kept .1 .1 .1 .1 .1 .1 .0)))
 
-eq-code-same-length : (t : ℕ) → eq-code-lts.Need-same-length (eq-code-claims t) (eq-code-at t) eq-code.Post
-eq-code-same-length t c = search needs
-
 eq-code-returns : (t : ℕ) → eq-code-lts.Need-returns (eq-code-claims t) (eq-code-at t) eq-code.Post
 eq-code-returns t c =
     let p : eq-code-lts.After-eq-parts (eq-code-claims t) (eq-code-at t) eq-code.Post = search in
@@ -223,9 +187,6 @@ eq-code-returns t c =
     let a = c-count t w in
     let b = c-count2 t w in
     both-same (i .if2 .taken) (e .eq-stack .ensures) (p .eq-parts .ensures) ∙ codes-on (tab _ _) (argsOf (tab _ _) _ _) _ _ _ _ _ _ _ _ _ _ _ _ (a .letter-count .ensures .0) (b .letter-count2 .ensures .0) (w .same-letters .ensures) (c-then t e .if1 .taken)
-
-eq-code-same-length-2 : (t : ℕ) → eq-code-lts.Need-same-length-2 (eq-code-claims t) (eq-code-at t) eq-code.Post
-eq-code-same-length-2 t c = search
 
 eq-code-returns-2 : (t : ℕ) → eq-code-lts.Need-returns-2 (eq-code-claims t) (eq-code-at t) eq-code.Post
 eq-code-returns-2 t c =
@@ -298,40 +259,10 @@ p-loop t c = search
 abbrev p-start : (t : ℕ) → P-Slots t → P-Start t
 p-start t c = search
 
-eq-parts-cast-p : (t : ℕ) → eq-parts-lts.Need-cast-p (eq-parts-claims t) (eq-parts-at t) eq-parts.Post eq-parts-Inv-loop eq-parts-μ-loop
-eq-parts-cast-p t c = search needs
-
-eq-parts-cast-q : (t : ℕ) → eq-parts-lts.Need-cast-q (eq-parts-claims t) (eq-parts-at t) eq-parts.Post eq-parts-Inv-loop eq-parts-μ-loop
-eq-parts-cast-q t c = search needs
-
-eq-parts-cast-n : (t : ℕ) → eq-parts-lts.Need-cast-n (eq-parts-claims t) (eq-parts-at t) eq-parts.Post eq-parts-Inv-loop eq-parts-μ-loop
-eq-parts-cast-n t c = search needs
-
 eq-parts-loop-holds : (t : ℕ) → eq-parts-lts.Need-loop-holds (eq-parts-claims t) (eq-parts-at t) eq-parts.Post eq-parts-Inv-loop eq-parts-μ-loop
 eq-parts-loop-holds t c =
     let s : P-Start t = search in
     (parts-first (tab _ _) (argsOf (tab _ _) _ _) _ _ _ _ _ _ _ _ _ _, refl)
-
-eq-parts-add-part : (t : ℕ) → eq-parts-lts.Need-add-part (eq-parts-claims t) (eq-parts-at t) eq-parts.Post eq-parts-Inv-loop eq-parts-μ-loop
-eq-parts-add-part t c = search needs
-
-eq-parts-part-requires : (t : ℕ) → eq-parts-lts.Need-part-requires (eq-parts-claims t) (eq-parts-at t) eq-parts.Post eq-parts-Inv-loop eq-parts-μ-loop
-eq-parts-part-requires t c κs = search
-
-eq-parts-add-part-2 : (t : ℕ) → eq-parts-lts.Need-add-part-2 (eq-parts-claims t) (eq-parts-at t) eq-parts.Post eq-parts-Inv-loop eq-parts-μ-loop
-eq-parts-add-part-2 t c = search needs
-
-eq-parts-part-requires-2 : (t : ℕ) → eq-parts-lts.Need-part-requires-2 (eq-parts-claims t) (eq-parts-at t) eq-parts.Post eq-parts-Inv-loop eq-parts-μ-loop
-eq-parts-part-requires-2 t c κs = search
-
-eq-parts-two-slots-requires : (t : ℕ) → eq-parts-lts.Need-two-slots-requires (eq-parts-claims t) (eq-parts-at t) eq-parts.Post eq-parts-Inv-loop eq-parts-μ-loop
-eq-parts-two-slots-requires t c κs = search
-
-eq-parts-enum-told : (t : ℕ) → eq-parts-lts.Need-enum-told (eq-parts-claims t) (eq-parts-at t) eq-parts.Post eq-parts-Inv-loop eq-parts-μ-loop
-eq-parts-enum-told t c = search
-
-eq-parts-same-length : (t : ℕ) → eq-parts-lts.Need-same-length (eq-parts-claims t) (eq-parts-at t) eq-parts.Post eq-parts-Inv-loop eq-parts-μ-loop
-eq-parts-same-length t c = search
 
 eq-parts-returns : (t : ℕ) → eq-parts-lts.Need-returns (eq-parts-claims t) (eq-parts-at t) eq-parts.Post eq-parts-Inv-loop eq-parts-μ-loop
 eq-parts-returns t c =
@@ -342,9 +273,6 @@ eq-parts-returns t c =
     let l = p-loop t w in
     let s = p-start t w in
     parts-apart (tab _ _) (argsOf (tab _ _) _ _) _ _ _ _ _ _ _ _ _ _ _ (l .loop .inv .0) (n .loop-test .taken) (a .part .ensures .0) (b .part2 .ensures .0) (w .two-slots .ensures) (c .enum-told .given .1)
-
-eq-parts-enum-known-h : (t : ℕ) → eq-parts-lts.Need-enum-known-h (eq-parts-claims t) (eq-parts-at t) eq-parts.Post eq-parts-Inv-loop eq-parts-μ-loop
-eq-parts-enum-known-h t c = search
 
 eq-parts-eq-value-requires : (t : ℕ) → eq-parts-lts.Need-eq-value-requires (eq-parts-claims t) (eq-parts-at t) eq-parts.Post eq-parts-Inv-loop eq-parts-μ-loop
 eq-parts-eq-value-requires t c κs =
@@ -366,9 +294,6 @@ eq-parts-eq-value-requires t c κs =
     let r7 = s .pre .1 .7 in
     let k = n .loop-test .taken in
     (omega arith, (tabled-low (tab (s .args .rows .now) (s .args .parts .now)) (s .args .args .now) (h .h .given .0 .0) (h .h .given .0 .1 .0) (s .pre .1 .0) (omega arith) (omega arith), omega arith, omega arith, spare-kept (s .args .k .m) (h .h .given .0 .0) (h .h .given .0 .1 .0) _ _ (spare-low (s .args .k .m) (s .args .l) (s .args .r) _ (h .h .given .0 .0) (h .h .given .0 .1 .0) (s .pre .1 .8) (omega arith) (omega arith)) (l .loop .inv .1)))
-
-eq-parts-same-length-2 : (t : ℕ) → eq-parts-lts.Need-same-length-2 (eq-parts-claims t) (eq-parts-at t) eq-parts.Post eq-parts-Inv-loop eq-parts-μ-loop
-eq-parts-same-length-2 t c = search needs
 
 eq-parts-returns-2 : (t : ℕ) → eq-parts-lts.Need-returns-2 (eq-parts-claims t) (eq-parts-at t) eq-parts.Post eq-parts-Inv-loop eq-parts-μ-loop
 eq-parts-returns-2 t c =
@@ -396,9 +321,6 @@ eq-parts-add-i t c =
     let k = n .loop-test .taken in
     omega arith
 
-eq-parts-loop-less : (t : ℕ) → eq-parts-lts.Need-loop-less (eq-parts-claims t) (eq-parts-at t) eq-parts.Post eq-parts-Inv-loop eq-parts-μ-loop
-eq-parts-loop-less t c = search needs
-
 eq-parts-loop-again : (t : ℕ) → eq-parts-lts.Need-loop-again (eq-parts-claims t) (eq-parts-at t) eq-parts.Post eq-parts-Inv-loop eq-parts-μ-loop
 eq-parts-loop-again t c =
     let v : P-Value t = search in
@@ -411,9 +333,6 @@ eq-parts-loop-again t c =
     let l = p-loop t w in
     let s = p-start t w in
     (parts-next (tab _ _) (argsOf (tab _ _) _ _) _ _ _ _ _ _ _ _ _ _ _ (l .loop .inv .0) (n .loop-test .taken) (a .part .ensures .0) (b .part2 .ensures .0) (w .two-slots .ensures) (h .h .given .0 .0) (h .h .given .0 .1 .0) (h .h .given .1) (v .eq-value .ensures) (not-true (i .if1 .left)), v .eq-value .kept .1 .1 .1 .1 .1 .1 .0 ∙ l .loop .inv .1)
-
-eq-parts-same-length-3 : (t : ℕ) → eq-parts-lts.Need-same-length-3 (eq-parts-claims t) (eq-parts-at t) eq-parts.Post eq-parts-Inv-loop eq-parts-μ-loop
-eq-parts-same-length-3 t c = search
 
 eq-parts-returns-3 : (t : ℕ) → eq-parts-lts.Need-returns-3 (eq-parts-claims t) (eq-parts-at t) eq-parts.Post eq-parts-Inv-loop eq-parts-μ-loop
 eq-parts-returns-3 t c =
@@ -525,9 +444,6 @@ given-ends t c =
     let o = s-given t c in
     given-room (s-start t (s-loop t (s-given-pair t o)) .args .k .m) (s-start t (s-loop t (s-given-pair t o)) .args .l) (s-start t (s-loop t (s-given-pair t o)) .args .r) _ (o .s3 .given .0 .1 .0) (o .s3 .given .0 .0) (o .s3 .given .0 .1 .1 .1 .0) (o .s3 .given .0 .1 .1 .0) _ (c .greater2 .ensures) (s-spare t (s-given-pair t o)) (given-reach t o)
 
-eq-stack-same-stack-requires : (t : ℕ) → eq-stack-lts.Need-same-stack-requires (eq-stack-claims t) (eq-stack-at t) eq-stack.Post eq-stack-Inv-loop eq-stack-μ-loop
-eq-stack-same-stack-requires t c κs = search needs
-
 eq-stack-returns : (t : ℕ) → eq-stack-lts.Need-returns (eq-stack-claims t) (eq-stack-at t) eq-stack.Post eq-stack-Inv-loop eq-stack-μ-loop
 eq-stack-returns t c =
     let s : S-Start t = search in
@@ -568,9 +484,6 @@ eq-stack-next-pair-requires t c κs =
     let rr = s .pre .1 .2 in
     (omega arith, omega arith, few-args (tab (s .args .rows .now) (s .args .parts .now)) (s .args .args .now) (s .pre .1 .0), omega arith, omega arith, pends-more (s .args .k .m) (s .args .l) _ (l .loop .i) (side false (l .loop .pending)) (omega arith) (l .loop .inv .0 .lefts), pends-more 0 (s .args .r) _ (l .loop .j) (side true (l .loop .pending)) (omega arith) (l .loop .inv .0 .rights))
 
-eq-stack-enum-told : (t : ℕ) → eq-stack-lts.Need-enum-told (eq-stack-claims t) (eq-stack-at t) eq-stack.Post eq-stack-Inv-loop eq-stack-μ-loop
-eq-stack-enum-told t c = search
-
 eq-stack-same-length : (t : ℕ) → eq-stack-lts.Need-same-length (eq-stack-claims t) (eq-stack-at t) eq-stack.Post eq-stack-Inv-loop eq-stack-μ-loop
 eq-stack-same-length t c =
     let p : S-Pair t = search in
@@ -583,9 +496,6 @@ eq-stack-returns-2 t c =
     let s = s-start t l in
     match-over (tab _ _) (argsOf (tab _ _) _ _) _ _ _ _ _ _ _ (side false (l .loop .pending)) _ (side true (l .loop .pending)) _ (l .loop .inv .0) (side false (p .next-pair .last .1 .1 .1 .0)) (side true (p .next-pair .last .1 .1 .1 .0)) _ (p .next-pair .ensures _) (c .enum-told .given .1)
 
-eq-stack-enum-told-2 : (t : ℕ) → eq-stack-lts.Need-enum-told-2 (eq-stack-claims t) (eq-stack-at t) eq-stack.Post eq-stack-Inv-loop eq-stack-μ-loop
-eq-stack-enum-told-2 t c = search
-
 eq-stack-same-length-2 : (t : ℕ) → eq-stack-lts.Need-same-length-2 (eq-stack-claims t) (eq-stack-at t) eq-stack.Post eq-stack-Inv-loop eq-stack-μ-loop
 eq-stack-same-length-2 t c =
     let p : S-Pair t = search in
@@ -597,9 +507,6 @@ eq-stack-returns-3 t c =
     let l = s-loop t p in
     let s = s-start t l in
     match-unlike (tab _ _) (argsOf (tab _ _) _ _) _ _ _ _ _ _ _ (side false (l .loop .pending)) _ (side true (l .loop .pending)) _ (l .loop .inv .0) (side false (p .next-pair .last .1 .1 .1 .0)) (side true (p .next-pair .last .1 .1 .1 .0)) _ (p .next-pair .ensures _) (c .enum-told2 .given .1)
-
-eq-stack-enum-known-s : (t : ℕ) → eq-stack-lts.Need-enum-known-s (eq-stack-claims t) (eq-stack-at t) eq-stack.Post eq-stack-Inv-loop eq-stack-μ-loop
-eq-stack-enum-known-s t c = search
 
 eq-stack-loop-less : (t : ℕ) → eq-stack-lts.Need-loop-less (eq-stack-claims t) (eq-stack-at t) eq-stack.Post eq-stack-Inv-loop eq-stack-μ-loop
 eq-stack-loop-less t c =
@@ -616,12 +523,6 @@ eq-stack-loop-again t c =
     let l = s-loop t p in
     let s = s-start t l in
     ((match-onward (tab (s .args .rows .now) (s .args .parts .now)) (argsOf (tab (s .args .rows .now) (s .args .parts .now)) (s .args .args .now) (s .args .k .m)) (s .args .k .m) (s .args .k .by) (s .args .k .d) (s .args .l) (s .args .k .by2) (s .args .k .d2) (s .args .r) (side false (l .loop .pending)) (l .loop .i) (side true (l .loop .pending)) (l .loop .j) (l .loop .inv .0) (side false (p .next-pair .last .1 .1 .1 .0)) (side true (p .next-pair .last .1 .1 .1 .0)) (p .next-pair .result) (o .s .given .0 .0) (o .s .given .0 .1 .0) (p .next-pair .ensures (s .args .parts .now)) (o .s .given .1)) .0, p .next-pair .kept .1 .1 .1 .0 ∙ l .loop .inv .1)
-
-eq-stack-enum-known-s-2 : (t : ℕ) → eq-stack-lts.Need-enum-known-s-2 (eq-stack-claims t) (eq-stack-at t) eq-stack.Post eq-stack-Inv-loop eq-stack-μ-loop
-eq-stack-enum-known-s-2 t c = search
-
-eq-stack-greater-requires : (t : ℕ) → eq-stack-lts.Need-greater-requires (eq-stack-claims t) (eq-stack-at t) eq-stack.Post eq-stack-Inv-loop eq-stack-μ-loop
-eq-stack-greater-requires t c κs = search
 
 eq-stack-mul-eq-value : (t : ℕ) → eq-stack-lts.Need-mul-eq-value (eq-stack-claims t) (eq-stack-at t) eq-stack.Post eq-stack-Inv-loop eq-stack-μ-loop
 eq-stack-mul-eq-value t c =
@@ -646,9 +547,6 @@ eq-stack-part-eq-value-start t c =
     let w0 = w .0 in
     let w1 = w .1 in
     omega arith
-
-eq-stack-part-eq-value-end : (t : ℕ) → eq-stack-lts.Need-part-eq-value-end (eq-stack-claims t) (eq-stack-at t) eq-stack.Post eq-stack-Inv-loop eq-stack-μ-loop
-eq-stack-part-eq-value-end t c = search needs
 
 eq-stack-eq-value-requires : (t : ℕ) → eq-stack-lts.Need-eq-value-requires (eq-stack-claims t) (eq-stack-at t) eq-stack.Post eq-stack-Inv-loop eq-stack-μ-loop
 eq-stack-eq-value-requires t c κs =
@@ -717,12 +615,6 @@ eq-stack-loop-again-2 t c =
     let w0 = w .0 in
     ((match-own (tab (s .args .rows .now) (s .args .parts .now)) (argsOf (tab (s .args .rows .now) (s .args .parts .now)) (s .args .args .now) (s .args .k .m)) (s .args .k .m) (s .args .k .by) (s .args .k .d) (s .args .l) (s .args .k .by2) (s .args .k .d2) (s .args .r) (side false (l .loop .pending)) (l .loop .i) (side true (l .loop .pending)) (l .loop .j) (l .loop .inv .0) (side false (p .next-pair .last .1 .1 .1 .0)) (side true (p .next-pair .last .1 .1 .1 .0)) (side false (putMid (g .greater .result) (length (p .next-pair .last .1 .1 .1 .0) - (g .greater .result)) (p .next-pair .last .1 .1 .1 .0) (v .eq-value .last .1 .1 .1 .1 .1 .1 .0))) (side true (putMid (g .greater .result) (length (p .next-pair .last .1 .1 .1 .0) - (g .greater .result)) (p .next-pair .last .1 .1 .1 .0) (v .eq-value .last .1 .1 .1 .1 .1 .1 .0))) (p .next-pair .result) (o .s2 .given .0 .0) (o .s2 .given .0 .1 .0) (o .s2 .given .0 .1 .1 .0) (o .s2 .given .0 .1 .1 .1 .0) (agree-back false (o .s2 .given .0 .1 .0) (g .greater .result) (length (p .next-pair .last .1 .1 .1 .0) - (g .greater .result)) (p .next-pair .last .1 .1 .1 .0) (v .eq-value .last .1 .1 .1 .1 .1 .1 .0) (g .greater .ensures .0) (omega arith)) (agree-back true (o .s2 .given .0 .1 .1 .1 .0) (g .greater .result) (length (p .next-pair .last .1 .1 .1 .0) - (g .greater .result)) (p .next-pair .last .1 .1 .1 .0) (v .eq-value .last .1 .1 .1 .1 .1 .1 .0) (g .greater .ensures .1) (omega arith)) (p .next-pair .ensures (s .args .parts .now)) (o .s2 .given .1) (v .eq-value .ensures) (not-true (i .if2 .left))) .0, same-len-mid (g .greater .result) (length (p .next-pair .last .1 .1 .1 .0) - (g .greater .result)) (p .next-pair .last .1 .1 .1 .0) (v .eq-value .last .1 .1 .1 .1 .1 .1 .0) (v .eq-value .kept .1 .1 .1 .1 .1 .1 .0) ∙ p .next-pair .kept .1 .1 .1 .0 ∙ l .loop .inv .1)
 
-eq-stack-enum-known-s-3 : (t : ℕ) → eq-stack-lts.Need-enum-known-s-3 (eq-stack-claims t) (eq-stack-at t) eq-stack.Post eq-stack-Inv-loop eq-stack-μ-loop
-eq-stack-enum-known-s-3 t c = search
-
-eq-stack-greater-requires-2 : (t : ℕ) → eq-stack-lts.Need-greater-requires-2 (eq-stack-claims t) (eq-stack-at t) eq-stack.Post eq-stack-Inv-loop eq-stack-μ-loop
-eq-stack-greater-requires-2 t c κs = search
-
 eq-stack-mul-eq-value-2 : (t : ℕ) → eq-stack-lts.Need-mul-eq-value-2 (eq-stack-claims t) (eq-stack-at t) eq-stack.Post eq-stack-Inv-loop eq-stack-μ-loop
 eq-stack-mul-eq-value-2 t c =
     let g : S-Great2 t = search in
@@ -746,9 +638,6 @@ eq-stack-part-eq-value-start-2 t c =
     let w0 = w .0 in
     let w1 = w .1 in
     omega arith
-
-eq-stack-part-eq-value-end-2 : (t : ℕ) → eq-stack-lts.Need-part-eq-value-end-2 (eq-stack-claims t) (eq-stack-at t) eq-stack.Post eq-stack-Inv-loop eq-stack-μ-loop
-eq-stack-part-eq-value-end-2 t c = search needs
 
 eq-stack-eq-value-requires-2 : (t : ℕ) → eq-stack-lts.Need-eq-value-requires-2 (eq-stack-claims t) (eq-stack-at t) eq-stack.Post eq-stack-Inv-loop eq-stack-μ-loop
 eq-stack-eq-value-requires-2 t c κs =
@@ -848,52 +737,10 @@ v-read2 t c = search
 abbrev v-start : (t : ℕ) → V-Pair t → V-Start t
 v-start t c = search
 
-eq-value-same-place-requires : (t : ℕ) → eq-value-lts.Need-same-place-requires (eq-value-claims t) (eq-value-at t) eq-value.Post
-eq-value-same-place-requires t c κs = search
-
 eq-value-returns : (t : ℕ) → eq-value-lts.Need-returns (eq-value-claims t) (eq-value-at t) eq-value.Post
 eq-value-returns t c =
     let s : V-Start t = search in
     place-value (tab _ _) _ _ _ _ _ _ _ _ (c .before .same-place .ensures) (c .if1 .taken)
-
-eq-value-cast-read-value : (t : ℕ) → eq-value-lts.Need-cast-read-value (eq-value-claims t) (eq-value-at t) eq-value.Post
-eq-value-cast-read-value t c = search needs
-
-eq-value-cast-read-value-2 : (t : ℕ) → eq-value-lts.Need-cast-read-value-2 (eq-value-claims t) (eq-value-at t) eq-value.Post
-eq-value-cast-read-value-2 t c = search needs
-
-eq-value-cast-read-value-3 : (t : ℕ) → eq-value-lts.Need-cast-read-value-3 (eq-value-claims t) (eq-value-at t) eq-value.Post
-eq-value-cast-read-value-3 t c = search needs
-
-eq-value-read-value-requires : (t : ℕ) → eq-value-lts.Need-read-value-requires (eq-value-claims t) (eq-value-at t) eq-value.Post
-eq-value-read-value-requires t c κs = search needs
-
-eq-value-cast-read-value-4 : (t : ℕ) → eq-value-lts.Need-cast-read-value-4 (eq-value-claims t) (eq-value-at t) eq-value.Post
-eq-value-cast-read-value-4 t c = search needs
-
-eq-value-cast-read-value-5 : (t : ℕ) → eq-value-lts.Need-cast-read-value-5 (eq-value-claims t) (eq-value-at t) eq-value.Post
-eq-value-cast-read-value-5 t c = search needs
-
-eq-value-read-value-requires-2 : (t : ℕ) → eq-value-lts.Need-read-value-requires-2 (eq-value-claims t) (eq-value-at t) eq-value.Post
-eq-value-read-value-requires-2 t c κs = search needs
-
-eq-value-pair-up-requires : (t : ℕ) → eq-value-lts.Need-pair-up-requires (eq-value-claims t) (eq-value-at t) eq-value.Post
-eq-value-pair-up-requires t c κs = search
-
-eq-value-enum-told : (t : ℕ) → eq-value-lts.Need-enum-told (eq-value-claims t) (eq-value-at t) eq-value.Post
-eq-value-enum-told t c = search
-
-eq-value-enum-told-2 : (t : ℕ) → eq-value-lts.Need-enum-told-2 (eq-value-claims t) (eq-value-at t) eq-value.Post
-eq-value-enum-told-2 t c = search
-
-eq-value-enum-known-p : (t : ℕ) → eq-value-lts.Need-enum-known-p (eq-value-claims t) (eq-value-at t) eq-value.Post
-eq-value-enum-known-p t c = search
-
-eq-value-at-requires : (t : ℕ) → eq-value-lts.Need-at-requires (eq-value-claims t) (eq-value-at t) eq-value.Post
-eq-value-at-requires t c κs = search
-
-eq-value-is-stack-requires : (t : ℕ) → eq-value-lts.Need-is-stack-requires (eq-value-claims t) (eq-value-at t) eq-value.Post
-eq-value-is-stack-requires t c κs = search needs
 
 eq-value-returns-2 : (t : ℕ) → eq-value-lts.Need-returns-2 (eq-value-claims t) (eq-value-at t) eq-value.Post
 eq-value-returns-2 t c =
@@ -907,9 +754,6 @@ eq-value-returns-2 t c =
     let s = v-start t u in
     let ok = pair-ok (s .args .k .m) (s .args .l) (s .args .r) (v .read-value .result) (w .read-value2 .result) (v .read-value .ensures .1) (w .read-value2 .ensures .1) (u .pair-up .ensures) (p .p .given .1) in
     filled-not (tab (s .args .rows .now) (s .args .parts .now)) (s .args .args .now) (s .args .k .m) (s .args .k .by) (s .args .k .d) (s .args .k .by2) (s .args .k .d2) (s .args .r) (p .p .given .0 .0) (a .at .result) ok (a .at .ensures .0) (b .is-stack .ensures) (i .if2 .taken) ∙ value-pair (tab (s .args .rows .now) (s .args .parts .now)) (argsOf (tab (s .args .rows .now) (s .args .parts .now)) (s .args .args .now) (s .args .k .m)) (s .args .k .by) (s .args .k .d) (s .args .k .by2) (s .args .k .d2) (s .args .k .m) (s .args .l) (s .args .r) (length-args (tab (s .args .rows .now) (s .args .parts .now)) (s .args .args .now) (s .args .k .m)) (v .read-value .ensures .0) (w .read-value2 .ensures .0) (w .read-value2 .ensures .1) (u .pair-up .ensures) (p .p .given .1)
-
-eq-value-add-eq-value : (t : ℕ) → eq-value-lts.Need-add-eq-value (eq-value-claims t) (eq-value-at t) eq-value.Post
-eq-value-add-eq-value t c = search needs
 
 eq-value-eq-value-requires : (t : ℕ) → eq-value-lts.Need-eq-value-requires (eq-value-claims t) (eq-value-at t) eq-value.Post
 eq-value-eq-value-requires t c κs =
@@ -928,9 +772,6 @@ eq-value-eq-value-requires t c κs =
     let e = a .at .ensures .0 in
     let f = few-arg (tab (s .args .rows .now) (s .args .parts .now)) (s .args .args .now) (p .p .given .0 .0) (s .pre .1 .0) ok in
     (omega arith, (tabled-arg (tab (s .args .rows .now) (s .args .parts .now)) (s .args .args .now) (p .p .given .0 .0) (a .at .result) (s .args .r) (s .pre .1 .0) ok (a .at .ensures .0) (omega arith), omega arith, rr, spare-arg (s .args .k .m) (s .args .l) (s .args .r) _ (a .at .result + 1) (p .p .given .0 .0) (s .pre .1 .3) ok (omega arith)))
-
-eq-value-enum-known-p-2 : (t : ℕ) → eq-value-lts.Need-enum-known-p-2 (eq-value-claims t) (eq-value-at t) eq-value.Post
-eq-value-enum-known-p-2 t c = search
 
 eq-value-cast-t34 : (t : ℕ) → eq-value-lts.Need-cast-t34 (eq-value-claims t) (eq-value-at t) eq-value.Post
 eq-value-cast-t34 t c =
@@ -987,9 +828,6 @@ eq-value-eq-parts-requires t c κs =
     let o2 = ok .2 in
     (omega arith, (s .pre .1 .0, omega arith, omega arith, ok .3, ok .4, o2, omega arith, omega arith, s .pre .1 .3))
 
-eq-value-enum-known-p-3 : (t : ℕ) → eq-value-lts.Need-enum-known-p-3 (eq-value-claims t) (eq-value-at t) eq-value.Post
-eq-value-enum-known-p-3 t c = search
-
 eq-value-eq-stack-requires : (t : ℕ) → eq-value-lts.Need-eq-stack-requires (eq-value-claims t) (eq-value-at t) eq-value.Post
 eq-value-eq-stack-requires t c κs =
     let p : eq-value-lts.After-p3 (eq-value-claims t) (eq-value-at t) eq-value.Post = search in
@@ -1004,9 +842,6 @@ eq-value-eq-stack-requires t c κs =
     let o0 = ok .0 in
     let o1 = ok .1 in
     (omega arith, (tabled-low (tab (s .args .rows .now) (s .args .parts .now)) (s .args .args .now) (p .p3 .given .0 .0) (p .p3 .given .0 .1 .0) (s .pre .1 .0) (omega arith) (omega arith), omega arith, omega arith, spare-low (s .args .k .m) (s .args .l) (s .args .r) _ (p .p3 .given .0 .0) (p .p3 .given .0 .1 .0) (s .pre .1 .3) (omega arith) (omega arith)))
-
-eq-value-enum-known-p-4 : (t : ℕ) → eq-value-lts.Need-enum-known-p-4 (eq-value-claims t) (eq-value-at t) eq-value.Post
-eq-value-enum-known-p-4 t c = search
 
 eq-value-eq-code-requires : (t : ℕ) → eq-value-lts.Need-eq-code-requires (eq-value-claims t) (eq-value-at t) eq-value.Post
 eq-value-eq-code-requires t c κs =
@@ -1037,9 +872,6 @@ eq-value-returns-4 t c =
     let s = v-start t u in
     value-pair (tab _ _) (argsOf (tab _ _) _ _) _ _ _ _ _ _ _ (length-args (tab _ _) _ _) (v .read-value .ensures .0) (w .read-value2 .ensures .0) (w .read-value2 .ensures .1) (u .pair-up .ensures) (c .enum-told2 .given .1)
 
-eq-value-same-length : (t : ℕ) → eq-value-lts.Need-same-length (eq-value-claims t) (eq-value-at t) eq-value.Post
-eq-value-same-length t c = search
-
 eq-value-returns-5 : (t : ℕ) → eq-value-lts.Need-returns-5 (eq-value-claims t) (eq-value-at t) eq-value.Post
 eq-value-returns-5 t c =
     let e : eq-value-lts.After-eq-value (eq-value-claims t) (eq-value-at t) eq-value.Post = search in
@@ -1054,9 +886,6 @@ eq-value-returns-5 t c =
     let ok = pair-ok (s .args .k .m) (s .args .l) (s .args .r) (v .read-value .result) (w .read-value2 .result) (v .read-value .ensures .1) (w .read-value2 .ensures .1) (u .pair-up .ensures) (p .p .given .1) in
     filled-value (tab (s .args .rows .now) (s .args .parts .now)) (s .args .args .now) (s .args .k .m) (s .args .k .by) (s .args .k .d) (s .args .k .by2) (s .args .k .d2) (s .args .r) (p .p .given .0 .0) (a .at .result) ok (a .at .ensures .0) (b .is-stack .ensures) (i .if2 .left) (e .eq-value .ensures) ∙ value-pair (tab (s .args .rows .now) (s .args .parts .now)) (argsOf (tab (s .args .rows .now) (s .args .parts .now)) (s .args .args .now) (s .args .k .m)) (s .args .k .by) (s .args .k .d) (s .args .k .by2) (s .args .k .d2) (s .args .k .m) (s .args .l) (s .args .r) (length-args (tab (s .args .rows .now) (s .args .parts .now)) (s .args .args .now) (s .args .k .m)) (v .read-value .ensures .0) (w .read-value2 .ensures .0) (w .read-value2 .ensures .1) (u .pair-up .ensures) (p .p .given .1)
 
-eq-value-same-length-2 : (t : ℕ) → eq-value-lts.Need-same-length-2 (eq-value-claims t) (eq-value-at t) eq-value.Post
-eq-value-same-length-2 t c = search
-
 eq-value-returns-6 : (t : ℕ) → eq-value-lts.Need-returns-6 (eq-value-claims t) (eq-value-at t) eq-value.Post
 eq-value-returns-6 t c =
     let e : eq-value-lts.After-eq-parts (eq-value-claims t) (eq-value-at t) eq-value.Post = search in
@@ -1067,9 +896,6 @@ eq-value-returns-6 t c =
     let s = v-start t u in
     e .eq-parts .ensures ∙ value-pair (tab _ _) (argsOf (tab _ _) _ _) _ _ _ _ _ _ _ (length-args (tab _ _) _ _) (v .read-value .ensures .0) (w .read-value2 .ensures .0) (w .read-value2 .ensures .1) (u .pair-up .ensures) (p .p2 .given .1)
 
-eq-value-same-length-3 : (t : ℕ) → eq-value-lts.Need-same-length-3 (eq-value-claims t) (eq-value-at t) eq-value.Post
-eq-value-same-length-3 t c = search
-
 eq-value-returns-7 : (t : ℕ) → eq-value-lts.Need-returns-7 (eq-value-claims t) (eq-value-at t) eq-value.Post
 eq-value-returns-7 t c =
     let e : eq-value-lts.After-eq-stack (eq-value-claims t) (eq-value-at t) eq-value.Post = search in
@@ -1079,9 +905,6 @@ eq-value-returns-7 t c =
     let w = v-read2 t u in
     let s = v-start t u in
     e .eq-stack .ensures ∙ value-pair (tab _ _) (argsOf (tab _ _) _ _) _ _ _ _ _ _ _ (length-args (tab _ _) _ _) (v .read-value .ensures .0) (w .read-value2 .ensures .0) (w .read-value2 .ensures .1) (u .pair-up .ensures) (p .p3 .given .1)
-
-eq-value-same-length-4 : (t : ℕ) → eq-value-lts.Need-same-length-4 (eq-value-claims t) (eq-value-at t) eq-value.Post
-eq-value-same-length-4 t c = search
 
 eq-value-returns-8 : (t : ℕ) → eq-value-lts.Need-returns-8 (eq-value-claims t) (eq-value-at t) eq-value.Post
 eq-value-returns-8 t c =
@@ -1096,31 +919,31 @@ eq-value-returns-8 t c =
 pub +eq-code+eq-parts+eq-stack+eq-value-spec : {M : Type 1} → statement M
 +eq-code+eq-parts+eq-stack+eq-value-spec =
     close μ-eq-code μ-eq-parts μ-eq-stack μ-eq-value
-    (λ t. eq-code-lts.spec (eq-code-claims t) (eq-code-at t) eq-code.Post (eq-code-letter-count-requires t)
-    (eq-code-letter-count-requires-2 t) (eq-code-add-same-letters t) (eq-code-add-same-letters-2 t) (eq-code-same-letters-requires t)
-    (eq-code-cast-t16 t) (eq-code-add-t17 t) (eq-code-cast-t18 t) (eq-code-cast-t19 t) (eq-code-add-t20 t) (eq-code-cast-t21 t)
-    (eq-code-eq-stack-requires t) (eq-code-cast-t25 t) (eq-code-cast-t26 t) (eq-code-eq-parts-requires t) (eq-code-same-length t)
-    (eq-code-returns t) (eq-code-same-length-2 t) (eq-code-returns-2 t) (eq-code-returns-3 t))
-    (λ t. eq-parts-lts.spec (eq-parts-claims t) (eq-parts-at t) eq-parts.Post eq-parts-Inv-loop eq-parts-μ-loop (eq-parts-cast-p t)
-    (eq-parts-cast-q t) (eq-parts-cast-n t) (eq-parts-loop-holds t) (eq-parts-add-part t) (eq-parts-part-requires t)
-    (eq-parts-add-part-2 t) (eq-parts-part-requires-2 t) (eq-parts-two-slots-requires t) (eq-parts-enum-told t) (eq-parts-same-length t)
-    (eq-parts-returns t) (eq-parts-enum-known-h t) (eq-parts-eq-value-requires t) (eq-parts-same-length-2 t) (eq-parts-returns-2 t)
-    (eq-parts-add-i t) (eq-parts-loop-less t) (eq-parts-loop-again t) (eq-parts-same-length-3 t) (eq-parts-returns-3 t))
+    (λ t. eq-code-lts.spec (eq-code-claims t) (eq-code-at t) eq-code.Post (λ c κs. search)
+    (λ c κs. search) (λ c. search needs) (λ c. search needs) (λ c κs. search needs)
+    (λ c. search needs) (λ c. search needs) (λ c. search needs) (λ c. search needs) (λ c. search needs) (λ c. search needs)
+    (eq-code-eq-stack-requires t) (eq-code-cast-t25 t) (eq-code-cast-t26 t) (eq-code-eq-parts-requires t) (λ c. search needs)
+    (eq-code-returns t) (λ c. search) (eq-code-returns-2 t) (eq-code-returns-3 t))
+    (λ t. eq-parts-lts.spec (eq-parts-claims t) (eq-parts-at t) eq-parts.Post eq-parts-Inv-loop eq-parts-μ-loop (λ c. search needs)
+    (λ c. search needs) (λ c. search needs) (eq-parts-loop-holds t) (λ c. search needs) (λ c κs. search)
+    (λ c. search needs) (λ c κs. search) (λ c κs. search) (λ c. search) (λ c. search)
+    (eq-parts-returns t) (λ c. search) (eq-parts-eq-value-requires t) (λ c. search needs) (eq-parts-returns-2 t)
+    (eq-parts-add-i t) (λ c. search needs) (eq-parts-loop-again t) (λ c. search) (eq-parts-returns-3 t))
     (λ t. eq-stack-lts.spec (eq-stack-claims t) (eq-stack-at t) eq-stack.Post eq-stack-Inv-loop eq-stack-μ-loop
-    (eq-stack-same-stack-requires t) (eq-stack-returns t) (eq-stack-store-requires t) (eq-stack-store-requires-2 t)
-    (eq-stack-loop-holds t) (eq-stack-next-pair-requires t) (eq-stack-enum-told t) (eq-stack-same-length t) (eq-stack-returns-2 t)
-    (eq-stack-enum-told-2 t) (eq-stack-same-length-2 t) (eq-stack-returns-3 t) (eq-stack-enum-known-s t) (eq-stack-loop-less t)
-    (eq-stack-loop-again t) (eq-stack-enum-known-s-2 t) (eq-stack-greater-requires t) (eq-stack-mul-eq-value t) (eq-stack-sub-eq-value t)
-    (eq-stack-part-eq-value-start t) (eq-stack-part-eq-value-end t) (eq-stack-eq-value-requires t) (eq-stack-same-length-3 t)
-    (eq-stack-returns-4 t) (eq-stack-loop-less-2 t) (eq-stack-loop-again-2 t) (eq-stack-enum-known-s-3 t) (eq-stack-greater-requires-2 t)
-    (eq-stack-mul-eq-value-2 t) (eq-stack-sub-eq-value-2 t) (eq-stack-part-eq-value-start-2 t) (eq-stack-part-eq-value-end-2 t)
+    (λ c κs. search needs) (eq-stack-returns t) (eq-stack-store-requires t) (eq-stack-store-requires-2 t)
+    (eq-stack-loop-holds t) (eq-stack-next-pair-requires t) (λ c. search) (eq-stack-same-length t) (eq-stack-returns-2 t)
+    (λ c. search) (eq-stack-same-length-2 t) (eq-stack-returns-3 t) (λ c. search) (eq-stack-loop-less t)
+    (eq-stack-loop-again t) (λ c. search) (λ c κs. search) (eq-stack-mul-eq-value t) (eq-stack-sub-eq-value t)
+    (eq-stack-part-eq-value-start t) (λ c. search needs) (eq-stack-eq-value-requires t) (eq-stack-same-length-3 t)
+    (eq-stack-returns-4 t) (eq-stack-loop-less-2 t) (eq-stack-loop-again-2 t) (λ c. search) (λ c κs. search)
+    (eq-stack-mul-eq-value-2 t) (eq-stack-sub-eq-value-2 t) (eq-stack-part-eq-value-start-2 t) (λ c. search needs)
     (eq-stack-eq-value-requires-2 t) (eq-stack-same-length-4 t) (eq-stack-returns-5 t) (eq-stack-loop-less-3 t) (eq-stack-loop-again-3 t))
-    (λ t. eq-value-lts.spec (eq-value-claims t) (eq-value-at t) eq-value.Post (eq-value-same-place-requires t) (eq-value-returns t)
-    (eq-value-cast-read-value t) (eq-value-cast-read-value-2 t) (eq-value-cast-read-value-3 t) (eq-value-read-value-requires t)
-    (eq-value-cast-read-value-4 t) (eq-value-cast-read-value-5 t) (eq-value-read-value-requires-2 t) (eq-value-pair-up-requires t)
-    (eq-value-enum-told t) (eq-value-enum-told-2 t) (eq-value-enum-known-p t) (eq-value-at-requires t) (eq-value-is-stack-requires t)
-    (eq-value-returns-2 t) (eq-value-add-eq-value t) (eq-value-eq-value-requires t) (eq-value-enum-known-p-2 t) (eq-value-cast-t34 t)
-    (eq-value-cast-t35 t) (eq-value-cast-t36 t) (eq-value-eq-parts-requires t) (eq-value-enum-known-p-3 t) (eq-value-eq-stack-requires t)
-    (eq-value-enum-known-p-4 t) (eq-value-eq-code-requires t) (eq-value-returns-3 t) (eq-value-returns-4 t) (eq-value-same-length t)
-    (eq-value-returns-5 t) (eq-value-same-length-2 t) (eq-value-returns-6 t) (eq-value-same-length-3 t) (eq-value-returns-7 t)
-    (eq-value-same-length-4 t) (eq-value-returns-8 t))
+    (λ t. eq-value-lts.spec (eq-value-claims t) (eq-value-at t) eq-value.Post (λ c κs. search) (eq-value-returns t)
+    (λ c. search needs) (λ c. search needs) (λ c. search needs) (λ c κs. search needs)
+    (λ c. search needs) (λ c. search needs) (λ c κs. search needs) (λ c κs. search)
+    (λ c. search) (λ c. search) (λ c. search) (λ c κs. search) (λ c κs. search needs)
+    (eq-value-returns-2 t) (λ c. search needs) (eq-value-eq-value-requires t) (λ c. search) (eq-value-cast-t34 t)
+    (eq-value-cast-t35 t) (eq-value-cast-t36 t) (eq-value-eq-parts-requires t) (λ c. search) (eq-value-eq-stack-requires t)
+    (λ c. search) (eq-value-eq-code-requires t) (eq-value-returns-3 t) (eq-value-returns-4 t) (λ c. search)
+    (eq-value-returns-5 t) (λ c. search) (eq-value-returns-6 t) (λ c. search) (eq-value-returns-7 t)
+    (λ c. search) (eq-value-returns-8 t))

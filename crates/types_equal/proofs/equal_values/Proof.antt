@@ -7,15 +7,6 @@ use borrow.Author.Needs.{needs}
 use Rattle.types_equal.proofs.equal_values.Statement.{statement}
 use Rattle.types_equal.proofs.equal_values.Tie as tie
 
-link-of-requires : tie.Need-link-of-requires
-link-of-requires c κs = search
-
-link-of-requires-2 : tie.Need-link-of-requires-2
-link-of-requires-2 c κs = search
-
-slice-relend-prefix-eq-value : tie.Need-slice-relend-prefix-eq-value
-slice-relend-prefix-eq-value c = search needs
-
 slice-aggregate-eq-value : tie.Need-slice-aggregate-eq-value
 slice-aggregate-eq-value c =
     let s : tie.Start = search in
@@ -31,9 +22,6 @@ eq-value-requires c κs =
     let b = link-few (tab (s .args .rows .now) (s .args .parts .now)) (s .args .rows .now) (s .args .n) (y .link-of2 .result) (s .args .r) (y .link-of2 .ensures) in
     (tabled-plain (tab (s .args .rows .now) (s .args .parts .now)) (s .args .rows .now) (s .args .n) (x .link-of .result) (y .link-of2 .result) (s .args .l) (s .args .r) fw (x .link-of .ensures) (y .link-of2 .ensures), omega arith, omega arith, spare-kept 0 (x .link-of .result) (y .link-of2 .result) _ _ (spare-plain (tab (s .args .rows .now) (s .args .parts .now)) (s .args .rows .now) (s .args .n) (x .link-of .result) (y .link-of2 .result) (s .args .l) (s .args .r) fw (x .link-of .ensures) (y .link-of2 .ensures)) (length-first 1543 (s .args .pending .now) (s .pre .1)))
 
-same-length : tie.Need-same-length
-same-length c = search needs
-
 returns : tie.Need-returns
 returns c =
     let e : tie.After-eq-value = search in
@@ -44,5 +32,5 @@ returns c =
 
 pub equal-values-spec : {M : Type 1} → statement M
 equal-values-spec =
-    tie.close
-    (tie.spec link-of-requires link-of-requires-2 slice-relend-prefix-eq-value slice-aggregate-eq-value eq-value-requires same-length returns)
+    tie.close (tie.spec (λ c κs. search) (λ c κs. search) (λ c. search needs) slice-aggregate-eq-value eq-value-requires
+    (λ c. search needs) returns)

@@ -5,9 +5,6 @@ use borrow.Author.Needs.{needs}
 use Rattle.types_equal.proofs.link_of.Statement.{statement}
 use Rattle.types_equal.proofs.link_of.Tie as tie
 
-add-result : tie.Need-add-result
-add-result c = search needs
-
 returns : tie.Need-returns
 returns c = link-in ((c .before .args) .n + 1) _ (let h = (c .if1) .taken in omega arith)
 
@@ -15,4 +12,4 @@ returns-2 : tie.Need-returns-2
 returns-2 c = link-out ((c .before .args) .n + 1) _ (let h = (c .if1) .left in omega arith)
 
 pub link-of-spec : {M : Type 1} → statement M
-link-of-spec = tie.close (tie.spec add-result returns returns-2)
+link-of-spec = tie.close (tie.spec (λ c. search needs) returns returns-2)

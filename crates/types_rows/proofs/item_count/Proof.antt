@@ -4,23 +4,13 @@ use Rattle.types_rows.proofs.Laws.{items-link}
 use borrow.Author.Needs.{needs}
 use Rattle.types_rows.proofs.item_count.Statement.{statement}
 use Rattle.types_rows.proofs.item_count.Tie as tie
-use Rattle.types_rows.proofs.item_count.Reads as reads
-use Rattle.types_rows.proofs.item_count.Lts as lts
-use Rattle.types_rows.proofs.entry.Reads as entry-reads
-
-returns : tie.Need-returns
-returns c = search needs
-
-sub-entry : tie.Need-sub-entry
-sub-entry c = search needs
-
-entry-requires : tie.Need-entry-requires
-entry-requires c κs = search needs
 
 returns-2 : tie.Need-returns-2
 returns-2 c =
-    let z = (c .before .if1) .left in
-    ((c .entry) .ensures .0 ∙ items-link ((c .before .before .before .args) .rows .now) ((c .before .before .before .args) .h) (omega arith), (c .entry) .ensures .1)
+    let n : tie.Else1 = search in
+    let s : tie.Start = search in
+    let z = n .if1 .left in
+    (c .entry .ensures .0 ∙ items-link (s .args .rows .now) (s .args .h) (omega arith), c .entry .ensures .1)
 
 pub item-count-spec : {M : Type 1} → statement M
-item-count-spec = tie.close (tie.spec returns sub-entry entry-requires returns-2)
+item-count-spec = tie.close (tie.spec (λ c. search needs) (λ c. search needs) (λ c κs. search needs) returns-2)

@@ -5,14 +5,11 @@ use borrow.Author.Needs.{needs}
 use Rattle.text_fields.proofs.names.is_dash.Statement.{statement}
 use Rattle.text_fields.proofs.names.is_dash.Tie as tie
 
-shared-slice-read-result : tie.Need-shared-slice-read-result
-shared-slice-read-result c = search needs
-
 returns : tie.Need-returns
-returns c = dash-one (c .before .before .args .f .now) (c .before .if1 .taken)
+returns c = dash-one _ (search)
 
 returns-2 : tie.Need-returns-2
-returns-2 c = dash-other (c .before .args .f .now) (c .if1 .left)
+returns-2 c = dash-other _ (search)
 
 pub is-dash-spec : {M : Type 1} → statement M
-is-dash-spec = tie.close (tie.spec shared-slice-read-result returns returns-2)
+is-dash-spec = tie.close (tie.spec (λ c. search needs) returns returns-2)

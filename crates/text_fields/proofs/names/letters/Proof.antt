@@ -7,54 +7,33 @@ use Rattle.text_fields.proofs.names.CodeRows.{dash-count, dash-codes, c
 use Rattle.text_fields.proofs.names.letters.Statement.{statement}
 use Rattle.text_fields.proofs.names.letters.Tie as tie
 
-is-dash-requires : tie.Need-is-dash-requires
-is-dash-requires c κs = tt
-
 returns : tie.Need-returns
 returns c =
-    let a = c .before .before .before .before .args in
-    let d = sym (c .before .is-dash .ensures) ∙ c .if1 .taken in
-    (dash-count (a .f .now) d, ap (sets (a .out .now) (a .at)) (dash-codes (a .f .now) d))
-
-letter-count-requires : tie.Need-letter-count-requires
-letter-count-requires c κs = tt
-
-enum-known-n : tie.Need-enum-known-n
-enum-known-n c = c .match .keys1
-
-put-letters-requires : tie.Need-put-letters-requires
-put-letters-requires c κs = tt
-
-enum-told : tie.Need-enum-told
-enum-told c = c .match .keys2
-
-same-length : tie.Need-same-length
-same-length c = c .before .before .put-letters .kept .1 .0
+    let i : tie.After-is-dash = search in
+    let d = sym (i .is-dash .ensures) ∙ c .if1 .taken in
+    (dash-count _ d, ap (sets _ _) (dash-codes _ d))
 
 returns-2 : tie.Need-returns-2
 returns-2 c =
-    let a = c .before .before .before .before .before .before .before .before .before .before .before .before .args in
-    let d = sym (c .before .before .before .before .before .before .before .before .before .is-dash .ensures) ∙ c .before .before .before .before .before .before .before .before .if1 .left in
-    let e = value-is (c .before .before .before .before .before .before .before .letter-count .ensures) (c .before .before .before .before .before .n .given .1) in
-    (sym e ∙ count-is (a .f .now) d, c .before .before .put-letters .ensures ∙ ap (sets (a .out .now) (a .at)) (codes-are (a .f .now) d (c .before .before .before .before .before .n .given .0 .0) e))
+    let p : tie.After-put-letters = search in
+    let n3 : tie.After-n = search in
+    let l : tie.After-letter-count = search in
+    let n2 : tie.Else1 = search in
+    let i : tie.After-is-dash = search in
+    let d = sym (i .is-dash .ensures) ∙ n2 .if1 .left in
+    let e = value-is (l .letter-count .ensures) (n3 .n .given .1) in
+    (sym e ∙ count-is _ d, p .put-letters .ensures ∙ ap (sets _ _) (codes-are _ d (n3 .n .given .0 .0) e))
 
 returns-3 : tie.Need-returns-3
 returns-3 c =
-    let a = c .before .before .before .before .before .before .before .args in
-    let d = sym (c .before .before .before .before .is-dash .ensures) ∙ c .before .before .before .if1 .left in
-    let e = bad-is (c .before .before .letter-count .ensures) (c .enum-told .given .1) in
-    (sym e ∙ count-is (a .f .now) d, ap (sets (a .out .now) (a .at)) (codes-bad (a .f .now) d e))
+    let l : tie.After-letter-count = search in
+    let n : tie.Else1 = search in
+    let i : tie.After-is-dash = search in
+    let d = sym (i .is-dash .ensures) ∙ n .if1 .left in
+    let e = bad-is (l .letter-count .ensures) (c .enum-told .given .1) in
+    (sym e ∙ count-is _ d, ap (sets _ _) (codes-bad _ d e))
 
 pub letters-spec : {M : Type 1} → statement M
 letters-spec =
-    tie.close
-    (tie.spec
-    is-dash-requires
-    returns
-    letter-count-requires
-    enum-known-n
-    put-letters-requires
-    enum-told
-    same-length
-    returns-2
+    tie.close (tie.spec (λ c κs. search) returns (λ c κs. search) (λ c. search) (λ c κs. search) (λ c. search) (λ c. search) returns-2
     returns-3)

@@ -4,12 +4,9 @@ use Rattle.text.specs.Grammar.{index}
 use Rattle.text_fields.proofs.numbers.index.Statement.{statement}
 use Rattle.text_fields.proofs.numbers.index.Tie as tie
 
-number-in-requires : tie.Need-number-in-requires
-number-in-requires c κs = tt
-
 returns : tie.Need-returns
 unfolding index
 returns c = c .number-in .ensures
 
 pub index-spec : {M : Type 1} → statement M
-index-spec = tie.close (tie.spec number-in-requires returns)
+index-spec = tie.close (tie.spec (λ c κs. search) returns)

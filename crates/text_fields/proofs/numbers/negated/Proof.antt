@@ -13,30 +13,18 @@ use borrow.Author.Needs.{needs}
 use Rattle.text_fields.proofs.numbers.negated.Statement.{statement}
 use Rattle.text_fields.proofs.numbers.negated.Tie as tie
 
-enum-known-n : tie.Need-enum-known-n
-enum-known-n c = c .match .keys1
-
-sub-t6 : tie.Need-sub-t6
-sub-t6 c = search needs
-
 returns : tie.Need-returns
 returns c =
-    let a = c .before .before .before .before .args in
-    let v : ℕ = c .before .before .n .given .0 .0 in
+    let n2 : tie.After-n = search in
+    let v : ℕ = n2 .n .given .0 .0 in
     let q : 4294967295 - (v - 1) ≡ modulus - v = omega arith in
-    with-value (λ (x : ℕ). when (leb 1 x) (modulus - x)) (a .n) v (some (4294967295 - (v - 1))) (c .before .before .n .given .1) (simp (le-leb 1 v (c .if1 .taken)) (ap {B = Option ℕ} some q))
-
-enum-told : tie.Need-enum-told
-enum-told c = c .match .keys2
+    with-value (λ (x : ℕ). when (leb 1 x) (modulus - x)) _ v (some (4294967295 - (v - 1))) (n2 .n .given .1) (simp (le-leb 1 v (search)) (ap {B = Option ℕ} some q))
 
 returns-2 : tie.Need-returns-2
 returns-2 c =
-    let a = c .before .before .before .before .args in
-    let v : ℕ = c .before .before .n .given .0 .0 in
-    with-value (λ (x : ℕ). when (leb 1 x) (modulus - x)) (a .n) v none (c .before .before .n .given .1) (simp (lt-leb 1 v (c .if1 .left)))
-
-returns-3 : tie.Need-returns-3
-returns-3 c = search needs
+    let n2 : tie.After-n = search in
+    let v : ℕ = n2 .n .given .0 .0 in
+    with-value (λ (x : ℕ). when (leb 1 x) (modulus - x)) _ v none (n2 .n .given .1) (simp (lt-leb 1 v (search)))
 
 pub negated-spec : {M : Type 1} → statement M
-negated-spec = tie.close (tie.spec enum-known-n sub-t6 returns enum-told returns-2 returns-3)
+negated-spec = tie.close (tie.spec (λ c. search) (λ c. search needs) returns (λ c. search) returns-2 (λ c. search))

@@ -10,30 +10,20 @@ use Rattle.text_fields.proofs.numbers.number_in.Statement.{statement}
 use Rattle.text_fields.proofs.numbers.number_in.Tie as tie
 
 returns : tie.Need-returns
-returns c =
-    let a = c .before .before .args in
-    number-none (a .low) (a .high) (a .s .now) (c .if1 .taken)
-
-zero-led-requires : tie.Need-zero-led-requires
-zero-led-requires c κs = tt
+returns c = number-none _ _ _ (search)
 
 returns-2 : tie.Need-returns-2
 returns-2 c =
-    let a = c .before .before .before .before .args in
-    number-led (a .low) (a .high) (a .s .now) (sym (c .before .zero-led .ensures) ∙ c .if2 .taken)
-
-digits-requires : tie.Need-digits-requires
-digits-requires c κs = tt
-
-at-least-requires : tie.Need-at-least-requires
-at-least-requires c κs = tt
+    let z : tie.After-zero-led = search in
+    number-led _ _ _ (sym (z .zero-led .ensures) ∙ c .if2 .taken)
 
 returns-3 : tie.Need-returns-3
 returns-3 c =
-    let a = c .before .before .before .before .before .before .args in
-    c .at-least .ensures ∙ ap (λ (o : Option ℕ). bind o (λ v. when (leb (a .low) v) v)) (c .before .digits .ensures) ∙ number-is (a .low) (a .high) (a .s .now) (c .before .before .before .before .if1 .left) (sym (c .before .before .before .zero-led .ensures) ∙ c .before .before .if2 .left)
+    let d : tie.After-digits = search in
+    let n2 : tie.Else2 = search in
+    let z : tie.After-zero-led = search in
+    let s2 : tie.Start = search in
+    c .at-least .ensures ∙ ap (λ (o : Option ℕ). bind o (λ v. when (leb (s2 .args .low) v) v)) (d .digits .ensures) ∙ number-is _ _ _ (search) (sym (z .zero-led .ensures) ∙ n2 .if2 .left)
 
 pub number-in-spec : {M : Type 1} → statement M
-number-in-spec =
-    tie.close
-    (tie.spec returns zero-led-requires returns-2 digits-requires at-least-requires returns-3)
+number-in-spec = tie.close (tie.spec returns (λ c κs. search) returns-2 (λ c κs. search) (λ c κs. search) returns-3)

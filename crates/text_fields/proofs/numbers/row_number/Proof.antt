@@ -4,12 +4,9 @@ use Rattle.text.specs.Grammar.{rowNumber}
 use Rattle.text_fields.proofs.numbers.row_number.Statement.{statement}
 use Rattle.text_fields.proofs.numbers.row_number.Tie as tie
 
-number-in-requires : tie.Need-number-in-requires
-number-in-requires c κs = tt
-
 returns : tie.Need-returns
 unfolding rowNumber
 returns c = c .number-in .ensures
 
 pub row-number-spec : {M : Type 1} → statement M
-row-number-spec = tie.close (tie.spec number-in-requires returns)
+row-number-spec = tie.close (tie.spec (λ c κs. search) returns)

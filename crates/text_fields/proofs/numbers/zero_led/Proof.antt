@@ -6,13 +6,10 @@ use Rattle.text_fields.proofs.numbers.zero_led.Statement.{statement}
 use Rattle.text_fields.proofs.numbers.zero_led.Tie as tie
 
 returns : tie.Need-returns
-returns c = led-short (c .before .args .s .now) (c .if1 .taken)
-
-shared-slice-read-result : tie.Need-shared-slice-read-result
-shared-slice-read-result c = search needs
+returns c = led-short _ (search)
 
 returns-2 : tie.Need-returns-2
-returns-2 c = led-first (c .before .before .args .s .now) (c .before .if1 .left)
+returns-2 c = led-first _ (search)
 
 pub zero-led-spec : {M : Type 1} → statement M
-zero-led-spec = tie.close (tie.spec returns shared-slice-read-result returns-2)
+zero-led-spec = tie.close (tie.spec returns (λ c. search needs) returns-2)

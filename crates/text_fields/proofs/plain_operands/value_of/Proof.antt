@@ -1,24 +1,15 @@
-use native.Mathlib.Omega.{arith}
 use Rattle.text_fields.proofs.plain_operands.PlacedLaws.{value-room, value-sum}
-use borrow.Author.Needs.{needs}
 use Rattle.text_fields.proofs.plain_operands.value_of.Statement.{statement}
 use Rattle.text_fields.proofs.plain_operands.value_of.Tie as tie
-use Rattle.text_fields.proofs.plain_operands.value_of.Reads as reads
-use Rattle.text_fields.proofs.plain_operands.value_of.Lts as lts
-use Rattle.text_fields.proofs.plain_operands.one_if.Reads as one-if-reads
-use Rattle.text_fields.proofs.plain_operands.signed.Reads as signed-reads
-
-signed-requires : tie.Need-signed-requires
-signed-requires c κs = (c .pre)
-
-one-if-requires : tie.Need-one-if-requires
-one-if-requires c κs = search needs
 
 sub-result : tie.Need-sub-result
-sub-result c = value-room ((c .before .before .args) .b) ((c .before .before .args) .v) ((c .before .signed) .result) ((c .one-if) .result) ((c .before .signed) .ensures) ((c .one-if) .ensures .0) (c .before .before .pre)
+sub-result c =
+    let s2 : tie.After-signed = search in
+    let s : tie.Start = search in
+    value-room _ _ _ _ (s2 .signed .ensures) (c .one-if .ensures .0) (s .pre)
 
 returns : tie.Need-returns
-returns c = value-sum ((c .before .before .args) .b) ((c .before .before .args) .v) ((c .before .signed) .result) ((c .one-if) .result) ((c .before .signed) .ensures) ((c .one-if) .ensures .0)
+returns c = value-sum _ _ _ _ (search) (search)
 
 pub value-of-spec : {M : Type 1} → statement M
-value-of-spec = tie.close (tie.spec signed-requires one-if-requires sub-result returns)
+value-of-spec = tie.close (tie.spec (λ c κs. search) (λ c κs. search) sub-result returns)

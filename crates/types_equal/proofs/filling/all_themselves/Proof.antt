@@ -14,29 +14,8 @@ Inv-loop rows parts p args j₀ j = (j ≤ length args) × Themselves rows parts
 abbrev μ-loop : tie.MeasureT-loop
 μ-loop rows parts p args j₀ j = length args - j
 
-loop-holds : tie.Need-loop-holds Inv-loop μ-loop
-loop-holds c = search needs
-
-add-at : tie.Need-add-at Inv-loop μ-loop
-add-at c = search needs
-
-at-requires : tie.Need-at-requires Inv-loop μ-loop
-at-requires c κs = search
-
-at-requires-2 : tie.Need-at-requires-2 Inv-loop μ-loop
-at-requires-2 c κs = search
-
-is-itself-requires : tie.Need-is-itself-requires Inv-loop μ-loop
-is-itself-requires c κs = search
-
 returns : tie.Need-returns Inv-loop μ-loop
 returns c = none-true
-
-add-j : tie.Need-add-j Inv-loop μ-loop
-add-j c = search needs
-
-loop-less : tie.Need-loop-less Inv-loop μ-loop
-loop-less c = search needs
 
 loop-again : tie.Need-loop-again Inv-loop μ-loop
 loop-again c =
@@ -51,5 +30,5 @@ returns-2 c = λ t j h. (c .before .loop) .inv .1 j (omega (arith, (c .loop-test
 
 pub all-themselves-spec : {M : Type 1} → statement M
 all-themselves-spec =
-    tie.close
-    (tie.spec Inv-loop μ-loop loop-holds add-at at-requires at-requires-2 is-itself-requires returns add-j loop-less loop-again returns-2)
+    tie.close (tie.spec Inv-loop μ-loop (λ c. search needs) (λ c. search needs) (λ c κs. search) (λ c κs. search) (λ c κs. search) returns
+    (λ c. search needs) (λ c. search needs) loop-again returns-2)

@@ -7,23 +7,8 @@ use borrow.Author.Needs.{needs}
 use Rattle.types_equal.proofs.filling.eq_filled.Statement.{statement}
 use Rattle.types_equal.proofs.filling.eq_filled.Tie as tie
 
-is-kept-requires : tie.Need-is-kept-requires
-is-kept-requires c κs = search
-
 returns : tie.Need-returns
 returns c = c .before .is-kept .ensures (c .if1 .taken) _
-
-cast-t12 : tie.Need-cast-t12
-cast-t12 c = search needs
-
-sub-t13 : tie.Need-sub-t13
-sub-t13 c = search needs
-
-cast-t14 : tie.Need-cast-t14
-cast-t14 c = search needs
-
-cast-t15 : tie.Need-cast-t15
-cast-t15 c = search needs
 
 eq-stack-requires : tie.Need-eq-stack-requires
 eq-stack-requires c κs =
@@ -36,13 +21,7 @@ eq-stack-requires c κs =
     let bm = big-most (length (s .args .args .now)) in
     (s .pre .0, omega arith, omega arith, s .pre .6)
 
-same-length : tie.Need-same-length
-same-length c = search
-
-returns-2 : tie.Need-returns-2
-returns-2 c = search
-
 pub eq-filled-spec : {M : Type 1} → statement M
 eq-filled-spec =
-    tie.close
-    (tie.spec is-kept-requires returns cast-t12 sub-t13 cast-t14 cast-t15 eq-stack-requires same-length returns-2)
+    tie.close (tie.spec (λ c κs. search) returns (λ c. search needs) (λ c. search needs) (λ c. search needs) (λ c. search needs)
+    eq-stack-requires (λ c. search) (λ c. search))

@@ -28,27 +28,12 @@ count2-of c = search
 abbrev enough : tie.After-same-letters → tie.Else1
 enough c = search
 
-letter-count-requires : tie.Need-letter-count-requires
-letter-count-requires c κs = search
-
-letter-count-requires-2 : tie.Need-letter-count-requires-2
-letter-count-requires-2 c κs = search
-
 returns : tie.Need-returns
 returns c =
     let s : tie.Start = search in
     let a : tie.After-letter-count = search in
     let b : tie.After-letter-count2 = search in
     f-many (tab _ _) _ _ _ _ _ _ _ _ _ _ refl (a .letter-count .ensures .0) (b .letter-count2 .ensures .0) (c .if1 .taken)
-
-add-same-letters : tie.Need-add-same-letters
-add-same-letters c = search needs
-
-add-same-letters-2 : tie.Need-add-same-letters-2
-add-same-letters-2 c = search needs
-
-same-letters-requires : tie.Need-same-letters-requires
-same-letters-requires c κs = search needs
 
 eq-filled-requires : tie.Need-eq-filled-requires
 eq-filled-requires c κs =
@@ -67,21 +52,6 @@ eq-filled-requires c κs =
     let nl = n .if1 .left in
     let bm = big-most (length (s .args .args .now)) in
     (tabled-low (tab (s .args .rows .now) (s .args .parts .now)) (s .args .args .now) (s .args .c .x) (s .args .c .y) (s .pre .0) (omega arith) (omega arith), p2, la, lb, a .letter-count .ensures .0, nl, spare-low (length (s .args .args .now)) (s .args .l) (s .args .r) _ (s .args .c .x) (s .args .c .y) (s .pre .5) (omega arith) (omega arith), closed-stack (tab (s .args .rows .now) (s .args .parts .now)) (s .args .l) (s .args .c .x) (s .args .c .p) (s .pre .6))
-
-cast-t22 : tie.Need-cast-t22
-cast-t22 c = search needs
-
-cast-t24 : tie.Need-cast-t24
-cast-t24 c = search needs
-
-cast-t25 : tie.Need-cast-t25
-cast-t25 c = search needs
-
-cast-t22-2 : tie.Need-cast-t22-2
-cast-t22-2 c = search needs
-
-cast-t25-2 : tie.Need-cast-t25-2
-cast-t25-2 c = search needs
 
 eq-parts-requires : tie.Need-eq-parts-requires
 eq-parts-requires c κs =
@@ -103,9 +73,6 @@ eq-parts-requires c κs =
     let bm = big-most (length (s .args .args .now)) in
     (s .pre .0, omega arith, omega arith, omega arith, omega arith, omega arith, omega arith, omega arith, spare-kept (length (s .args .args .now)) (s .args .l) (s .args .r) _ _ (s .pre .5) (e .eq-filled .kept .1 .1 .1 .1 .1 .1 .1 .0))
 
-same-length : tie.Need-same-length
-same-length c = search needs
-
 returns-2 : tie.Need-returns-2
 returns-2 c =
     let i : tie.Then3 = search in
@@ -117,9 +84,6 @@ returns-2 c =
     let b = count2-of w in
     let n = enough w in
     both-same (i .if3 .taken) (e .eq-filled .ensures) (p .eq-parts .ensures) ∙ f-on (tab _ _) _ _ _ _ _ _ _ _ _ _ refl (a .letter-count .ensures .0) (b .letter-count2 .ensures .0) (n .if1 .left) (w .same-letters .ensures) (same-of e .if2 .taken)
-
-same-length-2 : tie.Need-same-length-2
-same-length-2 c = search
 
 returns-3 : tie.Need-returns-3
 returns-3 c =
@@ -142,7 +106,6 @@ returns-4 c =
 
 pub fill-code-spec : {M : Type 1} → statement M
 fill-code-spec =
-    tie.close
-    (tie.spec letter-count-requires letter-count-requires-2 returns add-same-letters add-same-letters-2 same-letters-requires
-    eq-filled-requires cast-t22 cast-t24 cast-t25 cast-t22-2 cast-t25-2 eq-parts-requires same-length returns-2 same-length-2 returns-3
-    returns-4)
+    tie.close (tie.spec (λ c κs. search) (λ c κs. search) returns (λ c. search needs) (λ c. search needs) (λ c κs. search needs)
+    eq-filled-requires (λ c. search needs) (λ c. search needs) (λ c. search needs) (λ c. search needs) (λ c. search needs)
+    eq-parts-requires (λ c. search needs) returns-2 (λ c. search) returns-3 returns-4)

@@ -27,12 +27,6 @@ link-of c = search
 abbrev start-of : tie.After-w → tie.Start
 start-of c = search
 
-link-of-requires : tie.Need-link-of-requires
-link-of-requires c κs = search
-
-link-of-requires-2 : tie.Need-link-of-requires-2
-link-of-requires-2 c κs = search
-
 read-value-requires : tie.Need-read-value-requires
 read-value-requires c κs =
     let s : tie.Start = search in
@@ -47,9 +41,6 @@ read-value-requires-2 c κs =
     let b = link-few (tab ((s .args) .rows .now) ((s .args) .parts .now)) ((s .args) .rows .now) ((s .args) .n) ((c .before .link-of2) .result) ((s .args) .t) ((c .before .link-of2) .ensures) in
     (omega arith, omega arith)
 
-enum-known-v : tie.Need-enum-known-v
-enum-known-v c = search
-
 returns : tie.Need-returns
 returns c =
     let s : tie.Start = search in
@@ -57,9 +48,6 @@ returns c =
     let link3 : tie.After-link-of2 = search in
     let read2 : tie.After-read-value = search in
     fill-types (tab _ _) _ _ _ _ _ _ ((s .pre) .1) ((link2 .link-of) .ensures) ((link3 .link-of2) .ensures) (fill-left (tab _ _) _ ((read2 .read-value) .ensures .0) (argsOf (tab _ _) _ _) (meanV (tab _ _) _) ((read2 .read-value) .ensures .1) ((c .match) .keys2))
-
-enum-known-w : tie.Need-enum-known-w
-enum-known-w c = search
 
 returns-2 : tie.Need-returns-2
 returns-2 c =
@@ -70,9 +58,6 @@ returns-2 c =
     let read3 : tie.After-read-value2 = search in
     let v2 : tie.After-v = search in
     fill-types (tab _ _) _ _ _ _ _ _ ((s .pre) .1) ((link2 .link-of) .ensures) ((link3 .link-of2) .ensures) (fill-right (tab _ _) _ ((read3 .read-value2) .ensures .0) (argsOf (tab _ _) _ _) _ ((v2 .v) .given .0 .0) ((v2 .v) .given .0 .1 .0) (code-form (tab _ _) _ ((read2 .read-value) .ensures .0) ((v2 .v) .given .1)) ((read3 .read-value2) .ensures .1) ((c .match2) .keys2))
-
-slice-relend-prefix-fill-code : tie.Need-slice-relend-prefix-fill-code
-slice-relend-prefix-fill-code c = search needs
 
 slice-aggregate-fill-code : tie.Need-slice-aggregate-fill-code
 slice-aggregate-fill-code c =
@@ -92,9 +77,6 @@ fill-code-requires c κs =
     let g = code-low (m .link-of2 .result) (y .w .given .1) (q .read-value2 .ensures .1) in
     (tabled-args (tab (s .args .rows .now) (s .args .parts .now)) (s .args .n) (s .args .args .now) (l .link-of .result) (m .link-of2 .result) (s .args .c) (s .args .t) (s .pre .0) (s .pre .1) (l .link-of .ensures) (m .link-of2 .ensures), f .0, f .1, g .0, g .1, spare-kept (length (s .args .args .now)) (l .link-of .result) (m .link-of2 .result) _ _ (spare-args (tab (s .args .rows .now) (s .args .parts .now)) (s .args .n) (s .args .args .now) (l .link-of .result) (m .link-of2 .result) (s .args .c) (s .args .t) (s .pre .0) (l .link-of .ensures) (m .link-of2 .ensures)) (length-first 1543 (s .args .pending .now) (s .pre .3)), closed-code (tab (s .args .rows .now) (s .args .parts .now)) (s .args .args .now) (s .args .n) (s .args .c) (l .link-of .result) (x .v .given .0 .0) (x .v .given .0 .1 .0) (l .link-of .ensures) (code-form (tab (s .args .rows .now) (s .args .parts .now)) (l .link-of .result) (p .read-value .ensures .0) (x .v .given .1)) (s .pre .2))
 
-same-length : tie.Need-same-length
-same-length c = search needs
-
 returns-3 : tie.Need-returns-3
 returns-3 c =
     let f : tie.After-fill-code = search in
@@ -109,6 +91,5 @@ returns-3 c =
 
 pub filled-spec : {M : Type 1} → statement M
 filled-spec =
-    tie.close
-    (tie.spec link-of-requires link-of-requires-2 read-value-requires read-value-requires-2 enum-known-v returns enum-known-w returns-2
-    slice-relend-prefix-fill-code slice-aggregate-fill-code fill-code-requires same-length returns-3)
+    tie.close (tie.spec (λ c κs. search) (λ c κs. search) read-value-requires read-value-requires-2 (λ c. search) returns (λ c. search)
+    returns-2 (λ c. search needs) slice-aggregate-fill-code fill-code-requires (λ c. search needs) returns-3)

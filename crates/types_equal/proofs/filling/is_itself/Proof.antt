@@ -4,17 +4,8 @@ use borrow.Author.Needs.{needs}
 use Rattle.types_equal.proofs.filling.is_itself.Statement.{statement}
 use Rattle.types_equal.proofs.filling.is_itself.Tie as tie
 
-entry-requires : tie.Need-entry-requires
-entry-requires c κs = search needs
-
-variable-kind-requires : tie.Need-variable-kind-requires
-variable-kind-requires c κs = search
-
 returns : tie.Need-returns
 returns c = none-true
-
-entry-requires-2 : tie.Need-entry-requires-2
-entry-requires-2 c κs = search needs
 
 returns-2 : tie.Need-returns-2
 returns-2 c =
@@ -24,5 +15,4 @@ returns-2 c =
     itself-is _ _ _ _ ((entr .entry) .ensures .0) ((vari .variable-kind) .ensures) ((c .before .if1) .left) ((c .entry2) .ensures .0)
 
 pub is-itself-spec : {M : Type 1} → statement M
-is-itself-spec =
-    tie.close (tie.spec entry-requires variable-kind-requires returns entry-requires-2 returns-2)
+is-itself-spec = tie.close (tie.spec (λ c κs. search needs) (λ c κs. search) returns (λ c κs. search needs) returns-2)

@@ -1,5 +1,4 @@
 use Prim.Native.Nat.{_-_}
-use lib.ListN.{length}
 use borrow.Author.Tests.{not-false}
 use Rattle.types.proofs.Equal.{none-true}
 use Rattle.types_rows.specs.Read.{tab}
@@ -14,18 +13,6 @@ returns c = none-true
 returns-2 : tie.Need-returns-2
 returns-2 c = none-true
 
-add-all-themselves : tie.Need-add-all-themselves
-add-all-themselves c = search needs
-
-sub-all-themselves : tie.Need-sub-all-themselves
-sub-all-themselves c = search
-
-add-all-themselves-2 : tie.Need-add-all-themselves-2
-add-all-themselves-2 c = search needs
-
-all-themselves-requires : tie.Need-all-themselves-requires
-all-themselves-requires c κs = search needs
-
 returns-3 : tie.Need-returns-3
 returns-3 c =
     let s : tie.Start = search in
@@ -34,5 +21,4 @@ returns-3 c =
 
 pub is-kept-spec : {M : Type 1} → statement M
 is-kept-spec =
-    tie.close
-    (tie.spec returns returns-2 add-all-themselves sub-all-themselves add-all-themselves-2 all-themselves-requires returns-3)
+    tie.close (tie.spec returns returns-2 (λ c. search needs) (λ c. search) (λ c. search needs) (λ c κs. search needs) returns-3)

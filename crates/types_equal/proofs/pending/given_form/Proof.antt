@@ -1,25 +1,10 @@
 use native.Mathlib.Omega.{arith}
-use Rattle.types_rows.specs.Read.{tab, OkS}
-use Rattle.types_rows.specs.declared.Stk.the-variants.{Nil, StkVar, StkFill, Push, Join}
-use Rattle.types_equal.proofs.pending.Entries.{given-form, own-form, own-arg, entry-given, ok-push, ok-join, fill-none}
+use Rattle.types_rows.specs.Read.{tab}
+use Rattle.types_rows.specs.declared.Stk.the-variants.{Nil, StkVar, Push, Join}
+use Rattle.types_equal.proofs.pending.Entries.{given-form, ok-push, ok-join, fill-none}
 use borrow.Author.Needs.{needs}
 use Rattle.types_equal.proofs.pending.given_form.Statement.{statement}
 use Rattle.types_equal.proofs.pending.given_form.Tie as tie
-
-read-stack-requires : tie.Need-read-stack-requires
-read-stack-requires c κs = search needs
-
-enum-told : tie.Need-enum-told
-enum-told c = search
-
-enum-known-s : tie.Need-enum-known-s
-enum-known-s c = search
-
-enum-told-2 : tie.Need-enum-told-2
-enum-told-2 c = search
-
-enum-known-s-2 : tie.Need-enum-known-s-2
-enum-known-s-2 c = search
 
 add-t11 : tie.Need-add-t11
 add-t11 c =
@@ -30,9 +15,6 @@ add-t11 c =
     let o1 = o .1 in
     let b = (s .pre) .0 in
     record { fits = omega arith }
-
-enum-known-s-3 : tie.Need-enum-known-s-3
-enum-known-s-3 c = search
 
 add-t12 : tie.Need-add-t12
 add-t12 c =
@@ -86,6 +68,5 @@ returns-5 c =
 
 pub given-form-spec : {M : Type 1} → statement M
 given-form-spec =
-    tie.close
-    (tie.spec read-stack-requires enum-told enum-known-s enum-told-2 enum-known-s-2 add-t11 enum-known-s-3 add-t12 add-t13 returns returns-2
-    returns-3 returns-4 returns-5)
+    tie.close (tie.spec (λ c κs. search needs) (λ c. search) (λ c. search) (λ c. search) (λ c. search) add-t11 (λ c. search) add-t12
+    add-t13 returns returns-2 returns-3 returns-4 returns-5)

@@ -3,16 +3,10 @@ use Rattle.types_equal.proofs.pending.Sides.{half-right, half-left}
 use Rattle.types_equal.proofs.pending.half_of.Statement.{statement}
 use Rattle.types_equal.proofs.pending.half_of.Tie as tie
 
-cast-result : tie.Need-cast-result
-cast-result c = search needs
-
 returns : tie.Need-returns
 returns c =
     let s : tie.Start = search in
     half-right (s .args .right) (s .args .w) (c .if1 .taken)
-
-cast-result-2 : tie.Need-cast-result-2
-cast-result-2 c = search needs
 
 returns-2 : tie.Need-returns-2
 returns-2 c =
@@ -20,4 +14,4 @@ returns-2 c =
     half-left (s .args .right) (s .args .w) (c .if1 .left)
 
 pub half-of-spec : {M : Type 1} → statement M
-half-of-spec = tie.close (tie.spec cast-result returns cast-result-2 returns-2)
+half-of-spec = tie.close (tie.spec (λ c. search needs) returns (λ c. search needs) returns-2)

@@ -58,9 +58,6 @@ loop-holds : tie.Need-loop-holds Inv-loop μ-loop
 loop-holds c =
     (kept-first _ _ _, (λ ps. means-first (tab _ ps) (argsOf (tab _ ps) _ _) _ _ _ _), refl, refl)
 
-sub-entry : tie.Need-sub-entry Inv-loop μ-loop
-sub-entry c = search
-
 entry-requires : tie.Need-entry-requires Inv-loop μ-loop
 entry-requires c κs =
     let i : In-loop = search in
@@ -79,12 +76,6 @@ form-of-requires c κs =
     let q = p .most in
     (omega arith, s .pre .0, s .pre .1)
 
-enum-told : tie.Need-enum-told Inv-loop μ-loop
-enum-told c = search
-
-sub-n : tie.Need-sub-n Inv-loop μ-loop
-sub-n c = search
-
 loop-less : tie.Need-loop-less Inv-loop μ-loop
 loop-less c =
     let i : In-loop = search in
@@ -101,12 +92,6 @@ loop-again c =
     let h = loop-of i in
     let p = spot-of i in
     (kept-skip _ _ _ _ _ (h .loop .n - 1) (p .last) (p .kept), (λ ps. means-skip (tab _ ps) (argsOf (tab _ ps) _ _) _ _ (s .args .m) _ _ _ _ (h .loop .n - 1) (p .last) (h .loop .inv .1 ps) (form-in w ps Skip (c .enum-told .given .1))), h .loop .inv .2, h .loop .inv .3)
-
-enum-known-f : tie.Need-enum-known-f Inv-loop μ-loop
-enum-known-f c = search
-
-sub-store : tie.Need-sub-store Inv-loop μ-loop
-sub-store c = search
 
 store-requires : tie.Need-store-requires Inv-loop μ-loop
 store-requires c κs =
@@ -143,12 +128,6 @@ loop-again-2 c =
     let p = spot-of i in
     let o = form-in w [] (One (f .f .given .0 .0)) (f .f .given .1) in
     (rw (t .store .ensures .0) (kept-one _ _ _ _ _ (h .loop .n - 1) (p .last) (p .kept) (f .f .given .0 .0) (p .inside) (o .2) (o .3)), (λ ps. rw (t .store .ensures .0) (means-one (tab _ ps) (argsOf (tab _ ps) _ _) _ _ _ _ _ _ _ (h .loop .n - 1) (p .last) (h .loop .inv .1 ps) (f .f .given .0 .0) (p .inside) (form-in w ps (One (f .f .given .0 .0)) (f .f .given .1)))), t .store .ensures .1 ∙ h .loop .inv .2, t .store .kept .0 ∙ h .loop .inv .3)
-
-enum-known-f-2 : tie.Need-enum-known-f-2 Inv-loop μ-loop
-enum-known-f-2 c = search
-
-sub-store-2 : tie.Need-sub-store-2 Inv-loop μ-loop
-sub-store-2 c = search
 
 store-requires-2 : tie.Need-store-requires-2 Inv-loop μ-loop
 store-requires-2 c κs =
@@ -217,12 +196,6 @@ loop-again-3 c =
     let o = form-in w [] (Two (f .f2 .given .0 .0) (f .f2 .given .0 .1 .0)) (f .f2 .given .1) in
     (rw (u .store3 .ensures .0, t .store2 .ensures .0) (kept-two _ _ _ _ _ (h .loop .n - 1) (p .last) (p .kept) (f .f2 .given .0 .0) (f .f2 .given .0 .1 .0) (p .two (f .f2 .given .0 .0) (o .2) .1) (o .2) (o .3)), (λ ps. rw (u .store3 .ensures .0, t .store2 .ensures .0) (means-two (tab _ ps) (argsOf (tab _ ps) _ _) _ _ _ _ _ _ _ (h .loop .n - 1) (p .last) (h .loop .inv .1 ps) (f .f2 .given .0 .0) (f .f2 .given .0 .1 .0) (p .two (f .f2 .given .0 .0) (o .2) .1) (form-in w ps (Two (f .f2 .given .0 .0) (f .f2 .given .0 .1 .0)) (f .f2 .given .1)))), u .store3 .ensures .1 ∙ t .store2 .ensures .1 ∙ h .loop .inv .2, u .store3 .kept .0 ∙ t .store2 .kept .0 ∙ h .loop .inv .3)
 
-enum-known-f-3 : tie.Need-enum-known-f-3 Inv-loop μ-loop
-enum-known-f-3 c = search
-
-sub-store-3 : tie.Need-sub-store-3 Inv-loop μ-loop
-sub-store-3 c = search
-
 store-requires-4 : tie.Need-store-requires-4 Inv-loop μ-loop
 store-requires-4 c κs =
     let i : In-loop = search in
@@ -253,12 +226,6 @@ returns c =
     let p = spot-of i in
     let o = form-in w [] (OwnTop (f .f3 .given .0 .0) (f .f3 .given .0 .1 .0)) (f .f3 .given .1) in
     ((λ ps. rw (t .store4 .ensures .0) (next-own (tab _ ps) (argsOf (tab _ ps) _ _) _ _ _ _ _ _ _ (h .loop .n - 1) (p .last) (h .loop .inv .1 ps) (p .kept) (f .f3 .given .0 .0) (f .f3 .given .0 .1 .0) (p .inside) (form-in w ps (OwnTop (f .f3 .given .0 .0) (f .f3 .given .0 .1 .0)) (f .f3 .given .1)))), t .store4 .ensures .1 ∙ h .loop .inv .2)
-
-enum-known-f-4 : tie.Need-enum-known-f-4 Inv-loop μ-loop
-enum-known-f-4 c = search
-
-sub-store-4 : tie.Need-sub-store-4 Inv-loop μ-loop
-sub-store-4 c = search
 
 store-requires-5 : tie.Need-store-requires-5 Inv-loop μ-loop
 store-requires-5 c κs =
@@ -291,12 +258,6 @@ returns-2 c =
     let o = form-in w [] (GivenTop (f .f4 .given .0 .0) (f .f4 .given .0 .1 .0)) (f .f4 .given .1) in
     ((λ ps. rw (t .store5 .ensures .0) (next-given (tab _ ps) (argsOf (tab _ ps) _ _) _ _ _ _ _ _ _ (h .loop .n - 1) (p .last) (h .loop .inv .1 ps) (p .kept) (f .f4 .given .0 .0) (f .f4 .given .0 .1 .0) (p .inside) (form-in w ps (GivenTop (f .f4 .given .0 .0) (f .f4 .given .0 .1 .0)) (f .f4 .given .1)))), t .store5 .ensures .1 ∙ h .loop .inv .2)
 
-enum-known-f-5 : tie.Need-enum-known-f-5 Inv-loop μ-loop
-enum-known-f-5 c = search
-
-sub-t42 : tie.Need-sub-t42 Inv-loop μ-loop
-sub-t42 c = search
-
 same-length-3 : tie.Need-same-length-3 Inv-loop μ-loop
 same-length-3 c =
     let i : In-loop = search in
@@ -312,9 +273,6 @@ returns-3 c =
     let h = loop-of i in
     let p = spot-of i in
     ((λ ps. next-var (tab _ ps) (argsOf (tab _ ps) _ _) _ _ _ _ _ _ _ (h .loop .n - 1) (p .last) (h .loop .inv .1 ps) (p .kept) (f .f5 .given .0 .0) (form-in w ps (VarTop (f .f5 .given .0 .0)) (f .f5 .given .1))), h .loop .inv .2)
-
-enum-told-2 : tie.Need-enum-told-2 Inv-loop μ-loop
-enum-told-2 c = search
 
 same-length-4 : tie.Need-same-length-4 Inv-loop μ-loop
 same-length-4 c =
@@ -344,8 +302,8 @@ returns-5 c =
 
 pub next-item-spec : {M : Type 1} → statement M
 next-item-spec =
-    tie.close
-    (tie.spec Inv-loop μ-loop loop-holds sub-entry entry-requires form-of-requires enum-told sub-n loop-less loop-again enum-known-f
-    sub-store store-requires loop-less-2 loop-again-2 enum-known-f-2 sub-store-2 store-requires-2 store-requires-3 add-n loop-less-3
-    loop-again-3 enum-known-f-3 sub-store-3 store-requires-4 same-length returns enum-known-f-4 sub-store-4 store-requires-5 same-length-2
-    returns-2 enum-known-f-5 sub-t42 same-length-3 returns-3 enum-told-2 same-length-4 returns-4 same-length-5 returns-5)
+    tie.close (tie.spec Inv-loop μ-loop loop-holds (λ c. search) entry-requires form-of-requires (λ c. search) (λ c. search) loop-less
+    loop-again (λ c. search) (λ c. search) store-requires loop-less-2 loop-again-2 (λ c. search) (λ c. search) store-requires-2
+    store-requires-3 add-n loop-less-3 loop-again-3 (λ c. search) (λ c. search) store-requires-4 same-length returns (λ c. search)
+    (λ c. search) store-requires-5 same-length-2 returns-2 (λ c. search) (λ c. search) same-length-3 returns-3 (λ c. search) same-length-4
+    returns-4 same-length-5 returns-5)

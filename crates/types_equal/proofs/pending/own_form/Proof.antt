@@ -1,34 +1,9 @@
-use native.Mathlib.Omega.{arith}
-use Rattle.types_rows.specs.Read.{tab, OkS}
-use Rattle.types_rows.specs.declared.Stk.the-variants.{Nil, StkVar, StkFill, Push, Join}
-use Rattle.types_equal.proofs.pending.Entries.{given-form, own-form, own-arg, entry-given, below-mark, ok-push, ok-join}
+use Rattle.types_rows.specs.Read.{tab}
+use Rattle.types_rows.specs.declared.Stk.the-variants.{Nil, StkVar, Push, Join}
+use Rattle.types_equal.proofs.pending.Entries.{own-form, own-arg, below-mark}
 use borrow.Author.Needs.{needs}
 use Rattle.types_equal.proofs.pending.own_form.Statement.{statement}
 use Rattle.types_equal.proofs.pending.own_form.Tie as tie
-
-read-stack-requires : tie.Need-read-stack-requires
-read-stack-requires c κs = search needs
-
-enum-told : tie.Need-enum-told
-enum-told c = search
-
-enum-known-s : tie.Need-enum-known-s
-enum-known-s c = search
-
-enum-known-s-2 : tie.Need-enum-known-s-2
-enum-known-s-2 c = search
-
-at-requires : tie.Need-at-requires
-at-requires c κs = search
-
-arg-form-requires : tie.Need-arg-form-requires
-arg-form-requires c κs = search
-
-enum-known-s-3 : tie.Need-enum-known-s-3
-enum-known-s-3 c = search
-
-enum-known-s-4 : tie.Need-enum-known-s-4
-enum-known-s-4 c = search
 
 returns : tie.Need-returns
 returns c =
@@ -63,6 +38,5 @@ returns-5 c =
 
 pub own-form-spec : {M : Type 1} → statement M
 own-form-spec =
-    tie.close
-    (tie.spec read-stack-requires enum-told enum-known-s enum-known-s-2 at-requires arg-form-requires enum-known-s-3 enum-known-s-4 returns
-    returns-2 returns-3 returns-4 returns-5)
+    tie.close (tie.spec (λ c κs. search needs) (λ c. search) (λ c. search) (λ c. search) (λ c κs. search) (λ c κs. search) (λ c. search)
+    (λ c. search) returns returns-2 returns-3 returns-4 returns-5)

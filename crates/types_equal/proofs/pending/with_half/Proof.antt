@@ -3,23 +3,11 @@ use Rattle.types_equal.proofs.pending.Sides.{put-right, put-left}
 use Rattle.types_equal.proofs.pending.with_half.Statement.{statement}
 use Rattle.types_equal.proofs.pending.with_half.Tie as tie
 
-mul-result : tie.Need-mul-result
-mul-result c = search needs
-
-add-result : tie.Need-add-result
-add-result c = search needs
-
 returns : tie.Need-returns
 returns c =
     let s : tie.Start = search in
     let i : tie.Then1 = search in
     put-right (s .args .right) (s .args .w) (s .args .x) (i .if1 .taken) (s .pre)
-
-mul-result-2 : tie.Need-mul-result-2
-mul-result-2 c = search needs
-
-add-result-2 : tie.Need-add-result-2
-add-result-2 c = search needs
 
 returns-2 : tie.Need-returns-2
 returns-2 c =
@@ -28,5 +16,4 @@ returns-2 c =
     put-left (s .args .right) (s .args .w) (s .args .x) (i .if1 .left) (s .pre)
 
 pub with-half-spec : {M : Type 1} → statement M
-with-half-spec =
-    tie.close (tie.spec mul-result add-result returns mul-result-2 add-result-2 returns-2)
+with-half-spec = tie.close (tie.spec (λ c. search needs) (λ c. search needs) returns (λ c. search needs) (λ c. search needs) returns-2)

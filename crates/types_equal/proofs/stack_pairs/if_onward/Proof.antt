@@ -1,4 +1,3 @@
-use borrow.Author.Needs.{needs}
 use borrow.Author.Tests.{eq-eqb, ne-eqb}
 use Rattle.types_equal.proofs.stack_pairs.if_onward.Statement.{statement}
 use Rattle.types_equal.proofs.stack_pairs.if_onward.Tie as tie

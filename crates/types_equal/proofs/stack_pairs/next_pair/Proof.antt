@@ -8,25 +8,10 @@ use Rattle.types_equal.proofs.stack_pairs.Stacks.{duo-by}
 use Rattle.types_equal.proofs.stack_pairs.next_pair.Statement.{statement}
 use Rattle.types_equal.proofs.stack_pairs.next_pair.Tie as tie
 
-cast-next-item : tie.Need-cast-next-item
-cast-next-item c = search needs
-
-cast-next-item-2 : tie.Need-cast-next-item-2
-cast-next-item-2 c = search needs
-
-cast-next-item-3 : tie.Need-cast-next-item-3
-cast-next-item-3 c = search needs
-
 next-item-requires : tie.Need-next-item-requires
 next-item-requires c κs =
     let s : tie.Start = search in
     (s .pre .0, s .pre .2, s .pre .3, s .pre .4, s .pre .5)
-
-cast-next-item-4 : tie.Need-cast-next-item-4
-cast-next-item-4 c = search needs
-
-cast-next-item-5 : tie.Need-cast-next-item-5
-cast-next-item-5 c = search needs
 
 next-item-requires-2 : tie.Need-next-item-requires-2
 next-item-requires-2 c κs =
@@ -37,12 +22,6 @@ next-item-requires-2 c κs =
     let p4 = s .pre .4 in
     (s .pre .1, (λ j h. absurd (omega arith)), omega arith, omega arith, rw (k, a .next-item .ensures .1) (s .pre .6))
 
-two-items-requires : tie.Need-two-items-requires
-two-items-requires c κs = search
-
-same-length : tie.Need-same-length
-same-length c = search needs
-
 returns : tie.Need-returns
 returns c =
     let s : tie.Start = search in
@@ -52,6 +31,5 @@ returns c =
 
 pub next-pair-spec : {M : Type 1} → statement M
 next-pair-spec =
-    tie.close
-    (tie.spec cast-next-item cast-next-item-2 cast-next-item-3 next-item-requires cast-next-item-4 cast-next-item-5 next-item-requires-2
-    two-items-requires same-length returns)
+    tie.close (tie.spec (λ c. search needs) (λ c. search needs) (λ c. search needs) next-item-requires (λ c. search needs)
+    (λ c. search needs) next-item-requires-2 (λ c κs. search) (λ c. search needs) returns)

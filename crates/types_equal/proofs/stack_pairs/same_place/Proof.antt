@@ -1,4 +1,3 @@
-use borrow.Author.Needs.{needs}
 use Rattle.types.proofs.Equal.{none-true}
 use Rattle.types_equal.proofs.stack_pairs.Stacks.{at-same}
 use Rattle.types_equal.proofs.stack_pairs.same_place.Statement.{statement}

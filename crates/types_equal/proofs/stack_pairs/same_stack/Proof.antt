@@ -5,40 +5,10 @@ use Rattle.types_equal.proofs.stack_pairs.Stacks.{s-place, s-given}
 use Rattle.types_equal.proofs.stack_pairs.same_stack.Statement.{statement}
 use Rattle.types_equal.proofs.stack_pairs.same_stack.Tie as tie
 
-cast-read-stack : tie.Need-cast-read-stack
-cast-read-stack c = search needs
-
-cast-read-stack-2 : tie.Need-cast-read-stack-2
-cast-read-stack-2 c = search needs
-
-cast-read-stack-3 : tie.Need-cast-read-stack-3
-cast-read-stack-3 c = search needs
-
-read-stack-requires : tie.Need-read-stack-requires
-read-stack-requires c κs = search
-
-enum-known-s : tie.Need-enum-known-s
-enum-known-s c = search
-
-same-place-requires : tie.Need-same-place-requires
-same-place-requires c κs = search
-
 returns : tie.Need-returns
 returns c =
     let s2 : tie.Start = search in
     λ t ps. s-place (tab _ ps) _ _ _ _ _ _ _ _ (c .same-place .ensures) t
-
-at-requires : tie.Need-at-requires
-at-requires c κs = search
-
-is-stack-requires : tie.Need-is-stack-requires
-is-stack-requires c κs = search needs
-
-add-same-place : tie.Need-add-same-place
-add-same-place c = search needs
-
-same-place-requires-2 : tie.Need-same-place-requires-2
-same-place-requires-2 c κs = search
 
 returns-2 : tie.Need-returns-2
 returns-2 c =
@@ -54,6 +24,5 @@ returns-3 c = none-true
 
 pub same-stack-spec : {M : Type 1} → statement M
 same-stack-spec =
-    tie.close
-    (tie.spec cast-read-stack cast-read-stack-2 cast-read-stack-3 read-stack-requires enum-known-s same-place-requires returns at-requires
-    is-stack-requires add-same-place same-place-requires-2 returns-2 returns-3)
+    tie.close (tie.spec (λ c. search needs) (λ c. search needs) (λ c. search needs) (λ c κs. search) (λ c. search) (λ c κs. search)
+    returns (λ c κs. search) (λ c κs. search needs) (λ c. search needs) (λ c κs. search) returns-2 returns-3)

@@ -1,39 +1,8 @@
 use mathlib.Core.Path.{_∙_, sym, ap}
 use Rattle.types_equal.specs.stack_pairs.Items.{duoOf}
 use Rattle.types_equal.specs.declared.pending.Next.{Next}
-use borrow.Author.Needs.{needs}
 use Rattle.types_equal.proofs.stack_pairs.two_items.Statement.{statement}
 use Rattle.types_equal.proofs.stack_pairs.two_items.Tie as tie
-
-enum-told : tie.Need-enum-told
-enum-told c = search
-
-end-with-requires : tie.Need-end-with-requires
-end-with-requires c κs = search
-
-enum-known-a : tie.Need-enum-known-a
-enum-known-a c = search
-
-own-with-requires : tie.Need-own-with-requires
-own-with-requires c κs = search
-
-enum-known-a-2 : tie.Need-enum-known-a-2
-enum-known-a-2 c = search
-
-given-with-requires : tie.Need-given-with-requires
-given-with-requires c κs = search
-
-enum-known-a-3 : tie.Need-enum-known-a-3
-enum-known-a-3 c = search
-
-var-with-requires : tie.Need-var-with-requires
-var-with-requires c κs = search
-
-enum-told-2 : tie.Need-enum-told-2
-enum-told-2 c = search
-
-returns : tie.Need-returns
-returns c = search
 
 returns-2 : tie.Need-returns-2
 returns-2 c =
@@ -53,11 +22,7 @@ returns-4 c =
     let a : tie.After-a3 = search in
     (c .var-with) .ensures ∙ ap (λ (z : Next). duoOf z ((s .args) .b)) (sym ((a .a3) .given .1))
 
-returns-5 : tie.Need-returns-5
-returns-5 c = search
-
 pub two-items-spec : {M : Type 1} → statement M
 two-items-spec =
-    tie.close
-    (tie.spec enum-told end-with-requires enum-known-a own-with-requires enum-known-a-2 given-with-requires enum-known-a-3 var-with-requires
-    enum-told-2 returns returns-2 returns-3 returns-4 returns-5)
+    tie.close (tie.spec (λ c. search) (λ c κs. search) (λ c. search) (λ c κs. search) (λ c. search) (λ c κs. search) (λ c. search)
+    (λ c κs. search) (λ c. search) (λ c. search) returns-2 returns-3 returns-4 (λ c. search))

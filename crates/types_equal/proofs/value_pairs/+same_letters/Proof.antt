@@ -1,5 +1,4 @@
 use borrow.Author.Needs.{needs}
-use native.Mathlib.Omega.{arith}
 use Rattle.types_equal.proofs.value_pairs.Letters.{letters-end, letters-short, letters-on, letters-off}
 use Prim.Native.Nat.{ℕ, _<_}
 use borrow.Fn.Kinds.{In}
@@ -40,30 +39,6 @@ same-letters-returns-2 t c =
     let s : same-letters-lts.Start (same-letters-claims t) (same-letters-at t) same-letters.Post = search in
     letters-short _ _ _ _ _ ((c .before .if1) .left) ((c .if2) .taken)
 
-same-letters-at-requires : (t : ℕ) → same-letters-lts.Need-at-requires (same-letters-claims t) (same-letters-at t) same-letters.Post
-same-letters-at-requires t c κs = search
-
-same-letters-at-requires-2 : (t : ℕ) → same-letters-lts.Need-at-requires-2 (same-letters-claims t) (same-letters-at t) same-letters.Post
-same-letters-at-requires-2 t c κs = search
-
-same-letters-same-letter-requires : (t : ℕ) → same-letters-lts.Need-same-letter-requires (same-letters-claims t) (same-letters-at t) same-letters.Post
-same-letters-same-letter-requires t c κs = search
-
-same-letters-add-same-letters : (t : ℕ) → same-letters-lts.Need-add-same-letters (same-letters-claims t) (same-letters-at t) same-letters.Post
-same-letters-add-same-letters t c = search needs
-
-same-letters-sub-same-letters : (t : ℕ) → same-letters-lts.Need-sub-same-letters (same-letters-claims t) (same-letters-at t) same-letters.Post
-same-letters-sub-same-letters t c = search needs
-
-same-letters-add-same-letters-2 : (t : ℕ) → same-letters-lts.Need-add-same-letters-2 (same-letters-claims t) (same-letters-at t) same-letters.Post
-same-letters-add-same-letters-2 t c = search needs
-
-same-letters-sub-same-letters-2 : (t : ℕ) → same-letters-lts.Need-sub-same-letters-2 (same-letters-claims t) (same-letters-at t) same-letters.Post
-same-letters-sub-same-letters-2 t c = search needs
-
-same-letters-same-letters-requires : (t : ℕ) → same-letters-lts.Need-same-letters-requires (same-letters-claims t) (same-letters-at t) same-letters.Post
-same-letters-same-letters-requires t c κs = search needs
-
 same-letters-returns-3 : (t : ℕ) → same-letters-lts.Need-returns-3 (same-letters-claims t) (same-letters-at t) same-letters.Post
 same-letters-returns-3 t c =
     let s : same-letters-lts.Start (same-letters-claims t) (same-letters-at t) same-letters.Post = search in
@@ -89,13 +64,13 @@ pub +same-letters-spec : {M : Type 1} → statement M
     same-letters.Post
     (same-letters-returns t)
     (same-letters-returns-2 t)
-    (same-letters-at-requires t)
-    (same-letters-at-requires-2 t)
-    (same-letters-same-letter-requires t)
-    (same-letters-add-same-letters t)
-    (same-letters-sub-same-letters t)
-    (same-letters-add-same-letters-2 t)
-    (same-letters-sub-same-letters-2 t)
-    (same-letters-same-letters-requires t)
+    (λ c κs. search)
+    (λ c κs. search)
+    (λ c κs. search)
+    (λ c. search needs)
+    (λ c. search needs)
+    (λ c. search needs)
+    (λ c. search needs)
+    (λ c κs. search needs)
     (same-letters-returns-3 t)
     (same-letters-returns-4 t)

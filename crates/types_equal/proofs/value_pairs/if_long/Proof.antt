@@ -1,4 +1,3 @@
-use borrow.Author.Needs.{needs}
 use borrow.Author.Tests.{eq-eqb, ne-eqb}
 use Rattle.types_equal.proofs.value_pairs.if_long.Statement.{statement}
 use Rattle.types_equal.proofs.value_pairs.if_long.Tie as tie

@@ -1,54 +1,8 @@
 use mathlib.Core.Path.{_∙_, sym, ap}
 use Rattle.types_rows.specs.declared.Val.{Val}
 use Rattle.types_equal.specs.value_pairs.Pairs.{pairOf}
-use borrow.Author.Needs.{needs}
 use Rattle.types_equal.proofs.value_pairs.pair_up.Statement.{statement}
 use Rattle.types_equal.proofs.value_pairs.pair_up.Tie as tie
-
-enum-told : tie.Need-enum-told
-enum-told c = search
-
-with-int-requires : tie.Need-with-int-requires
-with-int-requires c κs = search
-
-enum-told-2 : tie.Need-enum-told-2
-enum-told-2 c = search
-
-with-junk-requires : tie.Need-with-junk-requires
-with-junk-requires c κs = search
-
-enum-known-n : tie.Need-enum-known-n
-enum-known-n c = search
-
-with-var-requires : tie.Need-with-var-requires
-with-var-requires c κs = search
-
-enum-known-n-2 : tie.Need-enum-known-n-2
-enum-known-n-2 c = search
-
-enum-known-n-3 : tie.Need-enum-known-n-3
-enum-known-n-3 c = search
-
-with-tuple-requires : tie.Need-with-tuple-requires
-with-tuple-requires c κs = search
-
-enum-known-n-4 : tie.Need-enum-known-n-4
-enum-known-n-4 c = search
-
-with-pointer-requires : tie.Need-with-pointer-requires
-with-pointer-requires c κs = search
-
-enum-known-n-5 : tie.Need-enum-known-n-5
-enum-known-n-5 c = search
-
-with-code-requires : tie.Need-with-code-requires
-with-code-requires c κs = search
-
-returns : tie.Need-returns
-returns c = search
-
-returns-2 : tie.Need-returns-2
-returns-2 c = search
 
 returns-3 : tie.Need-returns-3
 returns-3 c =
@@ -81,7 +35,6 @@ returns-7 c =
 
 pub pair-up-spec : {M : Type 1} → statement M
 pair-up-spec =
-    tie.close
-    (tie.spec enum-told with-int-requires enum-told-2 with-junk-requires enum-known-n with-var-requires enum-known-n-2 enum-known-n-3
-    with-tuple-requires enum-known-n-4 with-pointer-requires enum-known-n-5 with-code-requires returns returns-2 returns-3 returns-4
-    returns-5 returns-6 returns-7)
+    tie.close (tie.spec (λ c. search) (λ c κs. search) (λ c. search) (λ c κs. search) (λ c. search) (λ c κs. search) (λ c. search)
+    (λ c. search) (λ c κs. search) (λ c. search) (λ c κs. search) (λ c. search) (λ c κs. search) (λ c. search) (λ c. search) returns-3
+    returns-4 returns-5 returns-6 returns-7)

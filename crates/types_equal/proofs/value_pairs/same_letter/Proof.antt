@@ -1,4 +1,3 @@
-use borrow.Author.Needs.{needs}
 use Rattle.types_equal.proofs.value_pairs.Letters.{letter-v, letter-s}
 use Rattle.types_equal.proofs.value_pairs.same_letter.Statement.{statement}
 use Rattle.types_equal.proofs.value_pairs.same_letter.Tie as tie

@@ -2,7 +2,7 @@
 use borrow.Author.Needs.{needs}
 use mathlib.Core.Path.{_≡_, refl}
 use mathlib.Core.List.{List}
-use Prim.Native.Nat.{ℕ, _+_, _-_, _≤_}
+use Prim.Native.Nat.{ℕ, _-_, _≤_}
 use native.Mathlib.Omega.{arith}
 use lib.ListN.{length, length-set}
 use Rattle.types_rows.specs.item_counts.Counts.{SizesFit}
@@ -32,34 +32,24 @@ narrow-requires : tie.Need-narrow-requires Inv-loop μ-loop
 narrow-requires c κs =
     let s : Start = search in
     let l : At-loop = search in
-    let rows = s .args .rows .now in
     let ps = s .pre .2 .0 in
     let fit = s .pre .2 .1 in
     let f = l .loop .inv .2 ps fit in
-    let n = c .count-row .ensures ps (filling-low rows ps (s .args .n) (l .loop .rows) (l .loop .r) f (l .loop .r + 1) refl) in
-    filling-small rows ps (s .args .n) (l .loop .rows) (l .loop .r) f (c .count-row .result) (omega arith) fit (filling-count rows ps (s .args .n) (l .loop .rows) (l .loop .r) f (l .loop .r + 1) (c .count-row .result) refl n)
+    let n = c .count-row .ensures ps (filling-low _ ps _ _ _ f _ refl) in
+    filling-small _ ps _ _ _ f _ (omega arith) fit (filling-count _ ps _ _ _ f _ _ refl n)
 
 loop-again : tie.Need-loop-again Inv-loop μ-loop
 loop-again c =
-    let s : Start = search in
     let l : At-loop = search in
     let t : Counted-row = search in
-    let rows = s .args .rows .now in (
-      omega arith,
-      simp length-set (l .loop .inv .1),
-      λ ps fit.
-          let f = l .loop .inv .2 ps fit in
-          let n = t .count-row .ensures ps (filling-low rows ps (s .args .n) (l .loop .rows) (l .loop .r) f (l .loop .r + 1) refl) in
-          filling-next rows ps (s .args .n) (l .loop .rows) (l .loop .r) f (t .count-row .result) (c .narrow .result) (omega arith) (s .pre .1) (filling-count rows ps (s .args .n) (l .loop .rows) (l .loop .r) f (l .loop .r + 1) (t .count-row .result) refl n) (c .narrow .ensures),
-    )
+    (omega arith, simp length-set (search), λ ps fit. let f = l .loop .inv .2 ps fit in let n = t .count-row .ensures ps (filling-low _ ps _ _ _ f _ refl) in filling-next _ ps _ _ _ f (t .count-row .result) _ (omega arith) (search) (filling-count _ ps _ _ _ f _ (t .count-row .result) refl n) (search))
 
 returns : tie.Need-returns Inv-loop μ-loop
 returns c =
-    let s : Start = search in
     let l : At-loop = search in
-    λ ps fit. filling-last (s .args .rows .now) ps (s .args .n) (l .loop .rows) (l .loop .r) (l .loop .inv .2 ps fit) (omega arith) (s .pre .0)
+    λ ps fit. filling-last _ ps _ _ _ (l .loop .inv .2 ps fit) (omega arith) (search)
 
 pub count-items-spec : {M : Type 1} → statement M
 count-items-spec =
-    tie.close
-    (tie.spec Inv-loop μ-loop loop-holds (λ c. search needs) (λ c κs. search needs) narrow-requires (λ c. search needs) (λ c. search needs) (λ c. search needs) (λ c. search needs) (λ c. search needs) (λ c. search needs) loop-again (λ c. search) returns)
+    tie.close (tie.spec Inv-loop μ-loop loop-holds (λ c. search needs) (λ c κs. search needs) narrow-requires (λ c. search needs)
+    (λ c. search needs) (λ c. search needs) (λ c. search needs) (λ c. search needs) (λ c. search needs) loop-again (λ c. search) returns)
