@@ -6,7 +6,6 @@ use native.Mathlib.Omega.{arith}
 use lib.ListN.{length, take, drop}
 use borrow.Author.Tests.{not-false}
 use Rattle.image.specs.Sections.{Ordered}
-use Rattle.text_lines.specs.Parts.{firstPart}
 use Rattle.text_decode.specs.store.Store.{Store, storeIn, stored, RoomFor}
 use Rattle.text_decode.specs.store.Lines.{usedAfter, LineIs}
 use Rattle.text_decode.specs.state.State.{faultyRead, placeBehind, lineFault}
@@ -93,27 +92,22 @@ count-of t = t .read-line .kept .1 .1 .1 .0 ∙ loop-of t .loop .inv .2
 
 returns : tie.Need-returns Inv-loop μ-loop
 returns c =
-    let s : Start = search in
     let f : tie.After-faulty Inv-loop μ-loop = search in
-    fits (ap (λ (x : Read). x .fits) (f .faulty .ensures)) (read-long (s .args .text .now) (stored (s .args .image .now) (s .args .numbers .now)) (search) (f .faulty .result) (f .faulty .ensures))
+    fits (ap (λ (x : Read). x .fits) (f .faulty .ensures)) (read-long _ _ (search) _ (search))
 
 loop-holds : tie.Need-loop-holds Inv-loop μ-loop
-loop-holds c =
-    let s : Start = search in
-    let p : After-lay-out = search in
-    let u : tie.After-unused Inv-loop μ-loop = search in
-    (started (s .args .text .now) (storeIn (p .lay-out .result) (s .args .image .now) (s .args .numbers .now)) (search) (u .unused .result) (u .unused .ensures), refl, refl, zero-le)
+loop-holds c = (started _ _ (search) _ (search), refl, refl, zero-le)
 
 has-plenty-requires : tie.Need-has-plenty-requires Inv-loop μ-loop
 has-plenty-requires c κs =
     let s : Start = search in
     let p : After-lay-out = search in
-    (length (s .args .image .now), ordered-in (p .lay-out .result) (s .args .image .now) (s .args .image .now) (p .lay-out .ensures) refl)
+    (length (s .args .image .now), ordered-in _ (s .args .image .now) (s .args .image .now) (p .lay-out .ensures) refl)
 
 has-room-requires : tie.Need-has-room-requires Inv-loop μ-loop
 has-room-requires c κs =
     let g : At-loop = search in
-    ((length (g .loop .image), order-of g), g .loop .inv .0 .few, λ w l ns o e. plenty-of g .has-plenty .ensures w l ns o (e ∙ g .loop .inv .2))
+    ((length (g .loop .image), order-of g), search, λ w l ns o e. plenty-of g .has-plenty .ensures w l ns o (e ∙ g .loop .inv .2))
 
 returns-2 : tie.Need-returns-2 Inv-loop μ-loop
 returns-2 c =
@@ -123,25 +117,13 @@ returns-2 c =
     let h : not (r .has-room .result) ≡ true = search in
     let s = start-of g in
     let p = places-of g in
-    fits-not (ap (λ (x : Read). x .fits) (f .unfit .ensures)) (no-room (g .loop .u) (storeIn (p .lay-out .result) (g .loop .image) (g .loop .numbers)) (stored (s .args .image .now) (s .args .numbers .now)) (r .has-room .result) (g .loop .inv .0 .few) (as-long-in (p .lay-out .result) (s .args .image .now) (g .loop .image) (p .lay-out .ensures) (g .loop .inv .1) (s .args .numbers .now) (g .loop .numbers) (g .loop .inv .2)) (r .has-room .ensures (g .loop .image) (g .loop .numbers) (order-of g) refl .1) h)
-
-sub-read-line : tie.Need-sub-read-line Inv-loop μ-loop
-sub-read-line c =
-    let g : At-loop = search in
-    let h = end-inside (start-of g .args .text .now) (g .loop .at) (end-of g .last-end .result) (end-of g .last-end .ensures) (search) in
-    omega arith
-
-part-read-line-start : tie.Need-part-read-line-start Inv-loop μ-loop
-part-read-line-start c =
-    let g : At-loop = search in
-    let h = end-inside (start-of g .args .text .now) (g .loop .at) (end-of g .last-end .result) (end-of g .last-end .ensures) (search) in
-    omega arith
+    fits-not (ap (λ (x : Read). x .fits) (f .unfit .ensures)) (no-room _ _ _ _ (search) (as-long-in _ (s .args .image .now) (g .loop .image) (p .lay-out .ensures) (g .loop .inv .1) _ (g .loop .numbers) (g .loop .inv .2)) (r .has-room .ensures _ _ (order-of g) refl .1) h)
 
 read-line-requires : tie.Need-read-line-requires Inv-loop μ-loop
 read-line-requires c κs =
     let g : At-loop = search in
     let r : After-has-room = search in
-    (order-of g, r .has-room .ensures (g .loop .image) (g .loop .numbers) (order-of g) refl .0 (not-false (r .has-room .result) (search)), g .loop .inv .0 .few, line-part (start-of g .args .text .now) (g .loop .at) (end-of g .last-end .result) (end-of g .last-end .ensures) (search))
+    (order-of g, r .has-room .ensures _ _ (order-of g) refl .0 (not-false _ (search)), search, line-part _ _ _ (end-of g .last-end .ensures) (search))
 
 -- ---- behind the line
 abbrev After-line-fault : Type 0
@@ -193,7 +175,7 @@ returns-3 c =
     let t : After-read-line = search in
     let l : After-line-fault = search in
     let f : tie.After-faulty2 Inv-loop μ-loop = search in
-    fits (ap (λ (x : Read). x .fits) (f .faulty2 .ensures)) (fault-read t (l .line-fault .result) (l .line-fault .ensures) (search) (f .faulty2 .result) (f .faulty2 .ensures))
+    fits (ap (λ (x : Read). x .fits) (f .faulty2 .ensures)) (fault-read t _ (l .line-fault .ensures) (search) _ (search))
 
 used-after-requires : tie.Need-used-after-requires Inv-loop μ-loop
 used-after-requires c κs =
@@ -206,38 +188,24 @@ add-at : tie.Need-add-at Inv-loop μ-loop
 add-at c =
     let t : After-read-line = search in
     let l : After-line-fault = search in
-    let e = next-line t (l .line-fault .result) (l .line-fault .ensures) (search) in
+    let e = next-line t _ (l .line-fault .ensures) (search) in
     omega (arith, its-end-inside t, loop-of t .loop .inv .0 .short)
 
 add-at-2 : tie.Need-add-at-2 Inv-loop μ-loop
 add-at-2 c =
     let t : After-read-line = search in
     let l : After-line-fault = search in
-    let e = next-line t (l .line-fault .result) (l .line-fault .ensures) (search) in
+    let e = next-line t _ (l .line-fault .ensures) (search) in
     omega (arith, its-end-inside t, loop-of t .loop .inv .0 .short)
-
-add-line : tie.Need-add-line Inv-loop μ-loop
-add-line c =
-    let t : After-read-line = search in
-    omega (arith, its-end-inside t, loop-of t .loop .inv .0 .counts, loop-of t .loop .inv .0 .short)
-
-loop-less : tie.Need-loop-less Inv-loop μ-loop
-loop-less c =
-    let t : After-read-line = search in
-    let l : After-line-fault = search in
-    let e = next-line t (l .line-fault .result) (l .line-fault .ensures) (search) in
-    omega (arith, its-end-inside t)
 
 loop-again : tie.Need-loop-again Inv-loop μ-loop
 loop-again c =
     let t : After-read-line = search in
     let l : After-line-fault = search in
-    let u : tie.After-used-after Inv-loop μ-loop = search in
-    let q : tie.After-place-behind Inv-loop μ-loop = search in
     let z : l .line-fault .result ≡ 0 = search in
-    let e = next-line t (l .line-fault .result) (l .line-fault .ensures) z in
-    let b = end-before (text t) (loop-of t .loop .at) (last-one t .last-end .result) (last-one t .last-end .ensures) (inside t) in
-    (goes-on t (l .line-fault .result) (l .line-fault .ensures) z (u .used-after .result) (u .used-after .ensures) (q .place-behind .result) (q .place-behind .ensures), size-of t, count-of t, omega arith)
+    let e = next-line t _ (search) z in
+    let b = end-before _ _ _ (last-one t .last-end .ensures) (inside t) in
+    (goes-on t _ (search) z _ (search) _ (search), size-of t, count-of t, omega arith)
 
 returns-4 : tie.Need-returns-4 Inv-loop μ-loop
 returns-4 c =
@@ -245,7 +213,7 @@ returns-4 c =
     let f : tie.After-faulty3 Inv-loop μ-loop = search in
     let s = start-of g in
     let text = s .args .text .now in
-    fits (ap (λ (x : Read). x .fits) (f .faulty3 .ensures)) (subst (λ (σ : Store). ReadIs text σ (f .faulty3 .result)) (same-of g) (at-unended text (g .loop .at) (g .loop .line) (g .loop .place) (g .loop .u) (storeIn (places-of g .lay-out .result) (g .loop .image) (g .loop .numbers)) (g .loop .inv .0) (search) (g .loop .at + length (firstPart 10 (drop (g .loop .at) text))) refl (open-end text (g .loop .at) (end-of g .last-end .result) (end-of g .last-end .ensures) (g .loop .inv .3) (search)) (f .faulty3 .result) (f .faulty3 .ensures)))
+    fits (ap (λ (x : Read). x .fits) (f .faulty3 .ensures)) (subst (λ (σ : Store). ReadIs text σ (f .faulty3 .result)) (same-of g) (at-unended _ _ _ _ _ _ (g .loop .inv .0) (search) _ refl (open-end _ _ _ (end-of g .last-end .ensures) (search) (search)) _ (f .faulty3 .ensures)))
 
 returns-5 : tie.Need-returns-5 Inv-loop μ-loop
 returns-5 c =
@@ -253,47 +221,15 @@ returns-5 c =
     let f : tie.After-end-of-text Inv-loop μ-loop = search in
     let s = start-of g in
     let text = s .args .text .now in
-    fits (last-fits (g .loop .place) (g .loop .line) (g .loop .u) (f .end-of-text .result) (f .end-of-text .ensures)) (subst (λ (σ : Store). ReadIs text σ (f .end-of-text .result)) (same-of g) (at-end text (g .loop .at) (g .loop .line) (g .loop .place) (g .loop .u) (storeIn (places-of g .lay-out .result) (g .loop .image) (g .loop .numbers)) (g .loop .inv .0) (search) (f .end-of-text .result) (f .end-of-text .ensures)))
+    fits (last-fits (g .loop .place) (g .loop .line) (g .loop .u) _ (f .end-of-text .ensures)) (subst (λ (σ : Store). ReadIs text σ (f .end-of-text .result)) (same-of g) (at-end _ _ _ _ _ _ (g .loop .inv .0) (search) _ (f .end-of-text .ensures)))
 
 pub read-text-spec : {M : Type 1} → statement M
 read-text-spec =
-    tie.close
-    (tie.spec
-    Inv-loop
-    μ-loop
-    (λ c κs. search needs)
-    returns
-    (λ c κs. search needs)
-    has-plenty-requires
-    (λ c κs. search needs)
-    (λ c κs. search needs)
-    loop-holds
-    has-room-requires
-    (λ c κs. search needs)
-    (λ c. let g : At-loop = search in g .loop .inv .1)
-    (λ c. let g : At-loop = search in g .loop .inv .2)
-    returns-2
-    sub-read-line
-    part-read-line-start
-    (λ c. search needs)
-    read-line-requires
-    (λ c κs. search needs)
-    (λ c κs. search needs)
-    (λ c. let t : After-read-line = search in size-of t)
-    (λ c. let t : After-read-line = search in count-of t)
-    returns-3
-    used-after-requires
-    (λ c κs. search needs)
-    add-at
-    add-at-2
-    add-line
-    loop-less
-    loop-again
-    (λ c κs. search needs)
-    (λ c. let g : At-loop = search in g .loop .inv .1)
-    (λ c. let g : At-loop = search in g .loop .inv .2)
-    returns-4
-    (λ c κs. search needs)
-    (λ c. let g : At-loop = search in g .loop .inv .1)
-    (λ c. let g : At-loop = search in g .loop .inv .2)
-    returns-5)
+    tie.close (tie.spec Inv-loop μ-loop (λ c κs. search needs) returns (λ c κs. search needs) has-plenty-requires (λ c κs. search needs)
+    (λ c κs. search needs) loop-holds has-room-requires (λ c κs. search needs) (λ c. let g : At-loop = search in g .loop .inv .1)
+    (λ c. let g : At-loop = search in g .loop .inv .2) returns-2 (λ c. search) (λ c. search) (λ c. search needs) read-line-requires
+    (λ c κs. search needs) (λ c κs. search needs) (λ c. let t : After-read-line = search in size-of t)
+    (λ c. let t : After-read-line = search in count-of t) returns-3 used-after-requires (λ c κs. search needs) add-at add-at-2
+    (λ c. search needs) (λ c. search needs) loop-again (λ c κs. search needs) (λ c. let g : At-loop = search in g .loop .inv .1)
+    (λ c. let g : At-loop = search in g .loop .inv .2) returns-4 (λ c κs. search needs) (λ c. let g : At-loop = search in g .loop .inv .1)
+    (λ c. let g : At-loop = search in g .loop .inv .2) returns-5)

@@ -1,9 +1,8 @@
 use Prim.Native.Nat.{_+_, _*_}
 use native.Mathlib.Omega.{arith}
-use Rattle.image.specs.Sections.{part, partSection}
+use Rattle.image.specs.Sections.{part}
 use Rattle.text_lines.specs.Parts.{lineIn}
 use Rattle.text_decode.specs.line.Fields.{fieldsFrom}
-use Rattle.text_decode.specs.line.Answers.{operandsIn}
 use Rattle.text_decode.proofs.line.FormImage.{row-in, plain-in}
 use Rattle.text_decode.proofs.line.StopLaws.{none-carried}
 use borrow.Author.Needs.{needs}
@@ -12,9 +11,7 @@ use Rattle.text_decode.proofs.line.read_form.Tie as tie
 
 read-tuple-requires : tie.Need-read-tuple-requires
 unfolding part
-read-tuple-requires c κs =
-    let s : tie.Start = search in
-    (s .pre .2, omega (arith, s .pre .3), s .pre .5)
+read-tuple-requires c κs = (search, omega arith, search)
 
 returns : tie.Need-returns
 unfolding part
@@ -27,9 +24,7 @@ returns c =
 
 read-code-requires : tie.Need-read-code-requires
 unfolding part
-read-code-requires c κs =
-    let s : tie.Start = search in
-    (s .pre .2, omega (arith, s .pre .3), s .pre .5)
+read-code-requires c κs = (search, omega arith, search)
 
 returns-2 : tie.Need-returns-2
 unfolding part
@@ -44,14 +39,11 @@ returns-3 : tie.Need-returns-3
 returns-3 c =
     let s : tie.Start = search in
     let t : tie.After-read-plain = search in
-    let a = s .args in
-    let q = plain-in (a .code) (fieldsFrom (lineIn (a .rest .now)) (a .at + 1)) (17 * a .u .rows) (a .u .operands) (a .u .args) (a .p) (a .image .now) (a .numbers .now) (s .pre .0) (t .read-plain .last .1 .1 .1 .0) (t .read-plain .last .1 .1 .1 .1 .1 .0) (t .read-plain .result) (t .read-plain .ensures .0) (t .read-plain .ensures .3) in
-    (q .0, t .read-plain .ensures .1, t .read-plain .ensures .2, q .1)
+    let q = plain-in _ _ _ _ _ _ _ _ (s .pre .0) _ _ _ (t .read-plain .ensures .0) (search) in
+    (q .0, search, search, q .1)
 
 pub read-form-spec : {M : Type 1} → statement M
 read-form-spec =
-    tie.close
-    (tie.spec
-    (λ c. search needs) (λ c. search needs) (λ c. search needs) (λ c. search needs) (λ c. search needs) read-tuple-requires (λ c. search needs) returns
-    (λ c. search needs) (λ c. search needs) (λ c. search needs) (λ c. search needs) read-code-requires (λ c. search needs) returns-2
-    (λ c κs. search needs) (λ c. search needs) (λ c. search needs) returns-3)
+    tie.close (tie.spec (λ c. search needs) (λ c. search needs) (λ c. search needs) (λ c. search needs) (λ c. search needs)
+    read-tuple-requires (λ c. search needs) returns (λ c. search needs) (λ c. search needs) (λ c. search needs) (λ c. search needs)
+    read-code-requires (λ c. search needs) returns-2 (λ c κs. search needs) (λ c. search needs) (λ c. search needs) returns-3)

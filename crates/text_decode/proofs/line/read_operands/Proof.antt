@@ -1,12 +1,12 @@
 use mathlib.Core.Path.{refl}
-use Prim.Native.Nat.{_+_, _-_, _*_, _<_}
+use Prim.Native.Nat.{_+_, _-_, _<_}
 use native.Mathlib.Omega.{arith}
 use lib.ListN.{length}
 use Rattle.image.specs.Sections.{part, Outside}
 use Rattle.image.proofs.Laws.{nothing}
-use Rattle.text_lines.specs.Parts.{lineIn, fieldIn, InLine, StopAt}
+use Rattle.text_lines.specs.Parts.{lineIn, InLine, StopAt}
 use Rattle.text_lines.proofs.InLine.{place-read, stop-on, stop-last, stop-behind}
-use Rattle.text_decode.specs.line.Answers.{operandTable, operandsIn}
+use Rattle.text_decode.specs.line.Answers.{operandTable}
 use Rattle.text_decode.proofs.line.OperandLaws.{OperandsGo, carried-by, operands-start, operands-end, operands-many, operand-few}
 use Rattle.text_decode.proofs.line.OperandImage.{ordered-as, kinds-same, bad-in, bad-outside, on-in, on-outside}
 use Rattle.text_decode.proofs.line.StopLaws.{operand-here, line-over, no-end}
@@ -47,52 +47,16 @@ one-more : (t : After-operand-at) → loop-of t .loop .n < start-of t .args .mos
 one-more t = omega (arith, loop-of t .loop .inv .0 .few)
 
 loop-holds : tie.Need-loop-holds Inv-loop μ-loop
-loop-holds c =
-    let s : Start = search in
-    (operands-start (lineIn (s .args .rest .now)) (s .args .at + 1) (s .args .most) (s .args .v) (s .args .a) (operandsIn (s .args .p) (s .args .image .now) (s .args .numbers .now)), s .pre .3, nothing (s .args .p .operands) (s .args .p .uses) (s .args .image .now))
-
-shared-slice-read-if1 : tie.Need-shared-slice-read-if1 Inv-loop μ-loop
-shared-slice-read-if1 c =
-    let s : Start = search in
-    let g : At-loop = search in
-    place-read (s .args .rest .now) (g .loop .i) (g .loop .inv .1 .place)
+loop-holds c = (operands-start _ _ _ _ _ _, search, nothing _ _ _)
 
 returns : tie.Need-returns Inv-loop μ-loop
 returns c =
-    let s : Start = search in
     let g : At-loop = search in
-    let w = stop-on (s .args .rest .now) (g .loop .i) (g .loop .inv .1) (search) in
-    (operands-many (lineIn (s .args .rest .now)) (s .args .at + 1) (s .args .most) (s .args .v) (s .args .a) (operandsIn (s .args .p) (s .args .image .now) (s .args .numbers .now)) (operandsIn (s .args .p) (g .loop .image) (g .loop .numbers)) (g .loop .i + 1) (g .loop .n) (g .loop .m) (g .loop .inv .0) (stop-on (s .args .rest .now) (g .loop .i) (g .loop .inv .1) (search) .within) (search) (g .loop .i), carried-by (s .args .rest .now) (s .args .at) (g .loop .inv .0) (omega (arith, w .within)) (s .pre .2), no-end (s .args .rest .now) (g .loop .i), g .loop .inv .2)
-
-add-w : tie.Need-add-w Inv-loop μ-loop
-add-w c =
-    let s : Start = search in
-    let g : At-loop = search in
-    omega (arith, g .loop .inv .0 .few, s .pre .1 .bases)
-
-add-start : tie.Need-add-start Inv-loop μ-loop
-add-start c =
-    let s : Start = search in
-    let g : At-loop = search in
-    omega (arith, g .loop .inv .0 .few, g .loop .inv .0 .few-args, s .pre .1 .small, s .pre .2)
-
-add-operand-at : tie.Need-add-operand-at Inv-loop μ-loop
-add-operand-at c =
-    let s : Start = search in
-    let g : At-loop = search in
-    let h = place-read (s .args .rest .now) (g .loop .i) (g .loop .inv .1 .place) in
-    omega arith
-
-sub-operand-at : tie.Need-sub-operand-at Inv-loop μ-loop
-sub-operand-at c =
-    let s : Start = search in
-    omega (arith, s .pre .0)
+    let w = stop-on _ _ (g .loop .inv .1) (search) in
+    (operands-many _ _ _ _ _ _ _ _ _ _ (g .loop .inv .0) (stop-on _ _ (search) (search) .within) (search) _, carried-by _ _ (g .loop .inv .0) (omega (arith, w .within)) (search), no-end _ _, search)
 
 operand-at-requires : tie.Need-operand-at-requires Inv-loop μ-loop
-operand-at-requires c κs =
-    let s : Start = search in
-    let g : At-loop = search in
-    stop-on (s .args .rest .now) (g .loop .i) (g .loop .inv .1) (search)
+operand-at-requires c κs = stop-on _ _ (search) (search)
 
 returns-2 : tie.Need-returns-2 Inv-loop μ-loop
 unfolding part
@@ -100,19 +64,10 @@ returns-2 c =
     let s : Start = search in
     let g : At-loop = search in
     let t : After-operand-at = search in
-    let rest = s .args .rest .now in
-    let i = g .loop .i + 1 in
-    let d = i + length (fieldIn rest i) in
-    let here = operand-here rest i d refl (part (s .args .p .args) (s .args .p .uses) (g .loop .image)) (s .args .a + g .loop .m) (t .operand-at .result .read) (t .operand-at .last .1 .1 .0) (t .operand-at .ensures .read) in
-    let o = ordered-as (s .args .p) (s .args .image .now) (g .loop .image) (g .loop .inv .2 .size) (s .pre .0) in
-    let w = stop-on rest (g .loop .i) (g .loop .inv .1) (search) .within in
-    (bad-in (lineIn rest) (s .args .at + 1) (s .args .most) (s .args .v) (s .args .a) (s .args .p) (s .args .image .now) (s .args .numbers .now) (g .loop .image) (g .loop .numbers) o i (g .loop .n) (g .loop .m) (g .loop .inv .0) w d refl (t .operand-at .result .read) (t .operand-at .last .1 .1 .0) (t .operand-at .kept .1 .1 .0) here (search) (g .loop .i), carried-by rest (s .args .at) (g .loop .inv .0) (omega (arith, w)) (s .pre .2), no-end rest (g .loop .i), bad-outside (lineIn rest) (s .args .at + 1) (s .args .most) (s .args .v) (s .args .a) (s .args .p) (s .args .image .now) (s .args .numbers .now) (g .loop .image) (g .loop .numbers) o i (g .loop .n) (g .loop .m) (g .loop .inv .0) w d refl (t .operand-at .result .read) (t .operand-at .last .1 .1 .0) (t .operand-at .kept .1 .1 .0) here (g .loop .inv .2))
-
-cast-put-operand : tie.Need-cast-put-operand Inv-loop μ-loop
-cast-put-operand c =
-    let s : Start = search in
-    let g : At-loop = search in
-    omega (arith, g .loop .inv .0 .few, g .loop .inv .0 .few-args, s .pre .1 .small)
+    let here = operand-here _ _ _ refl _ _ _ _ (t .operand-at .ensures .read) in
+    let o = ordered-as _ (s .args .image .now) (g .loop .image) (g .loop .inv .2 .size) (s .pre .0) in
+    let w = stop-on _ _ (g .loop .inv .1) (search) .within in
+    (bad-in _ _ _ _ _ _ _ _ _ _ o _ _ _ (search) w _ refl _ _ (search) here (search) _, carried-by _ _ (g .loop .inv .0) (omega (arith, w)) (search), no-end _ _, bad-outside _ _ _ _ _ _ _ _ _ _ o _ _ _ (g .loop .inv .0) w _ refl _ _ (search) here (search))
 
 put-operand-requires : tie.Need-put-operand-requires Inv-loop μ-loop
 unfolding part
@@ -124,33 +79,23 @@ put-operand-requires c κs =
     let e = kinds-same (s .args .p) (g .loop .image) o (t .operand-at .last .1 .1 .0) (t .operand-at .kept .1 .1 .0) in
     (omega (arith, e, g .loop .inv .0 .few, g .loop .inv .0 .long-kinds, s .pre .1 .kinds), omega (arith, g .loop .inv .0 .few, g .loop .inv .0 .long-numbers, s .pre .1 .bases))
 
-add-n : tie.Need-add-n Inv-loop μ-loop
-add-n c =
-    let t : After-operand-at = search in
-    omega (arith, loop-of t .loop .inv .0 .few, start-of t .pre .2)
-
 add-m : tie.Need-add-m Inv-loop μ-loop
 unfolding part
 add-m c =
     let t : After-operand-at = search in
     let k : t .operand-at .result .read .kind < 3 = search in
-    let s = start-of t in
     let g = loop-of t in
-    let rest = s .args .rest .now in
-    let i = g .loop .i + 1 in
-    let d = t .operand-at .result .next in
     let e = t .operand-at .ensures .ends k in
-    let here = operand-here rest i d e (part (s .args .p .args) (s .args .p .uses) (g .loop .image)) (s .args .a + g .loop .m) (t .operand-at .result .read) (t .operand-at .last .1 .1 .0) (t .operand-at .ensures .read) in
-    let f = operand-few (lineIn rest) (s .args .at + 1) (s .args .most) (s .args .v) (s .args .a) (operandsIn (s .args .p) (s .args .image .now) (s .args .numbers .now)) (operandsIn (s .args .p) (g .loop .image) (g .loop .numbers)) i (g .loop .n) (g .loop .m) (g .loop .inv .0) (stop-here t .within) d e (t .operand-at .result .read) (t .operand-at .last .1 .1 .0) here k in
-    omega (arith, g .loop .inv .0 .few, g .loop .inv .0 .few-args, s .pre .2)
+    let here = operand-here _ _ _ e _ _ _ _ (t .operand-at .ensures .read) in
+    let f = operand-few _ _ _ _ _ _ _ _ _ _ (g .loop .inv .0) (stop-here t .within) _ e _ _ here k in
+    omega arith
 
 loop-less : tie.Need-loop-less Inv-loop μ-loop
 loop-less c =
     let t : After-operand-at = search in
     let e = t .operand-at .ensures .ends (search) in
-    let rest = start-of t .args .rest .now in
-    let w = stop-behind rest (loop-of t .loop .i + 1) (t .operand-at .result .next) (stop-here t) e in
-    let h = place-read rest (t .operand-at .result .next) (w .place) in
+    let w = stop-behind _ _ _ (stop-here t) e in
+    let h = place-read _ _ (w .place) in
     omega arith
 
 loop-again : tie.Need-loop-again Inv-loop μ-loop
@@ -160,56 +105,22 @@ loop-again c =
     let q : After-put-operand = search in
     let s = start-of t in
     let g = loop-of t in
-    let rest = s .args .rest .now in
-    let i = g .loop .i + 1 in
-    let d = t .operand-at .result .next in
     let e = t .operand-at .ensures .ends (search) in
-    let here = operand-here rest i d e (part (s .args .p .args) (s .args .p .uses) (g .loop .image)) (s .args .a + g .loop .m) (t .operand-at .result .read) (t .operand-at .last .1 .1 .0) (t .operand-at .ensures .read) in
-    let o = ordered-as (s .args .p) (s .args .image .now) (g .loop .image) (g .loop .inv .2 .size) (s .pre .0) in
+    let here = operand-here _ _ _ e _ _ _ _ (t .operand-at .ensures .read) in
+    let o = ordered-as _ (s .args .image .now) (g .loop .image) (g .loop .inv .2 .size) (s .pre .0) in
     let w = stop-here t in
-    (on-in (lineIn rest) (s .args .at + 1) (s .args .most) (s .args .v) (s .args .a) (s .args .p) (s .args .image .now) (s .args .numbers .now) (g .loop .image) (g .loop .numbers) o i (g .loop .n) (g .loop .m) (g .loop .inv .0) (w .within) d e (t .operand-at .result .read) (t .operand-at .last .1 .1 .0) (t .operand-at .kept .1 .1 .0) here (q .put-operand .last .1 .1 .0) (q .put-operand .kept .1 .1 .0) (one-more t) (s .pre .1) (search) (q .put-operand .ensures .0) (q .put-operand .last .1 .1 .1 .0) (q .put-operand .ensures .1), stop-behind rest i d w e, on-outside (lineIn rest) (s .args .at + 1) (s .args .most) (s .args .v) (s .args .a) (s .args .p) (s .args .image .now) (s .args .numbers .now) (g .loop .image) (g .loop .numbers) o i (g .loop .n) (g .loop .m) (g .loop .inv .0) (w .within) d e (t .operand-at .result .read) (t .operand-at .last .1 .1 .0) (t .operand-at .kept .1 .1 .0) here (q .put-operand .last .1 .1 .0) (q .put-operand .kept .1 .1 .0) (g .loop .inv .2))
+    (on-in _ _ _ _ _ _ _ _ _ _ o _ _ _ (g .loop .inv .0) (w .within) _ e _ _ (t .operand-at .kept .1 .1 .0) here _ (q .put-operand .kept .1 .1 .0) (one-more t) (s .pre .1) (search) (q .put-operand .ensures .0) _ (q .put-operand .ensures .1), stop-behind _ _ _ w e, on-outside _ _ _ _ _ _ _ _ _ _ o _ _ _ (g .loop .inv .0) (w .within) _ e _ _ (t .operand-at .kept .1 .1 .0) here (q .put-operand .last .1 .1 .0) (q .put-operand .kept .1 .1 .0) (g .loop .inv .2))
 
 returns-3 : tie.Need-returns-3 Inv-loop μ-loop
 returns-3 c =
-    let s : Start = search in
     let g : At-loop = search in
-    let rest = s .args .rest .now in
-    (operands-end (lineIn rest) (s .args .at + 1) (s .args .most) (s .args .v) (s .args .a) (operandsIn (s .args .p) (s .args .image .now) (s .args .numbers .now)) (operandsIn (s .args .p) (g .loop .image) (g .loop .numbers)) (g .loop .i + 1) (g .loop .n) (g .loop .m) (g .loop .inv .0) (line-over rest (g .loop .i) (g .loop .inv .1) (search)) (g .loop .i), carried-by rest (s .args .at) (g .loop .inv .0) (let e = stop-last rest (g .loop .i) (g .loop .inv .1) (search) in omega arith) (s .pre .2), λ q. stop-last rest (g .loop .i) (g .loop .inv .1) (search), g .loop .inv .2)
+    (operands-end _ _ _ _ _ _ _ _ _ _ (g .loop .inv .0) (line-over _ _ (search) (search)) _, carried-by _ _ (g .loop .inv .0) (let e = stop-last _ _ (g .loop .inv .1) (search) in omega arith) (search), λ q. stop-last _ _ (search) (search), search)
 
 pub read-operands-spec : {M : Type 1} → statement M
 read-operands-spec =
-    tie.close
-    (tie.spec
-    Inv-loop
-    μ-loop
-    loop-holds
-    shared-slice-read-if1
-    (λ c. let g : At-loop = search in g .loop .inv .2 .size)
-    (λ c. let g : At-loop = search in g .loop .inv .0 .long-numbers)
-    returns
-    (λ c. search needs)
-    add-w
-    (λ c. search needs)
-    add-start
-    add-operand-at
-    (λ c. search needs)
-    sub-operand-at
-    (λ c. search needs)
-    (λ c. search needs)
-    operand-at-requires
-    (λ c. search needs)
-    (λ c. search needs)
-    returns-2
-    cast-put-operand
-    (λ c. search needs)
-    (λ c. search needs)
-    (λ c. search needs)
-    (λ c. search needs)
-    put-operand-requires
-    add-n
-    add-m
-    loop-less
-    loop-again
-    (λ c. let g : At-loop = search in g .loop .inv .2 .size)
-    (λ c. let g : At-loop = search in g .loop .inv .0 .long-numbers)
-    returns-3)
+    tie.close (tie.spec Inv-loop μ-loop loop-holds (λ c. search needs) (λ c. let g : At-loop = search in g .loop .inv .2 .size)
+    (λ c. let g : At-loop = search in g .loop .inv .0 .long-numbers) returns (λ c. search needs) (λ c. search needs) (λ c. search needs)
+    (λ c. search needs) (λ c. search needs) (λ c. search needs) (λ c. search) (λ c. search needs) (λ c. search needs) operand-at-requires
+    (λ c. search needs) (λ c. search needs) returns-2 (λ c. search needs) (λ c. search needs) (λ c. search needs) (λ c. search needs)
+    (λ c. search needs) put-operand-requires (λ c. search needs) add-m loop-less loop-again
+    (λ c. let g : At-loop = search in g .loop .inv .2 .size) (λ c. let g : At-loop = search in g .loop .inv .0 .long-numbers) returns-3)

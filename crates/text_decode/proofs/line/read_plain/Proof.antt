@@ -5,8 +5,8 @@ use native.Mathlib.Omega.{arith}
 use borrow.Author.Tests.{not-true, not-false}
 use Rattle.image.proofs.Laws.{nothing}
 use Rattle.text_lines.specs.Parts.{lineIn}
-use Rattle.text_decode.specs.line.Fields.{fieldsFrom, readSlots}
-use Rattle.text_decode.specs.line.Answers.{operandsIn, slotsOf}
+use Rattle.text_decode.specs.line.Fields.{fieldsFrom}
+use Rattle.text_decode.specs.line.Answers.{operandsIn}
 use Rattle.text_decode.proofs.line.FieldLaws.{form-slots, form-most}
 use Rattle.text_decode.proofs.line.LineLaws.{most-few, plain-no-slots, plain-no-operands, plain-too-few, plain-is}
 use Rattle.text_decode.proofs.line.StopLaws.{entry-carried, entry-end}
@@ -49,11 +49,9 @@ returns-2 : tie.Need-returns-2
 returns-2 c =
     let o : tie.After-read-operands = search in
     let n : tie.After-no-entry2 = search in
-    let s = start-of o in
     let f = form-of o in
     let x = slots-of o in
-    let a = s .args in
-    (plain-no-operands (a .code) (lineIn (a .rest .now)) (a .at + 1) (a .v) (a .a) (s .pre .1) (s .pre .2) (s .pre .3) (operandsIn (a .p) (a .image .now) (a .numbers .now)) (x .read-slots .result) (x .read-slots .ensures .says ∙ form-slots (a .code) (f .form-at .result) (fieldsFrom (lineIn (a .rest .now)) (a .at + 1)) (f .form-at .ensures)) (slots-ok o) (f .form-at .result .most) (form-most (a .code) (f .form-at .result) (f .form-at .ensures)) (operandsIn (a .p) (o .read-operands .last .1 .1 .1 .0) (o .read-operands .last .1 .1 .1 .1 .1 .0)) (o .read-operands .result) (o .read-operands .ensures .0) (n .no-entry2 .result) (n .no-entry2 .ensures) (not-true (o .read-operands .result .ok) (search)), entry-carried (a .rest .now) (n .no-entry2 .result) (n .no-entry2 .ensures), entry-end (a .rest .now) (n .no-entry2 .result) (n .no-entry2 .ensures), o .read-operands .ensures .3)
+    (plain-no-operands _ _ _ _ _ (search) (search) (search) _ _ (x .read-slots .ensures .says ∙ form-slots _ _ _ (f .form-at .ensures)) (slots-ok o) _ (form-most _ _ (f .form-at .ensures)) _ _ (o .read-operands .ensures .0) _ (search) (not-true _ (search)), entry-carried _ _ (n .no-entry2 .ensures), entry-end _ _ (n .no-entry2 .ensures), search)
 
 returns-3 : tie.Need-returns-3
 returns-3 c =
@@ -80,8 +78,6 @@ returns-4 c =
 
 pub read-plain-spec : {M : Type 1} → statement M
 read-plain-spec =
-    tie.close
-    (tie.spec
-    (λ c κs. search needs) (λ c κs. search needs) (λ c κs. search needs) returns read-operands-requires (λ c κs. search needs)
-    (λ c. search needs) (λ c. search needs) returns-2 (λ c κs. search needs) (λ c κs. search needs) (λ c. search needs) (λ c. search needs) returns-3
-    (λ c. search needs) (λ c. search needs) returns-4)
+    tie.close (tie.spec (λ c κs. search needs) (λ c κs. search needs) (λ c κs. search needs) returns read-operands-requires
+    (λ c κs. search needs) (λ c. search needs) (λ c. search needs) returns-2 (λ c κs. search needs) (λ c κs. search needs)
+    (λ c. search needs) (λ c. search needs) returns-3 (λ c. search needs) (λ c. search needs) returns-4)

@@ -1,9 +1,4 @@
 use mathlib.Core.Path.{refl}
-use mathlib.Core.Bool.{true}
-use mathlib.Core.List.{[], _∷_}
-use Prim.Native.Nat.{_+_}
-use Rattle.text_lines.specs.Parts.{lineIn}
-use Rattle.text_decode.specs.line.Answers.{SlotIs}
 use Rattle.text_decode.proofs.line.FieldLaws.{slots-are, two-slots}
 use borrow.Author.Needs.{needs}
 use Rattle.text_decode.proofs.line.read_slots.Statement.{statement}
@@ -12,15 +7,10 @@ use Rattle.text_decode.proofs.line.read_slots.Tie as tie
 -- the form has two plain fields at most
 returns : tie.Need-returns
 returns c =
-    let s : tie.Start = search in
     let x : tie.After-read-slot = search in
     let y : tie.After-read-slot2 = search in
     let t : tie.After-both = search in
-    let f = s .args .f in
-    record {
-      says = two-slots (lineIn (s .args .rest .now)) (s .args .at + 1) (f .a) (f .b) (f .c) (f .d) (x .read-slot .result) (y .read-slot2 .result) (t .both .result) (x .read-slot .ensures .says) (y .read-slot2 .ensures .says) (t .both .ensures) (search) (search);
-      stop = y .read-slot2 .ensures .stop;
-    }
+    record { says = two-slots _ _ _ _ _ _ (x .read-slot .result) (y .read-slot2 .result) _ (x .read-slot .ensures .says) (y .read-slot2 .ensures .says) (t .both .ensures) (search) (search); stop = y .read-slot2 .ensures .stop }
 
 abbrev start-of : tie.After-read-slot3 → tie.Start
 start-of z = search
@@ -40,20 +30,14 @@ returns-2 c =
     let u : tie.After-both2 = search in
     let w : tie.After-read-slot4 = search in
     let z : tie.After-read-slot3 = search in
-    let s = start-of z in
     let x = first-of z in
     let y = second-of z in
     let t = both-of z in
-    let f = s .args .f in
-    record {
-      says = slots-are (lineIn (s .args .rest .now)) (s .args .at + 1) (f .a ∷ f .b ∷ f .c ∷ f .d ∷ []) (f .a) (f .b) (f .c) (f .d) (x .read-slot .result) (y .read-slot2 .result) (z .read-slot3 .result) (w .read-slot4 .result) (t .both .result) (u .both2 .result) (v .both3 .result) refl (x .read-slot .ensures .says) (y .read-slot2 .ensures .says) (z .read-slot3 .ensures .says) (w .read-slot4 .ensures .says) (t .both .ensures) (u .both2 .ensures) (v .both3 .ensures);
-      stop = w .read-slot4 .ensures .stop;
-    }
+    record { says = slots-are _ _ _ _ _ _ _ (x .read-slot .result) (y .read-slot2 .result) (z .read-slot3 .result) (w .read-slot4 .result) _ _ _ refl (x .read-slot .ensures .says) (y .read-slot2 .ensures .says) (z .read-slot3 .ensures .says) (w .read-slot4 .ensures .says) (t .both .ensures) (u .both2 .ensures) (v .both3 .ensures); stop = w .read-slot4 .ensures .stop }
 
 pub read-slots-spec : {M : Type 1} → statement M
 read-slots-spec =
-    tie.close
-    (tie.spec
-    (λ c κs. search) (λ c κs. let x : tie.After-read-slot = search in x .read-slot .ensures .stop) (λ c κs. search needs) returns
-    (λ c κs. let y : tie.After-read-slot2 = search in y .read-slot2 .ensures .stop) (λ c κs. let z : tie.After-read-slot3 = search in z .read-slot3 .ensures .stop)
-    (λ c κs. search needs) (λ c κs. search needs) returns-2)
+    tie.close (tie.spec (λ c κs. search) (λ c κs. let x : tie.After-read-slot = search in x .read-slot .ensures .stop)
+    (λ c κs. search needs) returns (λ c κs. let y : tie.After-read-slot2 = search in y .read-slot2 .ensures .stop)
+    (λ c κs. let z : tie.After-read-slot3 = search in z .read-slot3 .ensures .stop) (λ c κs. search needs) (λ c κs. search needs)
+    returns-2)

@@ -20,33 +20,22 @@ third-of e = search
 returns : tie.Need-returns
 returns c =
     let s : tie.Start = search in
-    by-plenty (s .args .p) (s .args .numbers) (s .args .u) (s .pre .2 (search)) (s .pre .1)
+    by-plenty _ _ _ (s .pre .2 (search)) (search)
 
 returns-2 : tie.Need-returns-2
-returns-2 c =
-    let s : tie.Start = search in
-    few-rows (s .args .p) (s .args .numbers) (s .args .u) (search)
+returns-2 c = few-rows _ _ _ (search)
 
 returns-3 : tie.Need-returns-3
-returns-3 c =
-    let s : tie.Start = search in
-    few-parts (s .args .p) (s .args .numbers) (s .args .u) (search)
+returns-3 c = few-parts _ _ _ (search)
 
 returns-4 : tie.Need-returns-4
-returns-4 c =
-    let s : tie.Start = search in
-    few-operands (s .args .p) (s .args .numbers) (s .args .u) (search)
+returns-4 c = few-operands _ _ _ (search)
 
 returns-5 : tie.Need-returns-5
-returns-5 c =
-    let s : tie.Start = search in
-    few-numbers (s .args .p) (s .args .numbers) (s .args .u) (search)
+returns-5 c = few-numbers _ _ _ (search)
 
 returns-6 : tie.Need-returns-6
-returns-6 c =
-    let e : tie.Else5 = search in
-    let s = start-of e in
-    few-args (s .args .p) (s .args .numbers) (s .args .u) (search)
+returns-6 c = few-args _ _ _ (search)
 
 sub-if7 : tie.Need-sub-if7
 sub-if7 c =
@@ -54,10 +43,7 @@ sub-if7 c =
     omega (arith, start-of e .pre .0 .1)
 
 returns-7 : tie.Need-returns-7
-returns-7 c =
-    let e : tie.Else5 = search in
-    let s = start-of e in
-    few-instrs (s .args .p) (s .args .numbers) (s .args .u) (search)
+returns-7 c = few-instrs _ _ _ (search)
 
 sub-result : tie.Need-sub-result
 sub-result c =
@@ -68,13 +54,15 @@ returns-8 : tie.Need-returns-8
 returns-8 c =
     let e : tie.Else5 = search in
     let s = start-of e in
-    by-blocks (s .args .p) (s .args .numbers) (s .args .u) (first-of e) (second-of e) (third-of e) (e .if5 .left) (search) (search) (s .pre .1 .args)
+    by-blocks _ _ _ (first-of e) (second-of e) (third-of e) (search) (search) (search) (s .pre .1 .args)
 
 pub has-room-spec : {M : Type 1} → statement M
 has-room-spec =
-    tie.close
-    (tie.spec
-    returns (λ c. search needs) (λ c. search needs) (λ c. search needs) returns-2 (λ c. search needs) (λ c. search needs) (λ c. search needs) returns-3
-    (λ c. search needs) (λ c. search needs) (λ c. search needs) returns-4 (λ c. search needs) returns-5 (λ c. let e : tie.Else5 = search in omega (arith, start-of e .pre .0 .1)) (λ c. let e : tie.Else5 = search in omega (arith, start-of e .pre .1))
-    returns-6 sub-if7 (λ c. let e : tie.Else5 = search in omega (arith, start-of e .pre .1)) (λ c. let e : tie.Else5 = search in omega (arith, start-of e .pre .1)) returns-7
-    (λ c. let e : tie.Else5 = search in omega (arith, start-of e .pre .1)) (λ c. let e : tie.Else5 = search in omega (arith, start-of e .pre .1)) sub-result returns-8)
+    tie.close (tie.spec returns (λ c. search needs) (λ c. search needs) (λ c. search needs) returns-2 (λ c. search needs)
+    (λ c. search needs) (λ c. search needs) returns-3 (λ c. search needs) (λ c. search needs) (λ c. search needs) returns-4
+    (λ c. search needs) returns-5 (λ c. let e : tie.Else5 = search in omega (arith, start-of e .pre .0 .1))
+    (λ c. let e : tie.Else5 = search in omega (arith, start-of e .pre .1)) returns-6 sub-if7
+    (λ c. let e : tie.Else5 = search in omega (arith, start-of e .pre .1))
+    (λ c. let e : tie.Else5 = search in omega (arith, start-of e .pre .1)) returns-7
+    (λ c. let e : tie.Else5 = search in omega (arith, start-of e .pre .1))
+    (λ c. let e : tie.Else5 = search in omega (arith, start-of e .pre .1)) sub-result returns-8)

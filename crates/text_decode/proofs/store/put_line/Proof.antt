@@ -7,55 +7,48 @@ use Rattle.text_decode.proofs.store.put_line.Tie as tie
 
 put-row-requires : tie.Need-put-row-requires
 unfolding part
-put-row-requires c κs =
-    let s : tie.Start = search in
-    omega (arith, s .pre .2)
+put-row-requires c κs = omega arith
 
 returns : tie.Need-returns
 unfolding part
 returns c =
     let s : tie.Start = search in
     let t : tie.After-put-row = search in
-    row-in (s .args .p) (s .args .image .now) (s .pre .0) (s .args .code) (s .args .s) (s .args .u) (t .put-row .last .0) (search) (t .put-row .kept .0) (t .put-row .ensures)
+    row-in _ _ (s .pre .0) _ _ _ _ (search) (t .put-row .kept .0) (t .put-row .ensures)
 
 put-block-requires : tie.Need-put-block-requires
 unfolding part
-put-block-requires c κs =
-    let s : tie.Start = search in
-    omega (arith, s .pre .4)
+put-block-requires c κs = omega arith
 
 returns-2 : tie.Need-returns-2
 unfolding part
 returns-2 c =
     let s : tie.Start = search in
     let t : tie.After-put-block = search in
-    block-in (s .args .p) (s .args .image .now) (s .pre .0) (s .args .code) (s .args .s) (s .args .u) (t .put-block .last .0) (search) (t .put-block .kept .0) (t .put-block .ensures)
+    block-in _ _ (s .pre .0) _ _ _ _ (search) (t .put-block .kept .0) (t .put-block .ensures)
 
 put-instr-requires : tie.Need-put-instr-requires
 unfolding part
-put-instr-requires c κs =
-    let s : tie.Start = search in
-    omega (arith, s .pre .3)
+put-instr-requires c κs = omega arith
 
 returns-3 : tie.Need-returns-3
 unfolding part
 returns-3 c =
     let s : tie.Start = search in
     let t : tie.After-put-instr = search in
-    inside-in (s .args .p) (s .args .image .now) (s .pre .0) (s .args .code) (s .args .s) (s .args .u) (t .put-instr .last .0) (search) (search) (t .put-instr .kept .0) (t .put-instr .ensures) (search)
+    inside-in _ _ (s .pre .0) _ _ _ _ (search) (search) (t .put-instr .kept .0) (t .put-instr .ensures) (search)
 
 returns-4 : tie.Need-returns-4
 unfolding part
 returns-4 c =
     let s : tie.Start = search in
     let t : tie.After-put-instr = search in
-    last-in (s .args .p) (s .args .image .now) (s .pre .0) (s .args .code) (s .args .s) (s .args .u) (t .put-instr .last .0) (search) (search) (t .put-instr .kept .0) (t .put-instr .ensures) (search)
+    last-in _ _ (s .pre .0) _ _ _ _ (search) (search) (t .put-instr .kept .0) (t .put-instr .ensures) (search)
 
 pub put-line-spec : {M : Type 1} → statement M
 put-line-spec =
-    tie.close
-    (tie.spec
-    (λ c. search needs) (λ c. search needs) (λ c. search needs) (λ c. search needs) (λ c. search needs) put-row-requires (λ c. search needs) returns
-    (λ c. search needs) (λ c. search needs) (λ c. search needs) (λ c. search needs) (λ c. search needs) put-block-requires (λ c. search needs) returns-2
-    (λ c. search needs) (λ c. search needs) (λ c. search needs) (λ c. search needs) (λ c. search needs) (λ c. search needs) (λ c. search needs)
-    put-instr-requires (λ c. search needs) (λ c. search needs) (λ c. search needs) returns-3 (λ c. search needs) (λ c. search needs) (λ c. search needs) returns-4)
+    tie.close (tie.spec (λ c. search needs) (λ c. search needs) (λ c. search needs) (λ c. search needs) (λ c. search needs)
+    put-row-requires (λ c. search needs) returns (λ c. search needs) (λ c. search needs) (λ c. search needs) (λ c. search needs)
+    (λ c. search needs) put-block-requires (λ c. search needs) returns-2 (λ c. search needs) (λ c. search needs) (λ c. search needs)
+    (λ c. search needs) (λ c. search needs) (λ c. search needs) (λ c. search needs) put-instr-requires (λ c. search needs)
+    (λ c. search needs) (λ c. search needs) returns-3 (λ c. search needs) (λ c. search needs) (λ c. search needs) returns-4)

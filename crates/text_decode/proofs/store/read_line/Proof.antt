@@ -1,5 +1,4 @@
 use mathlib.Core.Path.{_≡_, ap, _∙_}
-use mathlib.Core.Bool.{true}
 use Prim.Native.Nat.{_+_, _<_, _≤_}
 use native.Mathlib.Omega.{arith}
 use lib.ListN.{length}
@@ -45,7 +44,7 @@ part-name-code-end : tie.Need-part-name-code-end
 part-name-code-end c =
     let s : tie.Start = search in
     let e : tie.After-field-end = search in
-    let h = field-read (s .args .text .now) 0 (e .field-end .result) (s .pre .3) (e .field-end .ensures) in
+    let h = field-read _ 0 _ (s .pre .3) (e .field-end .ensures) in
     omega arith
 
 returns : tie.Need-returns
@@ -53,18 +52,11 @@ returns c =
     let n : tie.After-name-code = search in
     let o : tie.After-no-line = search in
     let h : 34 ≤ n .name-code .result = search in
-    let s = start-of n in
-    let a = s .args in
-    let σ = storeIn (a .p) (a .image .now) (a .numbers .now) in
-    let q = no-line-is (a .text .now) (lineIn (a .text .now)) (a .u) σ σ (o .no-line .result) (o .no-line .ensures) (line-unnamed (lineIn (a .text .now)) (a .u) σ (n .name-code .result) (fieldsFrom (lineIn (a .text .now)) (end-of n .field-end .result + 1)) (fields-are n) h) in
-    (q .0, q .1, nothing (a .p .rows) (a .p .uses) (a .image .now))
+    let q = no-line-is _ _ _ _ _ _ (o .no-line .ensures) (line-unnamed _ _ _ _ _ (fields-are n) h) in
+    (q .0, q .1, nothing _ _ _)
 
 read-rest-requires : tie.Need-read-rest-requires
-read-rest-requires c κs =
-    let n : tie.After-name-code = search in
-    let s = start-of n in
-    let e = end-of n in
-    (s .pre .0, search, stop-behind (s .args .text .now) 0 (e .field-end .result) (s .pre .3) (e .field-end .ensures), s .pre .1 .parts, s .pre .1 .operands, s .pre .2)
+read-rest-requires c κs = (search, search, stop-behind _ 0 _ (search) (search), search, search, search)
 
 returns-2 : tie.Need-returns-2
 returns-2 c =
@@ -86,7 +78,7 @@ put-line-requires c κs =
     let l = r .read-rest .last .1 .1 .1 .0 in
     let o = s .pre .0 in
     let w = r .read-rest .ensures .3 in
-    (ordered-as (s .args .p) (s .args .image .now) l (w .size) o, code-of r, rw (ap length (rows-kept (s .args .p) (s .args .image .now) l o w)) (s .pre .1 .rows), rw (ap length (instrs-kept (s .args .p) (s .args .image .now) l o w)) (s .pre .1 .instrs), rw (ap length (blocks-kept (s .args .p) (s .args .image .now) l o w)) (s .pre .1 .blocks), s .pre .2)
+    (ordered-as _ (s .args .image .now) l (w .size) o, code-of r, rw (ap length (rows-kept _ _ _ o w)) (search), rw (ap length (instrs-kept _ _ _ o w)) (search), rw (ap length (blocks-kept _ _ _ o w)) (search), search)
 
 add-t11 : tie.Need-add-t11
 add-t11 c =
@@ -112,8 +104,6 @@ returns-3 c =
 
 pub read-line-spec : {M : Type 1} → statement M
 read-line-spec =
-    tie.close
-    (tie.spec
-    (λ c κs. search needs) (λ c. search needs) (λ c. search needs) part-name-code-end (λ c κs. search needs) (λ c κs. search needs) returns
-    read-rest-requires (λ c κs. search needs) (λ c. search needs) (λ c. search needs) returns-2
+    tie.close (tie.spec (λ c κs. search needs) (λ c. search needs) (λ c. search needs) part-name-code-end (λ c κs. search needs)
+    (λ c κs. search needs) returns read-rest-requires (λ c κs. search needs) (λ c. search needs) (λ c. search needs) returns-2
     put-line-requires add-t11 (λ c. search needs) (λ c. search needs) returns-3)
