@@ -1,13 +1,12 @@
-use borrow.Author.Needs.{needs}
 use Rattle.exec_outcome.proofs.Laws.{under-cap, over-cap}
 use Rattle.exec_outcome.proofs.capped.Statement.{statement}
 use Rattle.exec_outcome.proofs.capped.Tie as tie
 
 returns : tie.Need-returns
-returns c = under-cap ((c .before .args) .m) ((c .if1) .taken)
+returns c = under-cap _ (search)
 
 returns-2 : tie.Need-returns-2
-returns-2 c = over-cap ((c .before .args) .m) ((c .if1) .left)
+returns-2 c = over-cap _ (search)
 
 pub capped-spec : {M : Type 1} → statement M
 capped-spec = tie.close (tie.spec returns returns-2)

@@ -1,4 +1,4 @@
-use mathlib.Core.Path.{_≡_, refl, ap, sym, subst, _∙_}
+use mathlib.Core.Path.{_≡_, refl, ap, sym, subst}
 use mathlib.Core.List.{List}
 use mathlib.Core.Bool.{true}
 use Prim.Native.Nat.{ℕ, _≤_}
@@ -106,7 +106,7 @@ returns-4 c =
 
 pub make-ready-spec : {M : Type 1} → statement M
 make-ready-spec =
-    tie.close
-    (tie.spec
-    (λ c κs. search needs) (λ c κs. search needs) (λ c. search needs) (λ c. search needs) returns (λ c κs. search needs) (λ c. search needs) (λ c. search needs) returns-2 (λ c κs. search needs) first-fault-requires add-barred (λ c κs. search needs) (λ c. search needs) (λ c. search needs) returns-3
-    samples-wanted-requires (λ c. search needs) (λ c. search needs) returns-4)
+    tie.close (tie.spec (λ c κs. search needs) (λ c κs. search needs) (λ c. search needs) (λ c. search needs) returns
+    (λ c κs. search needs) (λ c. search needs) (λ c. search needs) returns-2 (λ c κs. search needs) first-fault-requires add-barred
+    (λ c κs. search needs) (λ c. search needs) (λ c. search needs) returns-3 samples-wanted-requires (λ c. search needs)
+    (λ c. search needs) returns-4)

@@ -18,4 +18,6 @@ returns-3 c =
     decided (s .args .n) (p .shared - p .tops) (λ h. record { rows = search; uses = search; tops = h }) (λ r. r .tops)
 
 pub has-space-spec : {M : Type 1} → statement M
-has-space-spec = tie.close (tie.spec (λ c. search needs) (λ c. search needs) (λ c. search needs) returns (λ c. search needs) (λ c. search needs) returns-2 (λ c. search needs) returns-3)
+has-space-spec =
+    tie.close (tie.spec (λ c. search needs) (λ c. search needs) (λ c. search needs) returns (λ c. search needs) (λ c. search needs)
+    returns-2 (λ c. search needs) returns-3)

@@ -1,9 +1,7 @@
 use mathlib.Core.Path.{_≡_, refl, ap, sym, subst, _∙_}
-use mathlib.Core.Bool.{true}
 use mathlib.Core.List.{List}
 use mathlib.Core.Option.{none}
-use Prim.Native.Nat.{ℕ, _-_, _≤_}
-use native.Mathlib.Omega.{arith}
+use Prim.Native.Nat.{ℕ, _-_}
 use lib.ListN.{length}
 use borrow.Author.Tests.{not-false}
 use Rattle.syntax.specs.Fault.{lowestLine}
@@ -12,7 +10,7 @@ use Rattle.image.specs.declared.Places.{Places}
 use Rattle.image.specs.Sections.{Ordered, useSection, topSection}
 use Rattle.image.specs.Layout.{placesOf}
 use Rattle.image.proofs.Laws.{ordered}
-use Rattle.text_decode.specs.store.Store.{Store, storeIn, stored}
+use Rattle.text_decode.specs.store.Store.{storeIn, stored}
 use Rattle.text_decode.specs.Decoded.{ReadIs, Decoded}
 use Rattle.text_decode.proofs.AnswerLaws.{fits, fits-not, failed}
 use Rattle.load.specs.declared.Loaded.{Loaded}
@@ -132,7 +130,7 @@ returns-5 c =
 
 pub load-spec : {M : Type 1} → statement M
 load-spec =
-    tie.close
-    (tie.spec
-    (λ c κs. search needs) (λ c κs. search needs) (λ c. search needs) (λ c. search needs) returns (λ c. search needs) (λ c κs. search needs) (λ c. search needs) (λ c. search needs) returns-2 (λ c κs. search needs) has-space-requires (λ c κs. search needs) (λ c. search needs) (λ c. search needs) returns-3
-    second-pass-requires (λ c κs. search needs) (λ c. search needs) (λ c. search needs) returns-4 prepare-requires (λ c. search needs) (λ c. search needs) returns-5)
+    tie.close (tie.spec (λ c κs. search needs) (λ c κs. search needs) (λ c. search needs) (λ c. search needs) returns (λ c. search needs)
+    (λ c κs. search needs) (λ c. search needs) (λ c. search needs) returns-2 (λ c κs. search needs) has-space-requires
+    (λ c κs. search needs) (λ c. search needs) (λ c. search needs) returns-3 second-pass-requires (λ c κs. search needs)
+    (λ c. search needs) (λ c. search needs) returns-4 prepare-requires (λ c. search needs) (λ c. search needs) returns-5)

@@ -1,6 +1,6 @@
 -- `read_lines::same` meets its contract: what is left of the lines is as equal as the lines.
 -- Assumes nothing.
-use mathlib.Core.Path.{_≡_, refl, sym, _∙_}
+use mathlib.Core.Path.{_≡_, sym, _∙_}
 use Prim.Native.Nat.{_-_, _<_}
 use native.Mathlib.Omega.{arith}
 use borrow.Author.Needs.{needs}
@@ -17,57 +17,32 @@ abbrev μ-loop : tie.MeasureT-loop
 μ-loop a b i₀ i = length a - i
 
 returns : tie.Need-returns Inv-loop μ-loop
-returns c = sym (differ-long (c .before .args .a .now) (c .before .args .b .now) (c .if1 .taken))
-
-loop-holds : tie.Need-loop-holds Inv-loop μ-loop
-loop-holds c = (c .if1 .left, refl)
-
-shared-slice-read-if2 : tie.Need-shared-slice-read-if2 Inv-loop μ-loop
-shared-slice-read-if2 c = search needs
-
-shared-slice-read-if2-2 : tie.Need-shared-slice-read-if2-2 Inv-loop μ-loop
-shared-slice-read-if2-2 c = search needs
+returns c = sym (differ-long _ _ (search))
 
 returns-2 : tie.Need-returns-2 Inv-loop μ-loop
 returns-2 c =
-    let a = c .before .before .before .before .before .before .args in
-    let l = c .before .before .before .before .loop in
-    let h = c .before .before .before .loop-test .taken in
-    let k : l .i < length (a .b .now) = omega (arith, l .inv .0) in
-    sym (same-not (a .a .now) (a .b .now) (l .i) h k (c .if2 .taken)) ∙ l .inv .1
-
-add-i : tie.Need-add-i Inv-loop μ-loop
-add-i c = search needs
-
-loop-less : tie.Need-loop-less Inv-loop μ-loop
-loop-less c = search needs
+    let i2 : tie.In-loop Inv-loop μ-loop = search in
+    let l2 : tie.At-loop Inv-loop μ-loop = search in
+    let s : tie.Start Inv-loop μ-loop = search in
+    let h = i2 .loop-test .taken in
+    let k : l2 .loop .i < length (s .args .b .now) = omega arith in
+    sym (same-not _ _ _ h k (search)) ∙ l2 .loop .inv .1
 
 loop-again : tie.Need-loop-again Inv-loop μ-loop
 loop-again c =
-    let a = c .before .before .before .before .before .before .args in
-    let l = c .before .before .before .before .loop in
-    let h = c .before .before .before .loop-test .taken in
-    let k : l .i < length (a .b .now) = omega (arith, l .inv .0) in
-    (l .inv .0, same-on (a .a .now) (a .b .now) (l .i) h k (c .if2 .left) ∙ l .inv .1)
+    let i2 : tie.In-loop Inv-loop μ-loop = search in
+    let l2 : tie.At-loop Inv-loop μ-loop = search in
+    let s : tie.Start Inv-loop μ-loop = search in
+    let h = i2 .loop-test .taken in
+    let k : l2 .loop .i < length (s .args .b .now) = omega arith in
+    (search, same-on _ _ _ h k (c .if2 .left) ∙ l2 .loop .inv .1)
 
 returns-3 : tie.Need-returns-3 Inv-loop μ-loop
 returns-3 c =
-    let a = c .before .before .before .args in
-    let l = c .before .loop in
-    sym (same-end (a .a .now) (a .b .now) (l .i) (c .loop-test .left) (l .inv .0)) ∙ l .inv .1
+    let l2 : tie.At-loop Inv-loop μ-loop = search in
+    sym (same-end _ _ _ (c .loop-test .left) (search)) ∙ l2 .loop .inv .1
 
 pub same-spec : {M : Type 1} → statement M
 same-spec =
-    tie.close
-    (tie.spec
-    Inv-loop
-    μ-loop
-    returns
-    loop-holds
-    shared-slice-read-if2
-    shared-slice-read-if2-2
-    returns-2
-    add-i
-    loop-less
-    loop-again
-    returns-3)
+    tie.close (tie.spec Inv-loop μ-loop returns (λ c. search) (λ c. search) (λ c. search needs) returns-2 (λ c. search needs)
+    (λ c. search needs) loop-again returns-3)

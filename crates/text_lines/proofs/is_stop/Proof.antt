@@ -1,16 +1,12 @@
-use borrow.Author.Needs.{needs}
-use mathlib.Core.Path.{sym}
 use Rattle.text_lines.proofs.InLine.{stop-comma, stop-other}
 use Rattle.text_lines.proofs.is_stop.Statement.{statement}
 use Rattle.text_lines.proofs.is_stop.Tie as tie
-use Rattle.text_lines.proofs.is_stop.Reads as reads
-use Rattle.text_lines.proofs.is_stop.Lts as lts
 
 returns : tie.Need-returns
-returns c = stop-comma ((c .before .args) .b) ((c .if1) .taken)
+returns c = stop-comma _ (c .if1 .taken)
 
 returns-2 : tie.Need-returns-2
-returns-2 c = stop-other ((c .before .args) .b) ((c .if1) .left)
+returns-2 c = stop-other _ (c .if1 .left)
 
 pub is-stop-spec : {M : Type 1} → statement M
 is-stop-spec = tie.close (tie.spec returns returns-2)

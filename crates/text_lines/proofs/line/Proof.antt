@@ -1,43 +1,17 @@
+use borrow.Author.Needs.{needs}
 -- `text_lines::line` meets its contract, by the laws of a line's end.
 -- Assumes nothing.
-use Rattle.text_lines.proofs.Parts.{line-here, end-from, end-within}
+use Rattle.text_lines.proofs.Parts.{line-here, end-within}
 use Rattle.text_lines.proofs.line.Statement.{statement}
 use Rattle.text_lines.proofs.line.Tie as tie
 
-line-start-requires : tie.Need-line-start-requires
-line-start-requires c κs = tt
-
-line-end-requires : tie.Need-line-end-requires
-line-end-requires c κs = tt
-
-sub-result : tie.Need-sub-result
-sub-result c =
-    let s = c .before .line-start in
-    end-from 10 (c .before .before .before .args .text .now) (s .result) (c .line-end .result) (c .line-end .ensures)
-
-part-result-start : tie.Need-part-result-start
-part-result-start c =
-    let s = c .before .line-start in
-    end-from 10 (c .before .before .before .args .text .now) (s .result) (c .line-end .result) (c .line-end .ensures)
-
 part-result-end : tie.Need-part-result-end
-part-result-end c =
-    let s = c .before .line-start in
-    end-within 10 (c .before .before .before .args .text .now) (s .result) (c .line-end .result) (c .line-end .ensures) (s .ensures .0)
+part-result-end c = end-within 10 _ _ _ (c .line-end .ensures) (search)
 
 returns : tie.Need-returns
 returns c =
-    let s = c .before .before .line-start in
-    let a = c .before .before .before .before .args in
-    line-here (a .text .now) (a .n) (s .result) (c .before .line-end .result) (s .ensures .0) (s .ensures .1) (c .before .line-end .ensures)
+    let l : tie.After-line-start = search in
+    line-here _ _ _ _ (l .line-start .ensures .0) (search) (search)
 
 pub line-spec : {M : Type 1} → statement M
-line-spec =
-    tie.close
-    (tie.spec
-    line-start-requires
-    line-end-requires
-    sub-result
-    part-result-start
-    part-result-end
-    returns)
+line-spec = tie.close (tie.spec (λ c κs. search) (λ c κs. search) (λ c. search needs) (λ c. search needs) part-result-end returns)

@@ -5,23 +5,13 @@ use borrow.Author.Needs.{needs}
 use Rattle.text_lines.proofs.next_line.Statement.{statement}
 use Rattle.text_lines.proofs.next_line.Tie as tie
 
-line-end-requires : tie.Need-line-end-requires
-line-end-requires c κs = tt
-
-add-result : tie.Need-add-result
-add-result c = search needs
-
 returns : tie.Need-returns
-returns c =
-    let a = c .before .before .before .args in
-    let l = c .before .line-end in
-    next-ended (a .text .now) (a .at) (l .result) (l .ensures) (c .if1 .taken)
+returns c = next-ended _ _ _ (search) (search)
 
 returns-2 : tie.Need-returns-2
 returns-2 c =
-    let a = c .before .before .before .args in
-    let l = c .before .line-end in
-    next-last (a .text .now) (a .at) (l .result) (l .ensures) (c .if1 .left)
+    let l2 : tie.After-line-end = search in
+    next-last _ _ _ (l2 .line-end .ensures) (search)
 
 pub next-line-spec : {M : Type 1} → statement M
-next-line-spec = tie.close (tie.spec line-end-requires add-result returns returns-2)
+next-line-spec = tie.close (tie.spec (λ c κs. search) (λ c. search needs) returns returns-2)

@@ -6,20 +6,8 @@ use lib.Seq.{set-out}
 use Rattle.text_reader.proofs.keep.Statement.{statement}
 use Rattle.text_reader.proofs.keep.Tie as tie
 
-mul-line : tie.Need-mul-line
-mul-line c = search needs
-
-slice-set-from-line : tie.Need-slice-set-from-line
-slice-set-from-line c = search needs
-
-same-length : tie.Need-same-length
-same-length c = search needs
-
-returns : tie.Need-returns
-returns c = search needs
-
 returns-2 : tie.Need-returns-2
 returns-2 c = sym (set-out (c .before .args .out .now) (c .before .args .n) (c .before .args .line) (c .if1 .left))
 
 pub keep-spec : {M : Type 1} → statement M
-keep-spec = tie.close (tie.spec mul-line slice-set-from-line same-length returns returns-2)
+keep-spec = tie.close (tie.spec (λ c. search needs) (λ c. search needs) (λ c. search needs) (λ c. search needs) returns-2)

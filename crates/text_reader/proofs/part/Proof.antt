@@ -11,15 +11,6 @@ lesser-requires c κs = tt
 lesser-requires-2 : tie.Need-lesser-requires-2
 lesser-requires-2 c κs = tt
 
-sub-result : tie.Need-sub-result
-sub-result c = search needs
-
-part-result-start : tie.Need-part-result-start
-part-result-start c = search needs
-
-part-result-end : tie.Need-part-result-end
-part-result-end c = search needs
-
 returns : tie.Need-returns
 returns c =
     let a = c .before .before .before .before .args in
@@ -28,12 +19,4 @@ returns c =
     part-is (a .text .now) (a .at) (a .e) (m .result) (n .result) (m .ensures) (n .ensures)
 
 pub part-spec : {M : Type 1} → statement M
-part-spec =
-    tie.close
-    (tie.spec
-    lesser-requires
-    lesser-requires-2
-    sub-result
-    part-result-start
-    part-result-end
-    returns)
+part-spec = tie.close (tie.spec lesser-requires lesser-requires-2 (λ c. search needs) (λ c. search needs) (λ c. search needs) returns)

@@ -5,9 +5,6 @@ use Rattle.text_reader.proofs.Reading.{past-more, past-end}
 use Rattle.text_reader.proofs.past.Statement.{statement}
 use Rattle.text_reader.proofs.past.Tie as tie
 
-add-result : tie.Need-add-result
-add-result c = search needs
-
 returns : tie.Need-returns
 returns c = past-more (c .before .args .text .now) (c .before .args .e) (c .if1 .taken)
 
@@ -15,4 +12,4 @@ returns-2 : tie.Need-returns-2
 returns-2 c = past-end (c .before .args .text .now) (c .before .args .e) (c .if1 .left)
 
 pub past-spec : {M : Type 1} → statement M
-past-spec = tie.close (tie.spec add-result returns returns-2)
+past-spec = tie.close (tie.spec (λ c. search needs) returns returns-2)

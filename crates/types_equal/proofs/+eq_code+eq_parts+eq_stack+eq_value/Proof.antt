@@ -186,7 +186,7 @@ eq-code-returns t c =
     let s = c-start t w in
     let a = c-count t w in
     let b = c-count2 t w in
-    both-same (i .if2 .taken) (e .eq-stack .ensures) (p .eq-parts .ensures) ∙ codes-on (tab _ _) (argsOf (tab _ _) _ _) _ _ _ _ _ _ _ _ _ _ _ _ (a .letter-count .ensures .0) (b .letter-count2 .ensures .0) (w .same-letters .ensures) (c-then t e .if1 .taken)
+    both-same (i .if2 .taken) (e .eq-stack .ensures) (p .eq-parts .ensures) ∙ codes-on _ _ _ _ _ _ _ _ _ _ _ _ _ _ (a .letter-count .ensures .0) (b .letter-count2 .ensures .0) (w .same-letters .ensures) (c-then t e .if1 .taken)
 
 eq-code-returns-2 : (t : ℕ) → eq-code-lts.Need-returns-2 (eq-code-claims t) (eq-code-at t) eq-code.Post
 eq-code-returns-2 t c =
@@ -195,8 +195,7 @@ eq-code-returns-2 t c =
     let s = c-start t w in
     let a = c-count t w in
     let b = c-count2 t w in
-    let i : eq-code-lts.Else2 (eq-code-claims t) (eq-code-at t) eq-code.Post = search in
-    one-differs _ (i .if2 .left) (e .eq-stack .ensures) ∙ codes-on (tab _ _) (argsOf (tab _ _) _ _) _ _ _ _ _ _ _ _ _ _ _ _ (a .letter-count .ensures .0) (b .letter-count2 .ensures .0) (w .same-letters .ensures) (c-then t e .if1 .taken)
+    one-differs _ (search) (e .eq-stack .ensures) ∙ codes-on _ _ _ _ _ _ _ _ _ _ _ _ _ _ (a .letter-count .ensures .0) (b .letter-count2 .ensures .0) (w .same-letters .ensures) (c-then t e .if1 .taken)
 
 eq-code-returns-3 : (t : ℕ) → eq-code-lts.Need-returns-3 (eq-code-claims t) (eq-code-at t) eq-code.Post
 eq-code-returns-3 t c =
@@ -204,8 +203,7 @@ eq-code-returns-3 t c =
     let a : C-Count t = search in
     let b : C-Count2 t = search in
     let w : C-Letters t = search in
-    let i : eq-code-lts.Else1 (eq-code-claims t) (eq-code-at t) eq-code.Post = search in
-    codes-off (tab _ _) (argsOf (tab _ _) _ _) _ _ _ _ _ _ _ _ _ _ _ _ (a .letter-count .ensures .0) (b .letter-count2 .ensures .0) (w .same-letters .ensures) (i .if1 .left)
+    codes-off _ _ _ _ _ _ _ _ _ _ _ _ _ _ (a .letter-count .ensures .0) (b .letter-count2 .ensures .0) (w .same-letters .ensures) (search)
 
 abbrev eq-parts-Inv-loop : eq-parts-lts.InvT-loop
 eq-parts-Inv-loop rows parts args k l r pending₀ file p q n i₀ pending i =
@@ -262,7 +260,7 @@ p-start t c = search
 eq-parts-loop-holds : (t : ℕ) → eq-parts-lts.Need-loop-holds (eq-parts-claims t) (eq-parts-at t) eq-parts.Post eq-parts-Inv-loop eq-parts-μ-loop
 eq-parts-loop-holds t c =
     let s : P-Start t = search in
-    (parts-first (tab _ _) (argsOf (tab _ _) _ _) _ _ _ _ _ _ _ _ _ _, refl)
+    (parts-first _ _ _ _ _ _ _ _ _ _ _ _, refl)
 
 eq-parts-returns : (t : ℕ) → eq-parts-lts.Need-returns (eq-parts-claims t) (eq-parts-at t) eq-parts.Post eq-parts-Inv-loop eq-parts-μ-loop
 eq-parts-returns t c =
@@ -272,7 +270,7 @@ eq-parts-returns t c =
     let n = p-in t w in
     let l = p-loop t w in
     let s = p-start t w in
-    parts-apart (tab _ _) (argsOf (tab _ _) _ _) _ _ _ _ _ _ _ _ _ _ _ (l .loop .inv .0) (n .loop-test .taken) (a .part .ensures .0) (b .part2 .ensures .0) (w .two-slots .ensures) (c .enum-told .given .1)
+    parts-apart _ _ _ _ _ _ _ _ _ _ _ _ _ (l .loop .inv .0) (n .loop-test .taken) (a .part .ensures .0) (b .part2 .ensures .0) (w .two-slots .ensures) (search)
 
 eq-parts-eq-value-requires : (t : ℕ) → eq-parts-lts.Need-eq-value-requires (eq-parts-claims t) (eq-parts-at t) eq-parts.Post eq-parts-Inv-loop eq-parts-μ-loop
 eq-parts-eq-value-requires t c κs =
@@ -298,7 +296,6 @@ eq-parts-eq-value-requires t c κs =
 eq-parts-returns-2 : (t : ℕ) → eq-parts-lts.Need-returns-2 (eq-parts-claims t) (eq-parts-at t) eq-parts.Post eq-parts-Inv-loop eq-parts-μ-loop
 eq-parts-returns-2 t c =
     let v : P-Value t = search in
-    let i : eq-parts-lts.Then1 (eq-parts-claims t) (eq-parts-at t) eq-parts.Post eq-parts-Inv-loop eq-parts-μ-loop = search in
     let h = p-heads t v in
     let w = p-slots t h in
     let a = p-part t w in
@@ -306,7 +303,7 @@ eq-parts-returns-2 t c =
     let n = p-in t w in
     let l = p-loop t w in
     let s = p-start t w in
-    parts-differ (tab _ _) (argsOf (tab _ _) _ _) _ _ _ _ _ _ _ _ _ _ _ (l .loop .inv .0) (n .loop-test .taken) (a .part .ensures .0) (b .part2 .ensures .0) (w .two-slots .ensures) (h .h .given .0 .0) (h .h .given .0 .1 .0) (h .h .given .1) (v .eq-value .ensures) (not-false (i .if1 .taken))
+    parts-differ _ _ _ _ _ _ _ _ _ _ _ _ _ (l .loop .inv .0) (n .loop-test .taken) (a .part .ensures .0) (b .part2 .ensures .0) (w .two-slots .ensures) (h .h .given .0 .0) (h .h .given .0 .1 .0) (h .h .given .1) (v .eq-value .ensures) (not-false (search))
 
 eq-parts-add-i : (t : ℕ) → eq-parts-lts.Need-add-i (eq-parts-claims t) (eq-parts-at t) eq-parts.Post eq-parts-Inv-loop eq-parts-μ-loop
 eq-parts-add-i t c =
@@ -324,7 +321,6 @@ eq-parts-add-i t c =
 eq-parts-loop-again : (t : ℕ) → eq-parts-lts.Need-loop-again (eq-parts-claims t) (eq-parts-at t) eq-parts.Post eq-parts-Inv-loop eq-parts-μ-loop
 eq-parts-loop-again t c =
     let v : P-Value t = search in
-    let i : eq-parts-lts.Else1 (eq-parts-claims t) (eq-parts-at t) eq-parts.Post eq-parts-Inv-loop eq-parts-μ-loop = search in
     let h = p-heads t v in
     let w = p-slots t h in
     let a = p-part t w in
@@ -332,13 +328,13 @@ eq-parts-loop-again t c =
     let n = p-in t w in
     let l = p-loop t w in
     let s = p-start t w in
-    (parts-next (tab _ _) (argsOf (tab _ _) _ _) _ _ _ _ _ _ _ _ _ _ _ (l .loop .inv .0) (n .loop-test .taken) (a .part .ensures .0) (b .part2 .ensures .0) (w .two-slots .ensures) (h .h .given .0 .0) (h .h .given .0 .1 .0) (h .h .given .1) (v .eq-value .ensures) (not-true (i .if1 .left)), v .eq-value .kept .1 .1 .1 .1 .1 .1 .0 ∙ l .loop .inv .1)
+    (parts-next _ _ _ _ _ _ _ _ _ _ _ _ _ (l .loop .inv .0) (n .loop-test .taken) (a .part .ensures .0) (b .part2 .ensures .0) (w .two-slots .ensures) (h .h .given .0 .0) (h .h .given .0 .1 .0) (h .h .given .1) (v .eq-value .ensures) (not-true (search)), v .eq-value .kept .1 .1 .1 .1 .1 .1 .0 ∙ l .loop .inv .1)
 
 eq-parts-returns-3 : (t : ℕ) → eq-parts-lts.Need-returns-3 (eq-parts-claims t) (eq-parts-at t) eq-parts.Post eq-parts-Inv-loop eq-parts-μ-loop
 eq-parts-returns-3 t c =
     let s : P-Start t = search in
     let l : P-Loop t = search in
-    parts-last (tab _ _) (argsOf (tab _ _) _ _) _ _ _ _ _ _ _ _ _ _ _ (c .loop-test .left) (l .loop .inv .0)
+    parts-last _ _ _ _ _ _ _ _ _ _ _ _ _ (search) (l .loop .inv .0)
 
 abbrev eq-stack-Inv-loop : eq-stack-lts.InvT-loop
 eq-stack-Inv-loop rows parts args k l r pending₀ i₀ j₀ pending i j =
@@ -446,8 +442,9 @@ given-ends t c =
 
 eq-stack-returns : (t : ℕ) → eq-stack-lts.Need-returns (eq-stack-claims t) (eq-stack-at t) eq-stack.Post eq-stack-Inv-loop eq-stack-μ-loop
 eq-stack-returns t c =
+    let s2 : eq-stack-lts.After-same-stack (eq-stack-claims t) (eq-stack-at t) eq-stack.Post eq-stack-Inv-loop eq-stack-μ-loop = search in
     let s : S-Start t = search in
-    c .before .same-stack .ensures (c .if1 .taken) _
+    s2 .same-stack .ensures (search) _
 
 eq-stack-store-requires : (t : ℕ) → eq-stack-lts.Need-store-requires (eq-stack-claims t) (eq-stack-at t) eq-stack.Post eq-stack-Inv-loop eq-stack-μ-loop
 eq-stack-store-requires t c κs =
@@ -494,7 +491,7 @@ eq-stack-returns-2 t c =
     let p : S-Pair t = search in
     let l = s-loop t p in
     let s = s-start t l in
-    match-over (tab _ _) (argsOf (tab _ _) _ _) _ _ _ _ _ _ _ (side false (l .loop .pending)) _ (side true (l .loop .pending)) _ (l .loop .inv .0) (side false (p .next-pair .last .1 .1 .1 .0)) (side true (p .next-pair .last .1 .1 .1 .0)) _ (p .next-pair .ensures _) (c .enum-told .given .1)
+    match-over _ _ _ _ _ _ _ _ _ (side false (l .loop .pending)) _ (side true (l .loop .pending)) _ (l .loop .inv .0) (side false (p .next-pair .last .1 .1 .1 .0)) (side true (p .next-pair .last .1 .1 .1 .0)) _ (p .next-pair .ensures _) (c .enum-told .given .1)
 
 eq-stack-same-length-2 : (t : ℕ) → eq-stack-lts.Need-same-length-2 (eq-stack-claims t) (eq-stack-at t) eq-stack.Post eq-stack-Inv-loop eq-stack-μ-loop
 eq-stack-same-length-2 t c =
@@ -506,7 +503,7 @@ eq-stack-returns-3 t c =
     let p : S-Pair t = search in
     let l = s-loop t p in
     let s = s-start t l in
-    match-unlike (tab _ _) (argsOf (tab _ _) _ _) _ _ _ _ _ _ _ (side false (l .loop .pending)) _ (side true (l .loop .pending)) _ (l .loop .inv .0) (side false (p .next-pair .last .1 .1 .1 .0)) (side true (p .next-pair .last .1 .1 .1 .0)) _ (p .next-pair .ensures _) (c .enum-told2 .given .1)
+    match-unlike _ _ _ _ _ _ _ _ _ (side false (l .loop .pending)) _ (side true (l .loop .pending)) _ (l .loop .inv .0) (side false (p .next-pair .last .1 .1 .1 .0)) (side true (p .next-pair .last .1 .1 .1 .0)) _ (p .next-pair .ensures _) (c .enum-told2 .given .1)
 
 eq-stack-loop-less : (t : ℕ) → eq-stack-lts.Need-loop-less (eq-stack-claims t) (eq-stack-at t) eq-stack.Post eq-stack-Inv-loop eq-stack-μ-loop
 eq-stack-loop-less t c =
@@ -566,7 +563,6 @@ eq-stack-eq-value-requires t c κs =
 eq-stack-same-length-3 : (t : ℕ) → eq-stack-lts.Need-same-length-3 (eq-stack-claims t) (eq-stack-at t) eq-stack.Post eq-stack-Inv-loop eq-stack-μ-loop
 eq-stack-same-length-3 t c =
     let v : S-Value t = search in
-    let i : eq-stack-lts.Then2 (eq-stack-claims t) (eq-stack-at t) eq-stack.Post eq-stack-Inv-loop eq-stack-μ-loop = search in
     let g = s-great t v in
     let o = s-own t g in
     let p = s-own-pair t o in
@@ -579,7 +575,6 @@ eq-stack-same-length-3 t c =
 eq-stack-returns-4 : (t : ℕ) → eq-stack-lts.Need-returns-4 (eq-stack-claims t) (eq-stack-at t) eq-stack.Post eq-stack-Inv-loop eq-stack-μ-loop
 eq-stack-returns-4 t c =
     let v : S-Value t = search in
-    let i : eq-stack-lts.Then2 (eq-stack-claims t) (eq-stack-at t) eq-stack.Post eq-stack-Inv-loop eq-stack-μ-loop = search in
     let g = s-great t v in
     let o = s-own t g in
     let p = s-own-pair t o in
@@ -587,12 +582,11 @@ eq-stack-returns-4 t c =
     let s = s-start t l in
     let w = own-ends t g in
     let w0 = w .0 in
-    own-not (tab _ _) (argsOf (tab _ _) _ _) _ _ _ _ _ _ _ (side false (l .loop .pending)) _ (side true (l .loop .pending)) _ (l .loop .inv .0) (side false (p .next-pair .last .1 .1 .1 .0)) (side true (p .next-pair .last .1 .1 .1 .0)) _ (o .s2 .given .0 .0) (o .s2 .given .0 .1 .0) (o .s2 .given .0 .1 .1 .0) (o .s2 .given .0 .1 .1 .1 .0) (p .next-pair .ensures _) (o .s2 .given .1) (v .eq-value .ensures) (not-false (i .if2 .taken))
+    own-not _ _ _ _ _ _ _ _ _ (side false (l .loop .pending)) _ (side true (l .loop .pending)) _ (l .loop .inv .0) (side false (p .next-pair .last .1 .1 .1 .0)) (side true (p .next-pair .last .1 .1 .1 .0)) _ (o .s2 .given .0 .0) (o .s2 .given .0 .1 .0) (o .s2 .given .0 .1 .1 .0) (o .s2 .given .0 .1 .1 .1 .0) (p .next-pair .ensures _) (o .s2 .given .1) (v .eq-value .ensures) (not-false (search))
 
 eq-stack-loop-less-2 : (t : ℕ) → eq-stack-lts.Need-loop-less-2 (eq-stack-claims t) (eq-stack-at t) eq-stack.Post eq-stack-Inv-loop eq-stack-μ-loop
 eq-stack-loop-less-2 t c =
     let v : S-Value t = search in
-    let i : eq-stack-lts.Else2 (eq-stack-claims t) (eq-stack-at t) eq-stack.Post eq-stack-Inv-loop eq-stack-μ-loop = search in
     let g = s-great t v in
     let o = s-own t g in
     let p = s-own-pair t o in
@@ -600,12 +594,11 @@ eq-stack-loop-less-2 t c =
     let s = s-start t l in
     let w = own-ends t g in
     let w0 = w .0 in
-    (match-own (tab (s .args .rows .now) (s .args .parts .now)) (argsOf (tab (s .args .rows .now) (s .args .parts .now)) (s .args .args .now) (s .args .k .m)) (s .args .k .m) (s .args .k .by) (s .args .k .d) (s .args .l) (s .args .k .by2) (s .args .k .d2) (s .args .r) (side false (l .loop .pending)) (l .loop .i) (side true (l .loop .pending)) (l .loop .j) (l .loop .inv .0) (side false (p .next-pair .last .1 .1 .1 .0)) (side true (p .next-pair .last .1 .1 .1 .0)) (side false (putMid (g .greater .result) (length (p .next-pair .last .1 .1 .1 .0) - (g .greater .result)) (p .next-pair .last .1 .1 .1 .0) (v .eq-value .last .1 .1 .1 .1 .1 .1 .0))) (side true (putMid (g .greater .result) (length (p .next-pair .last .1 .1 .1 .0) - (g .greater .result)) (p .next-pair .last .1 .1 .1 .0) (v .eq-value .last .1 .1 .1 .1 .1 .1 .0))) (p .next-pair .result) (o .s2 .given .0 .0) (o .s2 .given .0 .1 .0) (o .s2 .given .0 .1 .1 .0) (o .s2 .given .0 .1 .1 .1 .0) (agree-back false (o .s2 .given .0 .1 .0) (g .greater .result) (length (p .next-pair .last .1 .1 .1 .0) - (g .greater .result)) (p .next-pair .last .1 .1 .1 .0) (v .eq-value .last .1 .1 .1 .1 .1 .1 .0) (g .greater .ensures .0) (omega arith)) (agree-back true (o .s2 .given .0 .1 .1 .1 .0) (g .greater .result) (length (p .next-pair .last .1 .1 .1 .0) - (g .greater .result)) (p .next-pair .last .1 .1 .1 .0) (v .eq-value .last .1 .1 .1 .1 .1 .1 .0) (g .greater .ensures .1) (omega arith)) (p .next-pair .ensures (s .args .parts .now)) (o .s2 .given .1) (v .eq-value .ensures) (not-true (i .if2 .left))) .1
+    (match-own (tab (s .args .rows .now) (s .args .parts .now)) (argsOf (tab (s .args .rows .now) (s .args .parts .now)) (s .args .args .now) (s .args .k .m)) (s .args .k .m) (s .args .k .by) (s .args .k .d) (s .args .l) (s .args .k .by2) (s .args .k .d2) (s .args .r) (side false (l .loop .pending)) (l .loop .i) (side true (l .loop .pending)) (l .loop .j) (l .loop .inv .0) (side false (p .next-pair .last .1 .1 .1 .0)) (side true (p .next-pair .last .1 .1 .1 .0)) (side false (putMid (g .greater .result) (length (p .next-pair .last .1 .1 .1 .0) - (g .greater .result)) (p .next-pair .last .1 .1 .1 .0) (v .eq-value .last .1 .1 .1 .1 .1 .1 .0))) (side true (putMid (g .greater .result) (length (p .next-pair .last .1 .1 .1 .0) - (g .greater .result)) (p .next-pair .last .1 .1 .1 .0) (v .eq-value .last .1 .1 .1 .1 .1 .1 .0))) (p .next-pair .result) (o .s2 .given .0 .0) (o .s2 .given .0 .1 .0) (o .s2 .given .0 .1 .1 .0) (o .s2 .given .0 .1 .1 .1 .0) (agree-back false (o .s2 .given .0 .1 .0) (g .greater .result) (length (p .next-pair .last .1 .1 .1 .0) - (g .greater .result)) (p .next-pair .last .1 .1 .1 .0) (v .eq-value .last .1 .1 .1 .1 .1 .1 .0) (g .greater .ensures .0) (omega arith)) (agree-back true (o .s2 .given .0 .1 .1 .1 .0) (g .greater .result) (length (p .next-pair .last .1 .1 .1 .0) - (g .greater .result)) (p .next-pair .last .1 .1 .1 .0) (v .eq-value .last .1 .1 .1 .1 .1 .1 .0) (g .greater .ensures .1) (omega arith)) (p .next-pair .ensures (s .args .parts .now)) (o .s2 .given .1) (v .eq-value .ensures) (not-true (search))) .1
 
 eq-stack-loop-again-2 : (t : ℕ) → eq-stack-lts.Need-loop-again-2 (eq-stack-claims t) (eq-stack-at t) eq-stack.Post eq-stack-Inv-loop eq-stack-μ-loop
 eq-stack-loop-again-2 t c =
     let v : S-Value t = search in
-    let i : eq-stack-lts.Else2 (eq-stack-claims t) (eq-stack-at t) eq-stack.Post eq-stack-Inv-loop eq-stack-μ-loop = search in
     let g = s-great t v in
     let o = s-own t g in
     let p = s-own-pair t o in
@@ -613,7 +606,7 @@ eq-stack-loop-again-2 t c =
     let s = s-start t l in
     let w = own-ends t g in
     let w0 = w .0 in
-    ((match-own (tab (s .args .rows .now) (s .args .parts .now)) (argsOf (tab (s .args .rows .now) (s .args .parts .now)) (s .args .args .now) (s .args .k .m)) (s .args .k .m) (s .args .k .by) (s .args .k .d) (s .args .l) (s .args .k .by2) (s .args .k .d2) (s .args .r) (side false (l .loop .pending)) (l .loop .i) (side true (l .loop .pending)) (l .loop .j) (l .loop .inv .0) (side false (p .next-pair .last .1 .1 .1 .0)) (side true (p .next-pair .last .1 .1 .1 .0)) (side false (putMid (g .greater .result) (length (p .next-pair .last .1 .1 .1 .0) - (g .greater .result)) (p .next-pair .last .1 .1 .1 .0) (v .eq-value .last .1 .1 .1 .1 .1 .1 .0))) (side true (putMid (g .greater .result) (length (p .next-pair .last .1 .1 .1 .0) - (g .greater .result)) (p .next-pair .last .1 .1 .1 .0) (v .eq-value .last .1 .1 .1 .1 .1 .1 .0))) (p .next-pair .result) (o .s2 .given .0 .0) (o .s2 .given .0 .1 .0) (o .s2 .given .0 .1 .1 .0) (o .s2 .given .0 .1 .1 .1 .0) (agree-back false (o .s2 .given .0 .1 .0) (g .greater .result) (length (p .next-pair .last .1 .1 .1 .0) - (g .greater .result)) (p .next-pair .last .1 .1 .1 .0) (v .eq-value .last .1 .1 .1 .1 .1 .1 .0) (g .greater .ensures .0) (omega arith)) (agree-back true (o .s2 .given .0 .1 .1 .1 .0) (g .greater .result) (length (p .next-pair .last .1 .1 .1 .0) - (g .greater .result)) (p .next-pair .last .1 .1 .1 .0) (v .eq-value .last .1 .1 .1 .1 .1 .1 .0) (g .greater .ensures .1) (omega arith)) (p .next-pair .ensures (s .args .parts .now)) (o .s2 .given .1) (v .eq-value .ensures) (not-true (i .if2 .left))) .0, same-len-mid (g .greater .result) (length (p .next-pair .last .1 .1 .1 .0) - (g .greater .result)) (p .next-pair .last .1 .1 .1 .0) (v .eq-value .last .1 .1 .1 .1 .1 .1 .0) (v .eq-value .kept .1 .1 .1 .1 .1 .1 .0) ∙ p .next-pair .kept .1 .1 .1 .0 ∙ l .loop .inv .1)
+    ((match-own (tab (s .args .rows .now) (s .args .parts .now)) (argsOf (tab (s .args .rows .now) (s .args .parts .now)) (s .args .args .now) (s .args .k .m)) (s .args .k .m) (s .args .k .by) (s .args .k .d) (s .args .l) (s .args .k .by2) (s .args .k .d2) (s .args .r) (side false (l .loop .pending)) (l .loop .i) (side true (l .loop .pending)) (l .loop .j) (l .loop .inv .0) (side false (p .next-pair .last .1 .1 .1 .0)) (side true (p .next-pair .last .1 .1 .1 .0)) (side false (putMid (g .greater .result) (length (p .next-pair .last .1 .1 .1 .0) - (g .greater .result)) (p .next-pair .last .1 .1 .1 .0) (v .eq-value .last .1 .1 .1 .1 .1 .1 .0))) (side true (putMid (g .greater .result) (length (p .next-pair .last .1 .1 .1 .0) - (g .greater .result)) (p .next-pair .last .1 .1 .1 .0) (v .eq-value .last .1 .1 .1 .1 .1 .1 .0))) (p .next-pair .result) (o .s2 .given .0 .0) (o .s2 .given .0 .1 .0) (o .s2 .given .0 .1 .1 .0) (o .s2 .given .0 .1 .1 .1 .0) (agree-back false (o .s2 .given .0 .1 .0) (g .greater .result) (length (p .next-pair .last .1 .1 .1 .0) - (g .greater .result)) (p .next-pair .last .1 .1 .1 .0) (v .eq-value .last .1 .1 .1 .1 .1 .1 .0) (g .greater .ensures .0) (omega arith)) (agree-back true (o .s2 .given .0 .1 .1 .1 .0) (g .greater .result) (length (p .next-pair .last .1 .1 .1 .0) - (g .greater .result)) (p .next-pair .last .1 .1 .1 .0) (v .eq-value .last .1 .1 .1 .1 .1 .1 .0) (g .greater .ensures .1) (omega arith)) (p .next-pair .ensures (s .args .parts .now)) (o .s2 .given .1) (v .eq-value .ensures) (not-true (search))) .0, same-len-mid (g .greater .result) (length (p .next-pair .last .1 .1 .1 .0) - (g .greater .result)) (p .next-pair .last .1 .1 .1 .0) (v .eq-value .last .1 .1 .1 .1 .1 .1 .0) (v .eq-value .kept .1 .1 .1 .1 .1 .1 .0) ∙ p .next-pair .kept .1 .1 .1 .0 ∙ l .loop .inv .1)
 
 eq-stack-mul-eq-value-2 : (t : ℕ) → eq-stack-lts.Need-mul-eq-value-2 (eq-stack-claims t) (eq-stack-at t) eq-stack.Post eq-stack-Inv-loop eq-stack-μ-loop
 eq-stack-mul-eq-value-2 t c =
@@ -661,7 +654,6 @@ eq-stack-eq-value-requires-2 t c κs =
 eq-stack-same-length-4 : (t : ℕ) → eq-stack-lts.Need-same-length-4 (eq-stack-claims t) (eq-stack-at t) eq-stack.Post eq-stack-Inv-loop eq-stack-μ-loop
 eq-stack-same-length-4 t c =
     let v : S-Value2 t = search in
-    let i : eq-stack-lts.Then3 (eq-stack-claims t) (eq-stack-at t) eq-stack.Post eq-stack-Inv-loop eq-stack-μ-loop = search in
     let g = s-great2 t v in
     let o = s-given t g in
     let p = s-given-pair t o in
@@ -674,7 +666,6 @@ eq-stack-same-length-4 t c =
 eq-stack-returns-5 : (t : ℕ) → eq-stack-lts.Need-returns-5 (eq-stack-claims t) (eq-stack-at t) eq-stack.Post eq-stack-Inv-loop eq-stack-μ-loop
 eq-stack-returns-5 t c =
     let v : S-Value2 t = search in
-    let i : eq-stack-lts.Then3 (eq-stack-claims t) (eq-stack-at t) eq-stack.Post eq-stack-Inv-loop eq-stack-μ-loop = search in
     let g = s-great2 t v in
     let o = s-given t g in
     let p = s-given-pair t o in
@@ -682,12 +673,11 @@ eq-stack-returns-5 t c =
     let s = s-start t l in
     let w = given-ends t g in
     let w0 = w .0 in
-    given-not (tab _ _) (argsOf (tab _ _) _ _) _ _ _ _ _ _ _ (side false (l .loop .pending)) _ (side true (l .loop .pending)) _ (l .loop .inv .0) (side false (p .next-pair .last .1 .1 .1 .0)) (side true (p .next-pair .last .1 .1 .1 .0)) _ (o .s3 .given .0 .0) (o .s3 .given .0 .1 .0) (o .s3 .given .0 .1 .1 .0) (o .s3 .given .0 .1 .1 .1 .0) (p .next-pair .ensures _) (o .s3 .given .1) (v .eq-value2 .ensures ∙ plain-args (tab (s .args .rows .now) (s .args .parts .now)) (s .args .args .now) (s .args .k .d) (o .s3 .given .0 .0) (s .args .k .by2) (s .args .k .d2) (o .s3 .given .0 .1 .1 .0)) (not-false (i .if3 .taken))
+    given-not _ _ _ _ _ _ _ _ _ (side false (l .loop .pending)) _ (side true (l .loop .pending)) _ (l .loop .inv .0) (side false (p .next-pair .last .1 .1 .1 .0)) (side true (p .next-pair .last .1 .1 .1 .0)) _ (o .s3 .given .0 .0) (o .s3 .given .0 .1 .0) (o .s3 .given .0 .1 .1 .0) (o .s3 .given .0 .1 .1 .1 .0) (p .next-pair .ensures _) (o .s3 .given .1) (v .eq-value2 .ensures ∙ plain-args (tab (s .args .rows .now) (s .args .parts .now)) (s .args .args .now) (s .args .k .d) (o .s3 .given .0 .0) (s .args .k .by2) (s .args .k .d2) (o .s3 .given .0 .1 .1 .0)) (not-false (search))
 
 eq-stack-loop-less-3 : (t : ℕ) → eq-stack-lts.Need-loop-less-3 (eq-stack-claims t) (eq-stack-at t) eq-stack.Post eq-stack-Inv-loop eq-stack-μ-loop
 eq-stack-loop-less-3 t c =
     let v : S-Value2 t = search in
-    let i : eq-stack-lts.Else3 (eq-stack-claims t) (eq-stack-at t) eq-stack.Post eq-stack-Inv-loop eq-stack-μ-loop = search in
     let g = s-great2 t v in
     let o = s-given t g in
     let p = s-given-pair t o in
@@ -695,12 +685,11 @@ eq-stack-loop-less-3 t c =
     let s = s-start t l in
     let w = given-ends t g in
     let w0 = w .0 in
-    (match-given (tab (s .args .rows .now) (s .args .parts .now)) (argsOf (tab (s .args .rows .now) (s .args .parts .now)) (s .args .args .now) (s .args .k .m)) (s .args .k .m) (s .args .k .by) (s .args .k .d) (s .args .l) (s .args .k .by2) (s .args .k .d2) (s .args .r) (side false (l .loop .pending)) (l .loop .i) (side true (l .loop .pending)) (l .loop .j) (l .loop .inv .0) (side false (p .next-pair .last .1 .1 .1 .0)) (side true (p .next-pair .last .1 .1 .1 .0)) (side false (putMid (g .greater2 .result) (length (p .next-pair .last .1 .1 .1 .0) - (g .greater2 .result)) (p .next-pair .last .1 .1 .1 .0) (v .eq-value2 .last .1 .1 .1 .1 .1 .1 .0))) (side true (putMid (g .greater2 .result) (length (p .next-pair .last .1 .1 .1 .0) - (g .greater2 .result)) (p .next-pair .last .1 .1 .1 .0) (v .eq-value2 .last .1 .1 .1 .1 .1 .1 .0))) (p .next-pair .result) (o .s3 .given .0 .0) (o .s3 .given .0 .1 .0) (o .s3 .given .0 .1 .1 .0) (o .s3 .given .0 .1 .1 .1 .0) (agree-back false (o .s3 .given .0 .1 .0) (g .greater2 .result) (length (p .next-pair .last .1 .1 .1 .0) - (g .greater2 .result)) (p .next-pair .last .1 .1 .1 .0) (v .eq-value2 .last .1 .1 .1 .1 .1 .1 .0) (g .greater2 .ensures .0) (omega arith)) (agree-back true (o .s3 .given .0 .1 .1 .1 .0) (g .greater2 .result) (length (p .next-pair .last .1 .1 .1 .0) - (g .greater2 .result)) (p .next-pair .last .1 .1 .1 .0) (v .eq-value2 .last .1 .1 .1 .1 .1 .1 .0) (g .greater2 .ensures .1) (omega arith)) (p .next-pair .ensures (s .args .parts .now)) (o .s3 .given .1) (v .eq-value2 .ensures ∙ plain-args (tab (s .args .rows .now) (s .args .parts .now)) (s .args .args .now) (s .args .k .d) (o .s3 .given .0 .0) (s .args .k .by2) (s .args .k .d2) (o .s3 .given .0 .1 .1 .0)) (not-true (i .if3 .left))) .1
+    (match-given (tab (s .args .rows .now) (s .args .parts .now)) (argsOf (tab (s .args .rows .now) (s .args .parts .now)) (s .args .args .now) (s .args .k .m)) (s .args .k .m) (s .args .k .by) (s .args .k .d) (s .args .l) (s .args .k .by2) (s .args .k .d2) (s .args .r) (side false (l .loop .pending)) (l .loop .i) (side true (l .loop .pending)) (l .loop .j) (l .loop .inv .0) (side false (p .next-pair .last .1 .1 .1 .0)) (side true (p .next-pair .last .1 .1 .1 .0)) (side false (putMid (g .greater2 .result) (length (p .next-pair .last .1 .1 .1 .0) - (g .greater2 .result)) (p .next-pair .last .1 .1 .1 .0) (v .eq-value2 .last .1 .1 .1 .1 .1 .1 .0))) (side true (putMid (g .greater2 .result) (length (p .next-pair .last .1 .1 .1 .0) - (g .greater2 .result)) (p .next-pair .last .1 .1 .1 .0) (v .eq-value2 .last .1 .1 .1 .1 .1 .1 .0))) (p .next-pair .result) (o .s3 .given .0 .0) (o .s3 .given .0 .1 .0) (o .s3 .given .0 .1 .1 .0) (o .s3 .given .0 .1 .1 .1 .0) (agree-back false (o .s3 .given .0 .1 .0) (g .greater2 .result) (length (p .next-pair .last .1 .1 .1 .0) - (g .greater2 .result)) (p .next-pair .last .1 .1 .1 .0) (v .eq-value2 .last .1 .1 .1 .1 .1 .1 .0) (g .greater2 .ensures .0) (omega arith)) (agree-back true (o .s3 .given .0 .1 .1 .1 .0) (g .greater2 .result) (length (p .next-pair .last .1 .1 .1 .0) - (g .greater2 .result)) (p .next-pair .last .1 .1 .1 .0) (v .eq-value2 .last .1 .1 .1 .1 .1 .1 .0) (g .greater2 .ensures .1) (omega arith)) (p .next-pair .ensures (s .args .parts .now)) (o .s3 .given .1) (v .eq-value2 .ensures ∙ plain-args (tab (s .args .rows .now) (s .args .parts .now)) (s .args .args .now) (s .args .k .d) (o .s3 .given .0 .0) (s .args .k .by2) (s .args .k .d2) (o .s3 .given .0 .1 .1 .0)) (not-true (search))) .1
 
 eq-stack-loop-again-3 : (t : ℕ) → eq-stack-lts.Need-loop-again-3 (eq-stack-claims t) (eq-stack-at t) eq-stack.Post eq-stack-Inv-loop eq-stack-μ-loop
 eq-stack-loop-again-3 t c =
     let v : S-Value2 t = search in
-    let i : eq-stack-lts.Else3 (eq-stack-claims t) (eq-stack-at t) eq-stack.Post eq-stack-Inv-loop eq-stack-μ-loop = search in
     let g = s-great2 t v in
     let o = s-given t g in
     let p = s-given-pair t o in
@@ -708,7 +697,7 @@ eq-stack-loop-again-3 t c =
     let s = s-start t l in
     let w = given-ends t g in
     let w0 = w .0 in
-    ((match-given (tab (s .args .rows .now) (s .args .parts .now)) (argsOf (tab (s .args .rows .now) (s .args .parts .now)) (s .args .args .now) (s .args .k .m)) (s .args .k .m) (s .args .k .by) (s .args .k .d) (s .args .l) (s .args .k .by2) (s .args .k .d2) (s .args .r) (side false (l .loop .pending)) (l .loop .i) (side true (l .loop .pending)) (l .loop .j) (l .loop .inv .0) (side false (p .next-pair .last .1 .1 .1 .0)) (side true (p .next-pair .last .1 .1 .1 .0)) (side false (putMid (g .greater2 .result) (length (p .next-pair .last .1 .1 .1 .0) - (g .greater2 .result)) (p .next-pair .last .1 .1 .1 .0) (v .eq-value2 .last .1 .1 .1 .1 .1 .1 .0))) (side true (putMid (g .greater2 .result) (length (p .next-pair .last .1 .1 .1 .0) - (g .greater2 .result)) (p .next-pair .last .1 .1 .1 .0) (v .eq-value2 .last .1 .1 .1 .1 .1 .1 .0))) (p .next-pair .result) (o .s3 .given .0 .0) (o .s3 .given .0 .1 .0) (o .s3 .given .0 .1 .1 .0) (o .s3 .given .0 .1 .1 .1 .0) (agree-back false (o .s3 .given .0 .1 .0) (g .greater2 .result) (length (p .next-pair .last .1 .1 .1 .0) - (g .greater2 .result)) (p .next-pair .last .1 .1 .1 .0) (v .eq-value2 .last .1 .1 .1 .1 .1 .1 .0) (g .greater2 .ensures .0) (omega arith)) (agree-back true (o .s3 .given .0 .1 .1 .1 .0) (g .greater2 .result) (length (p .next-pair .last .1 .1 .1 .0) - (g .greater2 .result)) (p .next-pair .last .1 .1 .1 .0) (v .eq-value2 .last .1 .1 .1 .1 .1 .1 .0) (g .greater2 .ensures .1) (omega arith)) (p .next-pair .ensures (s .args .parts .now)) (o .s3 .given .1) (v .eq-value2 .ensures ∙ plain-args (tab (s .args .rows .now) (s .args .parts .now)) (s .args .args .now) (s .args .k .d) (o .s3 .given .0 .0) (s .args .k .by2) (s .args .k .d2) (o .s3 .given .0 .1 .1 .0)) (not-true (i .if3 .left))) .0, same-len-mid (g .greater2 .result) (length (p .next-pair .last .1 .1 .1 .0) - (g .greater2 .result)) (p .next-pair .last .1 .1 .1 .0) (v .eq-value2 .last .1 .1 .1 .1 .1 .1 .0) (v .eq-value2 .kept .1 .1 .1 .1 .1 .1 .0) ∙ p .next-pair .kept .1 .1 .1 .0 ∙ l .loop .inv .1)
+    ((match-given (tab (s .args .rows .now) (s .args .parts .now)) (argsOf (tab (s .args .rows .now) (s .args .parts .now)) (s .args .args .now) (s .args .k .m)) (s .args .k .m) (s .args .k .by) (s .args .k .d) (s .args .l) (s .args .k .by2) (s .args .k .d2) (s .args .r) (side false (l .loop .pending)) (l .loop .i) (side true (l .loop .pending)) (l .loop .j) (l .loop .inv .0) (side false (p .next-pair .last .1 .1 .1 .0)) (side true (p .next-pair .last .1 .1 .1 .0)) (side false (putMid (g .greater2 .result) (length (p .next-pair .last .1 .1 .1 .0) - (g .greater2 .result)) (p .next-pair .last .1 .1 .1 .0) (v .eq-value2 .last .1 .1 .1 .1 .1 .1 .0))) (side true (putMid (g .greater2 .result) (length (p .next-pair .last .1 .1 .1 .0) - (g .greater2 .result)) (p .next-pair .last .1 .1 .1 .0) (v .eq-value2 .last .1 .1 .1 .1 .1 .1 .0))) (p .next-pair .result) (o .s3 .given .0 .0) (o .s3 .given .0 .1 .0) (o .s3 .given .0 .1 .1 .0) (o .s3 .given .0 .1 .1 .1 .0) (agree-back false (o .s3 .given .0 .1 .0) (g .greater2 .result) (length (p .next-pair .last .1 .1 .1 .0) - (g .greater2 .result)) (p .next-pair .last .1 .1 .1 .0) (v .eq-value2 .last .1 .1 .1 .1 .1 .1 .0) (g .greater2 .ensures .0) (omega arith)) (agree-back true (o .s3 .given .0 .1 .1 .1 .0) (g .greater2 .result) (length (p .next-pair .last .1 .1 .1 .0) - (g .greater2 .result)) (p .next-pair .last .1 .1 .1 .0) (v .eq-value2 .last .1 .1 .1 .1 .1 .1 .0) (g .greater2 .ensures .1) (omega arith)) (p .next-pair .ensures (s .args .parts .now)) (o .s3 .given .1) (v .eq-value2 .ensures ∙ plain-args (tab (s .args .rows .now) (s .args .parts .now)) (s .args .args .now) (s .args .k .d) (o .s3 .given .0 .0) (s .args .k .by2) (s .args .k .d2) (o .s3 .given .0 .1 .1 .0)) (not-true (search))) .0, same-len-mid (g .greater2 .result) (length (p .next-pair .last .1 .1 .1 .0) - (g .greater2 .result)) (p .next-pair .last .1 .1 .1 .0) (v .eq-value2 .last .1 .1 .1 .1 .1 .1 .0) (v .eq-value2 .kept .1 .1 .1 .1 .1 .1 .0) ∙ p .next-pair .kept .1 .1 .1 .0 ∙ l .loop .inv .1)
 
 abbrev V-Start : ℕ → Type 0
 V-Start t = eq-value-lts.Start (eq-value-claims t) (eq-value-at t) eq-value.Post
@@ -739,8 +728,9 @@ v-start t c = search
 
 eq-value-returns : (t : ℕ) → eq-value-lts.Need-returns (eq-value-claims t) (eq-value-at t) eq-value.Post
 eq-value-returns t c =
+    let s2 : eq-value-lts.After-same-place (eq-value-claims t) (eq-value-at t) eq-value.Post = search in
     let s : V-Start t = search in
-    place-value (tab _ _) _ _ _ _ _ _ _ _ (c .before .same-place .ensures) (c .if1 .taken)
+    place-value _ _ _ _ _ _ _ _ _ (s2 .same-place .ensures) (search)
 
 eq-value-returns-2 : (t : ℕ) → eq-value-lts.Need-returns-2 (eq-value-claims t) (eq-value-at t) eq-value.Post
 eq-value-returns-2 t c =
@@ -862,7 +852,7 @@ eq-value-returns-3 t c =
     let v = v-read t u in
     let w = v-read2 t u in
     let s = v-start t u in
-    value-pair (tab _ _) (argsOf (tab _ _) _ _) _ _ _ _ _ _ _ (length-args (tab _ _) _ _) (v .read-value .ensures .0) (w .read-value2 .ensures .0) (w .read-value2 .ensures .1) (u .pair-up .ensures) (c .enum-told .given .1)
+    value-pair _ _ _ _ _ _ _ _ _ (length-args _ _ _) (v .read-value .ensures .0) (w .read-value2 .ensures .0) (w .read-value2 .ensures .1) (u .pair-up .ensures) (c .enum-told .given .1)
 
 eq-value-returns-4 : (t : ℕ) → eq-value-lts.Need-returns-4 (eq-value-claims t) (eq-value-at t) eq-value.Post
 eq-value-returns-4 t c =
@@ -870,7 +860,7 @@ eq-value-returns-4 t c =
     let v = v-read t u in
     let w = v-read2 t u in
     let s = v-start t u in
-    value-pair (tab _ _) (argsOf (tab _ _) _ _) _ _ _ _ _ _ _ (length-args (tab _ _) _ _) (v .read-value .ensures .0) (w .read-value2 .ensures .0) (w .read-value2 .ensures .1) (u .pair-up .ensures) (c .enum-told2 .given .1)
+    value-pair _ _ _ _ _ _ _ _ _ (length-args _ _ _) (v .read-value .ensures .0) (w .read-value2 .ensures .0) (w .read-value2 .ensures .1) (u .pair-up .ensures) (c .enum-told2 .given .1)
 
 eq-value-returns-5 : (t : ℕ) → eq-value-lts.Need-returns-5 (eq-value-claims t) (eq-value-at t) eq-value.Post
 eq-value-returns-5 t c =
@@ -894,7 +884,7 @@ eq-value-returns-6 t c =
     let v = v-read t u in
     let w = v-read2 t u in
     let s = v-start t u in
-    e .eq-parts .ensures ∙ value-pair (tab _ _) (argsOf (tab _ _) _ _) _ _ _ _ _ _ _ (length-args (tab _ _) _ _) (v .read-value .ensures .0) (w .read-value2 .ensures .0) (w .read-value2 .ensures .1) (u .pair-up .ensures) (p .p2 .given .1)
+    e .eq-parts .ensures ∙ value-pair _ _ _ _ _ _ _ _ _ (length-args _ _ _) (v .read-value .ensures .0) (w .read-value2 .ensures .0) (w .read-value2 .ensures .1) (u .pair-up .ensures) (p .p2 .given .1)
 
 eq-value-returns-7 : (t : ℕ) → eq-value-lts.Need-returns-7 (eq-value-claims t) (eq-value-at t) eq-value.Post
 eq-value-returns-7 t c =
@@ -904,7 +894,7 @@ eq-value-returns-7 t c =
     let v = v-read t u in
     let w = v-read2 t u in
     let s = v-start t u in
-    e .eq-stack .ensures ∙ value-pair (tab _ _) (argsOf (tab _ _) _ _) _ _ _ _ _ _ _ (length-args (tab _ _) _ _) (v .read-value .ensures .0) (w .read-value2 .ensures .0) (w .read-value2 .ensures .1) (u .pair-up .ensures) (p .p3 .given .1)
+    e .eq-stack .ensures ∙ value-pair _ _ _ _ _ _ _ _ _ (length-args _ _ _) (v .read-value .ensures .0) (w .read-value2 .ensures .0) (w .read-value2 .ensures .1) (u .pair-up .ensures) (p .p3 .given .1)
 
 eq-value-returns-8 : (t : ℕ) → eq-value-lts.Need-returns-8 (eq-value-claims t) (eq-value-at t) eq-value.Post
 eq-value-returns-8 t c =
@@ -914,7 +904,7 @@ eq-value-returns-8 t c =
     let v = v-read t u in
     let w = v-read2 t u in
     let s = v-start t u in
-    e .eq-code .ensures ∙ value-pair (tab _ _) (argsOf (tab _ _) _ _) _ _ _ _ _ _ _ (length-args (tab _ _) _ _) (v .read-value .ensures .0) (w .read-value2 .ensures .0) (w .read-value2 .ensures .1) (u .pair-up .ensures) (p .p4 .given .1)
+    e .eq-code .ensures ∙ value-pair _ _ _ _ _ _ _ _ _ (length-args _ _ _) (v .read-value .ensures .0) (w .read-value2 .ensures .0) (w .read-value2 .ensures .1) (u .pair-up .ensures) (p .p4 .given .1)
 
 pub +eq-code+eq-parts+eq-stack+eq-value-spec : {M : Type 1} → statement M
 +eq-code+eq-parts+eq-stack+eq-value-spec =

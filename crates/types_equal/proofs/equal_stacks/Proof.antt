@@ -27,8 +27,7 @@ returns c =
     let e : tie.After-eq-stack = search in
     let x : tie.After-link-of = search in
     let y : tie.After-link-of2 = search in
-    let s : tie.Start = search in
-    stacks-are (tab _ _) _ _ _ _ _ _ (x .link-of .ensures) (y .link-of2 .ensures) (e .eq-stack .ensures)
+    stacks-are _ _ _ _ _ _ _ (x .link-of .ensures) (y .link-of2 .ensures) (e .eq-stack .ensures)
 
 pub equal-stacks-spec : {M : Type 1} → statement M
 equal-stacks-spec =

@@ -27,8 +27,7 @@ returns c =
     let e : tie.After-eq-value = search in
     let x : tie.After-link-of = search in
     let y : tie.After-link-of2 = search in
-    let s : tie.Start = search in
-    values-are (tab _ _) _ _ _ _ _ _ (x .link-of .ensures) (y .link-of2 .ensures) (e .eq-value .ensures)
+    values-are _ _ _ _ _ _ _ (x .link-of .ensures) (y .link-of2 .ensures) (e .eq-value .ensures)
 
 pub equal-values-spec : {M : Type 1} → statement M
 equal-values-spec =

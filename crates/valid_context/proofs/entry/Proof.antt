@@ -6,20 +6,10 @@ use borrow.Author.Needs.{needs}
 use Rattle.valid_context.proofs.entry.Statement.{statement}
 use Rattle.valid_context.proofs.entry.Tie as tie
 
-mul-wide : tie.Need-mul-wide
-mul-wide c = search needs
-
-shared-slice-read-wide : tie.Need-shared-slice-read-wide
-shared-slice-read-wide c = search needs
-
-wide-requires : tie.Need-wide-requires
-wide-requires c κs = search needs
-
-returns : tie.Need-returns
-returns c = search needs
-
 returns-2 : tie.Need-returns-2
-returns-2 c = (sym (List·getD-eq-default (c .before .before .args .s .now) 0 (c .if1 .left)), omega arith)
+returns-2 c =
+    let s2 : tie.Start = search in
+    (sym (List·getD-eq-default (s2 .args .s .now) 0 (c .if1 .left)), omega arith)
 
 pub entry-spec : {M : Type 1} → statement M
-entry-spec = tie.close (tie.spec mul-wide shared-slice-read-wide wide-requires returns returns-2)
+entry-spec = tie.close (tie.spec (λ c. search needs) (λ c. search) (λ c κs. search) (λ c. search) returns-2)

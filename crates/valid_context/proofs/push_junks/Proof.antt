@@ -20,57 +20,24 @@ Inv-loop sp₀ d k row x i₀ sp i = (i ≤ k) × (length sp ≡ length sp₀) �
 abbrev μ-loop : tie.MeasureT-loop
 μ-loop sp₀ d k row x i₀ sp i = k - i
 
-cast-x : tie.Need-cast-x Inv-loop μ-loop
-cast-x c = search needs
-
 loop-holds : tie.Need-loop-holds Inv-loop μ-loop
-loop-holds c = let a = c .args in (omega arith, refl, λ T j. junks-none T (a .sp .now) (a .d))
-
-add-sp : tie.Need-add-sp Inv-loop μ-loop
-add-sp c = search needs
-
-mul-sp : tie.Need-mul-sp Inv-loop μ-loop
-mul-sp c = search needs
-
-slice-write-sp : tie.Need-slice-write-sp Inv-loop μ-loop
-slice-write-sp c = omega (arith, c .before .loop .inv .1)
-
-add-i : tie.Need-add-i Inv-loop μ-loop
-add-i c = search needs
-
-loop-less : tie.Need-loop-less Inv-loop μ-loop
-loop-less c = search needs
+loop-holds c = (omega arith, refl, λ T j. junks-none T _ _)
 
 loop-again : tie.Need-loop-again Inv-loop μ-loop
 loop-again c =
-    let a = c .before .before .args in
-    let l = c .before .loop in
-    let h : a .d + l .i < length (l .sp) = omega (arith, l .inv .1) in
-    (omega arith, simp length-set (l .inv .1), λ T j. junks-next T (a .sp .now) (l .sp) (a .d) (l .i) (a .row) h (c .before .before .pre .1) j (l .inv .2 T j))
-
-same-length : tie.Need-same-length Inv-loop μ-loop
-same-length c = search needs
+    let l2 : tie.At-loop Inv-loop μ-loop = search in
+    let s : tie.Start Inv-loop μ-loop = search in
+    let h : s .args .d + l2 .loop .i < length (l2 .loop .sp) = omega arith in
+    (omega arith, simp length-set (search), λ T j. junks-next T _ _ _ _ _ h (search) j (l2 .loop .inv .2 T j))
 
 returns : tie.Need-returns Inv-loop μ-loop
 returns c =
-    let a = c .before .before .args in
-    let l = c .before .loop in
-    let e : l .i ≡ a .k = omega arith in
-    λ T j. rw e at (l .inv .2 T j)
+    let l2 : tie.At-loop Inv-loop μ-loop = search in
+    let s : tie.Start Inv-loop μ-loop = search in
+    let e : l2 .loop .i ≡ s .args .k = omega arith in
+    λ T j. rw e at (l2 .loop .inv .2 T j)
 
 pub push-junks-spec : {M : Type 1} → statement M
 push-junks-spec =
-    tie.close
-    (tie.spec
-    Inv-loop
-    μ-loop
-    cast-x
-    loop-holds
-    add-sp
-    mul-sp
-    slice-write-sp
-    add-i
-    loop-less
-    loop-again
-    same-length
-    returns)
+    tie.close (tie.spec Inv-loop μ-loop (λ c. search needs) loop-holds (λ c. search needs) (λ c. search needs) (λ c. search needs)
+    (λ c. search needs) (λ c. search needs) loop-again (λ c. search) returns)

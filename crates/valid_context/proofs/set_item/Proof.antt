@@ -12,62 +12,25 @@ use Rattle.valid_context.proofs.set_item.Tie as tie
 
 returns : tie.Need-returns
 returns c =
-    let a = c .before .before .args in
-    let h : a .d < suc (a .i) = omega arith in
-    (put-none (a .sp .now) (a .d) (a .i) (a .row) (c .before .before .pre .0) (c .before .before .pre .1) (values-few (a .sp .now) (a .d) (suc (a .i)) h), λ T k. refl)
-
-add-values : tie.Need-add-values
-add-values c = search needs
-
-values-requires : tie.Need-values-requires
-values-requires c κs = search needs
-
-cast-sp : tie.Need-cast-sp
-cast-sp c = search needs
-
-sub-sp : tie.Need-sub-sp
-sub-sp c = search needs
-
-sub-sp-2 : tie.Need-sub-sp-2
-sub-sp-2 c = search needs
-
-mul-sp : tie.Need-mul-sp
-mul-sp c = search needs
-
-slice-write-sp : tie.Need-slice-write-sp
-slice-write-sp c = search needs
-
-same-length : tie.Need-same-length
-same-length c = search needs
+    let s : tie.Start = search in
+    let h : s .args .d < suc (s .args .i) = omega arith in
+    (put-none _ _ _ _ (search) (search) (values-few _ _ _ h), λ T k. refl)
 
 returns-2 : tie.Need-returns-2
 returns-2 c =
-    let a = c .before .before .before .before .before .args in
-    let v : areValues (a .sp .now) (a .d) (suc (a .i)) ≡ true = rw (← (add-one (a .i))) (sym (c .before .values .ensures .0) ∙ c .if2 .taken) in
-    (put-some (a .sp .now) (a .d) (a .i) (a .row) (c .before .before .before .before .before .pre .0) (c .before .before .before .before .before .pre .1) v, λ T k. above-set T (a .sp .now) (a .d) k _ (a .row) (omega arith))
-
-same-length-2 : tie.Need-same-length-2
-same-length-2 c = search needs
+    let v2 : tie.After-values = search in
+    let s : tie.Start = search in
+    let v : areValues (s .args .sp .now) (s .args .d) (suc (s .args .i)) ≡ true = rw (← (add-one _)) (sym (v2 .values .ensures .0) ∙ c .if2 .taken) in
+    (put-some _ _ _ _ (search) (search) v, λ T k. above-set T _ _ k _ _ (omega arith))
 
 returns-3 : tie.Need-returns-3
 returns-3 c =
-    let a = c .before .before .before .before .before .args in
-    let v : areValues (a .sp .now) (a .d) (suc (a .i)) ≡ false = rw (← (add-one (a .i))) (sym (c .before .values .ensures .0) ∙ c .if2 .left) in
-    (put-none (a .sp .now) (a .d) (a .i) (a .row) (c .before .before .before .before .before .pre .0) (c .before .before .before .before .before .pre .1) v, λ T k. refl)
+    let v2 : tie.After-values = search in
+    let s : tie.Start = search in
+    let v : areValues (s .args .sp .now) (s .args .d) (suc (s .args .i)) ≡ false = rw (← (add-one _)) (sym (v2 .values .ensures .0) ∙ c .if2 .left) in
+    (put-none _ _ _ _ (search) (search) v, λ T k. refl)
 
 pub set-item-spec : {M : Type 1} → statement M
 set-item-spec =
-    tie.close
-    (tie.spec
-    returns
-    add-values
-    values-requires
-    cast-sp
-    sub-sp
-    sub-sp-2
-    mul-sp
-    slice-write-sp
-    same-length
-    returns-2
-    same-length-2
-    returns-3)
+    tie.close (tie.spec returns (λ c. search needs) (λ c κs. search) (λ c. search needs) (λ c. search needs) (λ c. search needs)
+    (λ c. search needs) (λ c. search needs) (λ c. search needs) returns-2 (λ c. search) returns-3)

@@ -12,51 +12,27 @@ use Rattle.valid_context.proofs.sp_item.Tie as tie
 
 returns : tie.Need-returns
 returns c =
-    let a = c .before .before .args in
-    let h : a .d < suc (a .i) = omega arith in
-    (item-none (a .sp .now) (a .d) (a .i) (values-few (a .sp .now) (a .d) (suc (a .i)) h), omega arith)
-
-add-values : tie.Need-add-values
-add-values c = search needs
-
-values-requires : tie.Need-values-requires
-values-requires c κs = search needs
-
-sub-entry : tie.Need-sub-entry
-sub-entry c = search needs
-
-sub-entry-2 : tie.Need-sub-entry-2
-sub-entry-2 c = search needs
-
-entry-requires : tie.Need-entry-requires
-entry-requires c κs = search needs
-
-add-result : tie.Need-add-result
-add-result c = search needs
+    let s : tie.Start = search in
+    let h : s .args .d < suc (s .args .i) = omega arith in
+    (item-none _ _ _ (values-few _ _ _ h), omega arith)
 
 returns-2 : tie.Need-returns-2
 returns-2 c =
-    let a = c .before .before .before .before .before .args in
-    let v : areValues (a .sp .now) (a .d) (suc (a .i)) ≡ true = rw (← (add-one (a .i))) (sym (c .before .before .values .ensures .0) ∙ c .before .if2 .taken) in
+    let y : tie.Then2 = search in
+    let v2 : tie.After-values = search in
+    let s : tie.Start = search in
+    let v : areValues (s .args .sp .now) (s .args .d) (suc (s .args .i)) ≡ true = rw (← (add-one _)) (sym (v2 .values .ensures .0) ∙ y .if2 .taken) in
     let e = c .entry .ensures .0 in
-    (item-some (a .sp .now) (a .d) (a .i) _ v e, item-low (a .sp .now) (a .d) (a .i) _ v e)
+    (item-some _ _ _ _ v e, item-low _ _ _ _ v e)
 
 returns-3 : tie.Need-returns-3
 returns-3 c =
-    let a = c .before .before .before .before .args in
-    let v : areValues (a .sp .now) (a .d) (suc (a .i)) ≡ false = rw (← (add-one (a .i))) (sym (c .before .values .ensures .0) ∙ c .if2 .left) in
-    (item-none (a .sp .now) (a .d) (a .i) v, omega arith)
+    let v2 : tie.After-values = search in
+    let s : tie.Start = search in
+    let v : areValues (s .args .sp .now) (s .args .d) (suc (s .args .i)) ≡ false = rw (← (add-one _)) (sym (v2 .values .ensures .0) ∙ c .if2 .left) in
+    (item-none _ _ _ v, omega arith)
 
 pub sp-item-spec : {M : Type 1} → statement M
 sp-item-spec =
-    tie.close
-    (tie.spec
-    returns
-    add-values
-    values-requires
-    sub-entry
-    sub-entry-2
-    entry-requires
-    add-result
-    returns-2
-    returns-3)
+    tie.close (tie.spec returns (λ c. search needs) (λ c κs. search) (λ c. search needs) (λ c. search needs) (λ c κs. search)
+    (λ c. search needs) returns-2 returns-3)

@@ -4,10 +4,9 @@ use mathlib.Core.Path.{_≡_, _∙_, ap}
 use Prim.Native.Nat.{_-_}
 use native.Mathlib.Omega.{arith}
 use Rattle.types_rows.specs.Read.{tab}
-use Rattle.image.specs.Sections.{part, rowSection, partSection, useSection}
+use Rattle.image.specs.Sections.{part, rowSection, partSection}
 use Rattle.image.proofs.Laws.{before}
 use Rattle.valid_scope.specs.variables.Free.{topOf, freeIn}
-use Rattle.valid_scope.specs.Scoped.{rowType}
 use Rattle.valid_scope.proofs.Laws.{use-now}
 use Rattle.valid_scope.proofs.Bounds.{past-limit, top-bound}
 use Rattle.valid_scope.proofs.Sections.{Filling, filling-first, filling-next, filling-last, filling-out}
@@ -33,9 +32,7 @@ abbrev At-loop : Type 0
 At-loop = tie.At-loop Inv-loop μ-loop
 
 loop-holds : tie.Need-loop-holds Inv-loop μ-loop
-loop-holds c =
-    let s : Start = search in
-    filling-first _ (s .pre .3)
+loop-holds c = filling-first _ (search)
 
 loop-again : tie.Need-loop-again Inv-loop μ-loop
 unfolding part
@@ -49,9 +46,9 @@ loop-again c =
     let h = s .pre in
     let f = l .loop .inv in
     let parts = partSection (a .p) (a .image .now) in
-    let same : partSection (a .p) (l .loop .image) ≡ parts = before (a .p .uses) (a .p .tops) (a .image .now) (l .loop .image) (omega (arith, h .0)) (f .out) (a .p .parts) (a .p .operands) (h .0 .parts) (omega (arith, h .0)) in
-    let e = use-now (tab (rowSection (a .p) (a .image .now)) parts) (a .r) (useSection (a .p) (l .loop .image)) (l .loop .k) (h .2) (f .free) (g .form-at .ensures .0 parts) (rw same at (u .use-in .ensures)) in
-    filling-next f (omega (arith, h .0)) (h .1) (m .limit-of .ensures .1) (omega arith) e (c .raised .ensures)
+    let same : partSection (a .p) (l .loop .image) ≡ parts = before _ _ _ _ (omega (arith, h .0)) (f .out) _ _ (h .0 .parts) (omega (arith, h .0)) in
+    let e = use-now _ _ _ _ (h .2) (f .free) (g .form-at .ensures .0 _) (rw same at (u .use-in .ensures)) in
+    filling-next f (omega (arith, h .0)) (h .1) (m .limit-of .ensures .1) (omega arith) e (search)
 
 returns : tie.Need-returns Inv-loop μ-loop
 unfolding part
@@ -61,19 +58,13 @@ returns c =
     let m : Limit = search in
     let l : At-loop = search in
     let t : tie.After-clear Inv-loop μ-loop = search in
-    let a = s .args in
     let h = s .pre in
     let f = l .loop .inv in
-    let parts = partSection (a .p) (a .image .now) in
-    let τ = tab (rowSection (a .p) (a .image .now)) parts in
     let n = m .limit-of .result in
     let e : l .loop .k ≡ n = omega arith in
     let x = g .form-at .result in
-    let past = past-limit τ (a .r) (a .bound) (useSection (a .p) (a .image .now)) (h .2) (h .3) (h .5) (x .kind) (x .first) (x .second) n (g .form-at .ensures .0 parts) (m .limit-of .ensures .0) in (
-      f .highest ∙ ap (topOf (λ j. freeIn j (rowType τ (a .r)))) e ∙ top-bound (λ j. freeIn j (rowType τ (a .r))) n 64 (64 - n) (omega arith) past,
-      filling-last f (omega (arith, h .0)) (h .1) (m .limit-of .ensures .1) (t .clear .last .0) e (h .2) past (t .clear .kept .0) (t .clear .ensures),
-      filling-out f (omega (arith, h .0)) (h .1) (m .limit-of .ensures .1) (t .clear .last .0) (t .clear .kept .0),
-    )
+    let past = past-limit _ _ _ _ (h .2) (h .3) (h .5) (x .kind) (x .first) (x .second) n (g .form-at .ensures .0 _) (m .limit-of .ensures .0) in
+    (f .highest ∙ ap (topOf (λ j. freeIn j _)) e ∙ top-bound (λ j. freeIn j _) n 64 (64 - n) (omega arith) past, filling-last f (omega (arith, h .0)) (h .1) (m .limit-of .ensures .1) (t .clear .last .0) e (h .2) past (t .clear .kept .0) (t .clear .ensures), filling-out f (omega (arith, h .0)) (h .1) (m .limit-of .ensures .1) (t .clear .last .0) (t .clear .kept .0))
 
 pub fill-uses-spec : {M : Type 1} → statement M
 fill-uses-spec =

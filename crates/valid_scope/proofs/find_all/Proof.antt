@@ -3,7 +3,7 @@ use borrow.Author.Needs.{needs}
 use mathlib.Core.Path.{_≡_}
 use Prim.Native.Nat.{_-_}
 use native.Mathlib.Omega.{arith}
-use Rattle.valid_scope.proofs.Sections.{Finding, finding-first, same-rows, same-parts, finding-next}
+use Rattle.valid_scope.proofs.Sections.{Finding, same-rows, same-parts, finding-next}
 use Rattle.valid_scope.proofs.find_all.Statement.{statement}
 use Rattle.valid_scope.proofs.find_all.Tie as tie
 
@@ -19,9 +19,6 @@ At-loop = tie.At-loop Inv-loop μ-loop
 abbrev Start : Type 0
 Start = tie.Start Inv-loop μ-loop
 
-loop-holds : tie.Need-loop-holds Inv-loop μ-loop
-loop-holds c = finding-first _ _ _
-
 find-uses-requires : tie.Need-find-uses-requires Inv-loop μ-loop
 find-uses-requires c κs =
     let s : Start = search in
@@ -30,15 +27,14 @@ find-uses-requires c κs =
     let o = s .pre .0 in
     let e0 = same-rows o f in
     let e1 = same-parts o f in
-    (rw (f .out .size) o, omega arith, omega arith, rw (e0, e1) (s .pre .3 (l .loop .r) (omega arith)), rw (e0, e1) (f .scoped), f .small, rw (e0, e1) (f .within))
+    (rw (f .out .size) o, omega arith, omega arith, rw (e0, e1) (s .pre .3 _ (omega arith)), rw (e0, e1) (f .scoped), f .small, rw (e0, e1) (f .within))
 
 loop-again : tie.Need-loop-again Inv-loop μ-loop
 loop-again c =
-    let s : Start = search in
     let l : At-loop = search in
     let t : tie.After-find-uses Inv-loop μ-loop = search in
     let u = t .find-uses .ensures in
-    finding-next (s .pre .0) (l .loop .inv) (omega arith) (u .0) (u .1) (u .2) (u .3)
+    finding-next (search) (l .loop .inv) (omega arith) (u .0) (u .1) (u .2) (u .3)
 
 returns : tie.Need-returns Inv-loop μ-loop
 returns c =
@@ -49,4 +45,6 @@ returns c =
     (rw e at (f .scoped), f .out)
 
 pub find-all-spec : {M : Type 1} → statement M
-find-all-spec = tie.close (tie.spec Inv-loop μ-loop loop-holds find-uses-requires (λ c. search needs) (λ c. search needs) loop-again (λ c. search) returns)
+find-all-spec =
+    tie.close (tie.spec Inv-loop μ-loop (λ c. search needs) find-uses-requires (λ c. search needs) (λ c. search needs) loop-again
+    (λ c. search) returns)

@@ -4,24 +4,12 @@ use borrow.Author.Needs.{needs}
 use Rattle.valid_scope.proofs.row_respected.Statement.{statement}
 use Rattle.valid_scope.proofs.row_respected.Tie as tie
 
-entry-requires : tie.Need-entry-requires
-entry-requires c κs = search needs
-
-entry-requires-2 : tie.Need-entry-requires-2
-entry-requires-2 c κs = search needs
-
-entry-requires-3 : tie.Need-entry-requires-3
-entry-requires-3 c κs = search needs
-
-form-respected-requires : tie.Need-form-respected-requires
-form-respected-requires c κs = search needs
-
 returns : tie.Need-returns
 returns c =
-    let a = c .before .before .before .before .before .before .before .before .args in
-    row-respects (a .rows .now) (a .parts .now) (a .r) (c .before .before .before .entry .ensures .0) (c .before .before .entry2 .ensures .0) (c .before .entry3 .ensures .0) (a .uses .now) (a .tops .now) (c .form-respected .ensures)
+    let e3 : tie.After-entry3 = search in
+    let e2 : tie.After-entry2 = search in
+    let e : tie.After-entry = search in
+    row-respects _ _ _ (e .entry .ensures .0) (e2 .entry2 .ensures .0) (e3 .entry3 .ensures .0) _ _ (search)
 
 pub row-respected-spec : {M : Type 1} → statement M
-row-respected-spec =
-    tie.close
-    (tie.spec entry-requires entry-requires-2 entry-requires-3 form-respected-requires returns)
+row-respected-spec = tie.close (tie.spec (λ c κs. search needs) (λ c κs. search needs) (λ c κs. search needs) (λ c κs. search) returns)

@@ -1,4 +1,3 @@
-use borrow.Author.Tests.{not-true}
 use borrow.Author.Needs.{needs}
 use Rattle.image.proofs.Enough.{by-work, not-enough}
 use Rattle.image.proofs.lent.is_enough_to_check.Statement.{statement}

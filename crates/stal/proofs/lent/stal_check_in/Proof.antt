@@ -10,4 +10,5 @@ returns c =
     (tells-in _ _ _ _ (t .check-in .ensures .0) (v .put-verdict .ensures), t .check-in .ensures .1)
 
 pub stal-check-in-spec : {M : Type 1} → statement M
-stal-check-in-spec = tie.close (tie.spec (λ c κs. search needs) (λ c κs. search needs) (λ c. search) (λ c. search) (λ c. search) (λ c. search) returns)
+stal-check-in-spec =
+    tie.close (tie.spec (λ c κs. search needs) (λ c κs. search needs) (λ c. search) (λ c. search) (λ c. search) (λ c. search) returns)

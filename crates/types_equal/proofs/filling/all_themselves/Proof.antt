@@ -19,14 +19,17 @@ returns c = none-true
 
 loop-again : tie.Need-loop-again Inv-loop μ-loop
 loop-again c =
+    let i : tie.After-is-itself Inv-loop μ-loop = search in
     let s : tie.Start Inv-loop μ-loop = search in
     let loop2 : tie.At-loop Inv-loop μ-loop = search in
     let at3 : tie.After-at Inv-loop μ-loop = search in
     let at4 : tie.After-at2 Inv-loop μ-loop = search in
-    (omega arith, themselves-next ((s .args) .rows .now) ((s .args) .parts .now) ((s .args) .args .now) ((s .args) .p) ((loop2 .loop) .j) ((loop2 .loop) .inv .1) ((at3 .at) .ensures .0) ((at4 .at2) .ensures .0) ((c .before .is-itself) .ensures) ((c .if1) .left))
+    (omega arith, themselves-next _ (s .args .parts .now) (s .args .args .now) (s .args .p) _ (loop2 .loop .inv .1) (at3 .at .ensures .0) (at4 .at2 .ensures .0) (i .is-itself .ensures) (search))
 
 returns-2 : tie.Need-returns-2 Inv-loop μ-loop
-returns-2 c = λ t j h. (c .before .loop) .inv .1 j (omega (arith, (c .loop-test) .left))
+returns-2 c =
+    let l : tie.At-loop Inv-loop μ-loop = search in
+    λ t j h. (l .loop) .inv .1 j (omega arith)
 
 pub all-themselves-spec : {M : Type 1} → statement M
 all-themselves-spec =

@@ -8,7 +8,9 @@ use Rattle.types_equal.proofs.filling.eq_filled.Statement.{statement}
 use Rattle.types_equal.proofs.filling.eq_filled.Tie as tie
 
 returns : tie.Need-returns
-returns c = c .before .is-kept .ensures (c .if1 .taken) _
+returns c =
+    let i : tie.After-is-kept = search in
+    i .is-kept .ensures (search) _
 
 eq-stack-requires : tie.Need-eq-stack-requires
 eq-stack-requires c κs =

@@ -30,10 +30,9 @@ enough c = search
 
 returns : tie.Need-returns
 returns c =
-    let s : tie.Start = search in
     let a : tie.After-letter-count = search in
     let b : tie.After-letter-count2 = search in
-    f-many (tab _ _) _ _ _ _ _ _ _ _ _ _ refl (a .letter-count .ensures .0) (b .letter-count2 .ensures .0) (c .if1 .taken)
+    f-many _ _ _ _ _ _ _ _ _ _ _ refl (a .letter-count .ensures .0) (b .letter-count2 .ensures .0) (search)
 
 eq-filled-requires : tie.Need-eq-filled-requires
 eq-filled-requires c κs =
@@ -47,11 +46,11 @@ eq-filled-requires c κs =
     let p4 = s .pre .4 in
     let la = a .letter-count .ensures .1 in
     let lb = b .letter-count2 .ensures .1 in
-    let fl = few-left (tab (s .args .rows .now) (s .args .parts .now)) (s .args .args .now) (s .pre .0) in
-    let fr = few-right (tab (s .args .rows .now) (s .args .parts .now)) (s .args .args .now) (s .pre .0) in
+    let fl = few-left _ _ (s .pre .0) in
+    let fr = few-right _ _ (s .pre .0) in
     let nl = n .if1 .left in
     let bm = big-most (length (s .args .args .now)) in
-    (tabled-low (tab (s .args .rows .now) (s .args .parts .now)) (s .args .args .now) (s .args .c .x) (s .args .c .y) (s .pre .0) (omega arith) (omega arith), p2, la, lb, a .letter-count .ensures .0, nl, spare-low (length (s .args .args .now)) (s .args .l) (s .args .r) _ (s .args .c .x) (s .args .c .y) (s .pre .5) (omega arith) (omega arith), closed-stack (tab (s .args .rows .now) (s .args .parts .now)) (s .args .l) (s .args .c .x) (s .args .c .p) (s .pre .6))
+    (tabled-low _ _ _ _ (s .pre .0) (omega arith) (omega arith), p2, la, lb, search, nl, spare-low (length (s .args .args .now)) _ _ _ _ _ (s .pre .5) (omega arith) (omega arith), closed-stack _ _ _ _ (s .pre .6))
 
 eq-parts-requires : tie.Need-eq-parts-requires
 eq-parts-requires c κs =
@@ -79,30 +78,21 @@ returns-2 c =
     let p : tie.After-eq-parts = search in
     let e : tie.After-eq-filled = search in
     let w = letters-of e in
-    let s = start-of w in
     let a = count-of w in
     let b = count2-of w in
-    let n = enough w in
-    both-same (i .if3 .taken) (e .eq-filled .ensures) (p .eq-parts .ensures) ∙ f-on (tab _ _) _ _ _ _ _ _ _ _ _ _ refl (a .letter-count .ensures .0) (b .letter-count2 .ensures .0) (n .if1 .left) (w .same-letters .ensures) (same-of e .if2 .taken)
+    both-same (i .if3 .taken) (e .eq-filled .ensures) (p .eq-parts .ensures) ∙ f-on _ _ _ _ _ _ _ _ _ _ _ refl (a .letter-count .ensures .0) (b .letter-count2 .ensures .0) (search) (search) (same-of e .if2 .taken)
 
 returns-3 : tie.Need-returns-3
 returns-3 c =
-    let i : tie.Else3 = search in
     let e : tie.After-eq-filled = search in
-    let w = letters-of e in
-    let s = start-of w in
-    let a = count-of w in
-    let b = count2-of w in
-    let n = enough w in
-    one-differs _ (i .if3 .left) (e .eq-filled .ensures) ∙ f-on (tab _ _) _ _ _ _ _ _ _ _ _ _ refl (a .letter-count .ensures .0) (b .letter-count2 .ensures .0) (n .if1 .left) (w .same-letters .ensures) (same-of e .if2 .taken)
+    one-differs _ (search) (e .eq-filled .ensures) ∙ f-on _ _ _ _ _ _ _ _ _ _ _ refl (search) (search) (search) (search) (same-of e .if2 .taken)
 
 returns-4 : tie.Need-returns-4
 returns-4 c =
-    let s : tie.Start = search in
+    let s2 : tie.After-same-letters = search in
     let a : tie.After-letter-count = search in
     let b : tie.After-letter-count2 = search in
-    let n : tie.Else1 = search in
-    f-off (tab _ _) _ _ _ _ _ _ _ _ _ _ refl (a .letter-count .ensures .0) (b .letter-count2 .ensures .0) (n .if1 .left) (c .before .same-letters .ensures) (c .if2 .left)
+    f-off _ _ _ _ _ _ _ _ _ _ _ refl (a .letter-count .ensures .0) (b .letter-count2 .ensures .0) (search) (s2 .same-letters .ensures) (search)
 
 pub fill-code-spec : {M : Type 1} → statement M
 fill-code-spec =

@@ -1,7 +1,7 @@
 use mathlib.Core.Path.{sym}
 use native.Mathlib.Omega.{arith}
 use lib.ListN.{length}
-use Rattle.types_rows.specs.Read.{tab, meanV, argsOf}
+use Rattle.types_rows.specs.Read.{tab}
 use Rattle.types_equal.proofs.Items.{spare-kept, length-first}
 use Rattle.types_equal.proofs.Plain.{link-few}
 use Rattle.types_equal.proofs.filling.Fill.{tabled-args, spare-args, fill-types, code-form, fill-left, fill-right, code-low, codes-of, closed-code}
@@ -29,16 +29,18 @@ start-of c = search
 
 read-value-requires : tie.Need-read-value-requires
 read-value-requires c κs =
+    let l : tie.After-link-of = search in
     let s : tie.Start = search in
-    let fw = (s .pre) .0 in
-    let a = link-few (tab ((s .args) .rows .now) ((s .args) .parts .now)) ((s .args) .rows .now) ((s .args) .n) ((c .before .link-of) .result) ((s .args) .c) ((c .before .link-of) .ensures) in
+    let fw = s .pre .0 in
+    let a = link-few (tab (s .args .rows .now) (s .args .parts .now)) (s .args .rows .now) (s .args .n) (l .link-of .result) (s .args .c) (l .link-of .ensures) in
     (omega arith, omega arith)
 
 read-value-requires-2 : tie.Need-read-value-requires-2
 read-value-requires-2 c κs =
+    let l : tie.After-link-of2 = search in
     let s : tie.Start = search in
-    let fw = (s .pre) .0 in
-    let b = link-few (tab ((s .args) .rows .now) ((s .args) .parts .now)) ((s .args) .rows .now) ((s .args) .n) ((c .before .link-of2) .result) ((s .args) .t) ((c .before .link-of2) .ensures) in
+    let fw = s .pre .0 in
+    let b = link-few (tab (s .args .rows .now) (s .args .parts .now)) (s .args .rows .now) (s .args .n) (l .link-of2 .result) (s .args .t) (l .link-of2 .ensures) in
     (omega arith, omega arith)
 
 returns : tie.Need-returns
@@ -47,7 +49,7 @@ returns c =
     let link2 : tie.After-link-of = search in
     let link3 : tie.After-link-of2 = search in
     let read2 : tie.After-read-value = search in
-    fill-types (tab _ _) _ _ _ _ _ _ ((s .pre) .1) ((link2 .link-of) .ensures) ((link3 .link-of2) .ensures) (fill-left (tab _ _) _ ((read2 .read-value) .ensures .0) (argsOf (tab _ _) _ _) (meanV (tab _ _) _) ((read2 .read-value) .ensures .1) ((c .match) .keys2))
+    fill-types _ _ _ _ _ _ _ (s .pre .1) (link2 .link-of .ensures) (link3 .link-of2 .ensures) (fill-left _ _ (read2 .read-value .ensures .0) _ _ (search) (c .match .keys2))
 
 returns-2 : tie.Need-returns-2
 returns-2 c =
@@ -57,7 +59,7 @@ returns-2 c =
     let read2 : tie.After-read-value = search in
     let read3 : tie.After-read-value2 = search in
     let v2 : tie.After-v = search in
-    fill-types (tab _ _) _ _ _ _ _ _ ((s .pre) .1) ((link2 .link-of) .ensures) ((link3 .link-of2) .ensures) (fill-right (tab _ _) _ ((read3 .read-value2) .ensures .0) (argsOf (tab _ _) _ _) _ ((v2 .v) .given .0 .0) ((v2 .v) .given .0 .1 .0) (code-form (tab _ _) _ ((read2 .read-value) .ensures .0) ((v2 .v) .given .1)) ((read3 .read-value2) .ensures .1) ((c .match2) .keys2))
+    fill-types _ _ _ _ _ _ _ (s .pre .1) (link2 .link-of .ensures) (link3 .link-of2 .ensures) (fill-right _ _ (read3 .read-value2 .ensures .0) _ _ (v2 .v .given .0 .0) (v2 .v .given .0 .1 .0) (code-form _ _ (read2 .read-value .ensures .0) (v2 .v .given .1)) (read3 .read-value2 .ensures .1) (c .match2 .keys2))
 
 slice-aggregate-fill-code : tie.Need-slice-aggregate-fill-code
 slice-aggregate-fill-code c =
@@ -73,9 +75,9 @@ fill-code-requires c κs =
     let m = link2-of y in
     let l = link-of y in
     let s = start-of y in
-    let f = code-low (l .link-of .result) (x .v .given .1) (p .read-value .ensures .1) in
-    let g = code-low (m .link-of2 .result) (y .w .given .1) (q .read-value2 .ensures .1) in
-    (tabled-args (tab (s .args .rows .now) (s .args .parts .now)) (s .args .n) (s .args .args .now) (l .link-of .result) (m .link-of2 .result) (s .args .c) (s .args .t) (s .pre .0) (s .pre .1) (l .link-of .ensures) (m .link-of2 .ensures), f .0, f .1, g .0, g .1, spare-kept (length (s .args .args .now)) (l .link-of .result) (m .link-of2 .result) _ _ (spare-args (tab (s .args .rows .now) (s .args .parts .now)) (s .args .n) (s .args .args .now) (l .link-of .result) (m .link-of2 .result) (s .args .c) (s .args .t) (s .pre .0) (l .link-of .ensures) (m .link-of2 .ensures)) (length-first 1543 (s .args .pending .now) (s .pre .3)), closed-code (tab (s .args .rows .now) (s .args .parts .now)) (s .args .args .now) (s .args .n) (s .args .c) (l .link-of .result) (x .v .given .0 .0) (x .v .given .0 .1 .0) (l .link-of .ensures) (code-form (tab (s .args .rows .now) (s .args .parts .now)) (l .link-of .result) (p .read-value .ensures .0) (x .v .given .1)) (s .pre .2))
+    let f = code-low _ (x .v .given .1) (p .read-value .ensures .1) in
+    let g = code-low _ (y .w .given .1) (q .read-value2 .ensures .1) in
+    (tabled-args _ _ _ _ _ _ _ (s .pre .0) (s .pre .1) (l .link-of .ensures) (m .link-of2 .ensures), f .0, f .1, g .0, g .1, spare-kept (length (s .args .args .now)) _ _ _ _ (spare-args (tab (s .args .rows .now) (s .args .parts .now)) _ (s .args .args .now) _ _ _ _ (s .pre .0) (l .link-of .ensures) (m .link-of2 .ensures)) (length-first 1543 (s .args .pending .now) (s .pre .3)), closed-code _ (s .args .args .now) _ _ _ (x .v .given .0 .0) (x .v .given .0 .1 .0) (l .link-of .ensures) (code-form _ _ (p .read-value .ensures .0) (x .v .given .1)) (s .pre .2))
 
 returns-3 : tie.Need-returns-3
 returns-3 c =
@@ -87,7 +89,7 @@ returns-3 c =
     let m = link2-of y in
     let l = link-of y in
     let s = start-of y in
-    fill-types (tab _ _) _ _ _ _ _ _ (s .pre .1) (l .link-of .ensures) (m .link-of2 .ensures) (codes-of (tab _ _) _ _ _ (x .v .given .0 .0) (x .v .given .0 .1 .0) (y .w .given .0 .0) (y .w .given .0 .1 .0) (code-form (tab _ _) _ (p .read-value .ensures .0) (x .v .given .1)) (code-form (tab _ _) _ (q .read-value2 .ensures .0) (y .w .given .1)) (f .fill-code .ensures))
+    fill-types _ _ _ _ _ _ _ (s .pre .1) (l .link-of .ensures) (m .link-of2 .ensures) (codes-of _ _ _ _ (x .v .given .0 .0) (x .v .given .0 .1 .0) (y .w .given .0 .0) (y .w .given .0 .1 .0) (code-form _ _ (p .read-value .ensures .0) (x .v .given .1)) (code-form _ _ (q .read-value2 .ensures .0) (y .w .given .1)) (f .fill-code .ensures))
 
 pub filled-spec : {M : Type 1} → statement M
 filled-spec =

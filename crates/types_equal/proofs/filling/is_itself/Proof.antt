@@ -9,10 +9,9 @@ returns c = none-true
 
 returns-2 : tie.Need-returns-2
 returns-2 c =
-    let s : tie.Start = search in
     let entr : tie.After-entry = search in
     let vari : tie.After-variable-kind = search in
-    itself-is _ _ _ _ ((entr .entry) .ensures .0) ((vari .variable-kind) .ensures) ((c .before .if1) .left) ((c .entry2) .ensures .0)
+    itself-is _ _ _ _ (entr .entry .ensures .0) (vari .variable-kind .ensures) (search) (c .entry2 .ensures .0)
 
 pub is-itself-spec : {M : Type 1} → statement M
 is-itself-spec = tie.close (tie.spec (λ c κs. search needs) (λ c κs. search) returns (λ c κs. search needs) returns-2)

@@ -3,10 +3,10 @@ use Rattle.types_equal.proofs.filling.variable_kind.Statement.{statemen
 use Rattle.types_equal.proofs.filling.variable_kind.Tie as tie
 
 returns : tie.Need-returns
-returns c = kind-value _ ((c .if1) .taken)
+returns c = kind-value _ (search)
 
 returns-2 : tie.Need-returns-2
-returns-2 c = kind-stack _ ((c .if1) .left)
+returns-2 c = kind-stack _ (search)
 
 pub variable-kind-spec : {M : Type 1} → statement M
 variable-kind-spec = tie.close (tie.spec returns returns-2)

@@ -5,9 +5,7 @@ use Rattle.types_equal.proofs.pending.entry.Statement.{statement}
 use Rattle.types_equal.proofs.pending.entry.Tie as tie
 
 returns : tie.Need-returns
-returns c =
-    let s : tie.Start = search in
-    c .half-of .ensures ∙ sym (side-at (s .args .right) (s .args .pending .now) (s .args .n))
+returns c = c .half-of .ensures ∙ sym (side-at _ _ _)
 
 pub entry-spec : {M : Type 1} → statement M
 entry-spec = tie.close (tie.spec (λ c. search needs) (λ c. search needs) (λ c κs. search needs) returns)

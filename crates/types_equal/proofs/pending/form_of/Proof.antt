@@ -6,8 +6,7 @@ use Rattle.types_equal.proofs.pending.form_of.Tie as tie
 
 returns-2 : tie.Need-returns-2
 returns-2 c =
-    let s : tie.Start = search in
-    λ ps. entry-given (tab _ ps) (argsOf (tab _ ps) _ _) _ _ _ _ ((c .given-form) .result) ((c .before .if1) .left) ((c .given-form) .ensures ps _ _ _ (given-low _ ((s .pre) .0)))
+    λ ps. entry-given (tab _ ps) (argsOf (tab _ ps) _ _) _ _ _ _ (search) (search) (c .given-form .ensures ps _ _ _ (given-low _ (search)))
 
 pub form-of-spec : {M : Type 1} → statement M
 form-of-spec = tie.close (tie.spec (λ c κs. search needs) (λ c. search) (λ c κs. search needs) returns-2)

@@ -4,14 +4,10 @@ use Rattle.types_equal.proofs.pending.half_of.Statement.{statement}
 use Rattle.types_equal.proofs.pending.half_of.Tie as tie
 
 returns : tie.Need-returns
-returns c =
-    let s : tie.Start = search in
-    half-right (s .args .right) (s .args .w) (c .if1 .taken)
+returns c = half-right _ _ (search)
 
 returns-2 : tie.Need-returns-2
-returns-2 c =
-    let s : tie.Start = search in
-    half-left (s .args .right) (s .args .w) (c .if1 .left)
+returns-2 c = half-left _ _ (search)
 
 pub half-of-spec : {M : Type 1} → statement M
 half-of-spec = tie.close (tie.spec (λ c. search needs) returns (λ c. search needs) returns-2)

@@ -55,34 +55,27 @@ form-in c ps k e =
     form-at (tab _ ps) (argsOf (tab _ ps) _ _) _ _ _ _ _ _ k (t .entry .ensures) (c .form-of .ensures ps) e
 
 loop-holds : tie.Need-loop-holds Inv-loop μ-loop
-loop-holds c =
-    (kept-first _ _ _, (λ ps. means-first (tab _ ps) (argsOf (tab _ ps) _ _) _ _ _ _), refl, refl)
+loop-holds c = (kept-first _ _ _, (λ ps. means-first (tab _ ps) (argsOf (tab _ ps) _ _) _ _ _ _), refl, refl)
 
 entry-requires : tie.Need-entry-requires Inv-loop μ-loop
 entry-requires c κs =
     let i : In-loop = search in
-    let s = start-of i in
-    let h = loop-of i in
     let p = spot-of i in
     p .within
 
 form-of-requires : tie.Need-form-of-requires Inv-loop μ-loop
 form-of-requires c κs =
     let i : In-loop = search in
-    let s = start-of i in
-    let h = loop-of i in
     let p = spot-of i in
     let t = c .entry .ensures in
     let q = p .most in
-    (omega arith, s .pre .0, s .pre .1)
+    (omega arith, search, search)
 
 loop-less : tie.Need-loop-less Inv-loop μ-loop
 loop-less c =
     let i : In-loop = search in
-    let s = start-of i in
-    let h = loop-of i in
     let p = spot-of i in
-    less-skip _ _ _ _ _ (h .loop .n - 1) (p .last) (p .kept)
+    less-skip _ _ _ _ _ _ (p .last) (p .kept)
 
 loop-again : tie.Need-loop-again Inv-loop μ-loop
 loop-again c =
@@ -91,15 +84,13 @@ loop-again c =
     let s = start-of i in
     let h = loop-of i in
     let p = spot-of i in
-    (kept-skip _ _ _ _ _ (h .loop .n - 1) (p .last) (p .kept), (λ ps. means-skip (tab _ ps) (argsOf (tab _ ps) _ _) _ _ (s .args .m) _ _ _ _ (h .loop .n - 1) (p .last) (h .loop .inv .1 ps) (form-in w ps Skip (c .enum-told .given .1))), h .loop .inv .2, h .loop .inv .3)
+    (kept-skip _ _ _ _ _ _ (p .last) (p .kept), (λ ps. means-skip (tab _ ps) (argsOf (tab _ ps) _ _) _ _ (s .args .m) _ _ _ _ _ (p .last) (h .loop .inv .1 ps) (form-in w ps Skip (search))), search, search)
 
 store-requires : tie.Need-store-requires Inv-loop μ-loop
 store-requires c κs =
     let i : In-loop = search in
     let w : After-form-of = search in
     let f : tie.After-f Inv-loop μ-loop = search in
-    let s = start-of i in
-    let h = loop-of i in
     let p = spot-of i in
     let o = form-in w [] (One (f .f .given .0 .0)) (f .f .given .1) in
     let q = p .lower (f .f .given .0 .0) (o .3) in
@@ -111,11 +102,9 @@ loop-less-2 c =
     let i : In-loop = search in
     let w : After-form-of = search in
     let f : tie.After-f Inv-loop μ-loop = search in
-    let s = start-of i in
-    let h = loop-of i in
     let p = spot-of i in
     let o = form-in w [] (One (f .f .given .0 .0)) (f .f .given .1) in
-    rw (t .store .ensures .0) (less-one _ _ _ _ _ (h .loop .n - 1) (p .last) (p .kept) (f .f .given .0 .0) (p .inside) (o .2) (o .3))
+    rw (t .store .ensures .0) (less-one _ _ _ _ _ _ (p .last) (p .kept) (f .f .given .0 .0) (p .inside) (o .2) (o .3))
 
 loop-again-2 : tie.Need-loop-again-2 Inv-loop μ-loop
 loop-again-2 c =
@@ -123,19 +112,16 @@ loop-again-2 c =
     let i : In-loop = search in
     let w : After-form-of = search in
     let f : tie.After-f Inv-loop μ-loop = search in
-    let s = start-of i in
     let h = loop-of i in
     let p = spot-of i in
     let o = form-in w [] (One (f .f .given .0 .0)) (f .f .given .1) in
-    (rw (t .store .ensures .0) (kept-one _ _ _ _ _ (h .loop .n - 1) (p .last) (p .kept) (f .f .given .0 .0) (p .inside) (o .2) (o .3)), (λ ps. rw (t .store .ensures .0) (means-one (tab _ ps) (argsOf (tab _ ps) _ _) _ _ _ _ _ _ _ (h .loop .n - 1) (p .last) (h .loop .inv .1 ps) (f .f .given .0 .0) (p .inside) (form-in w ps (One (f .f .given .0 .0)) (f .f .given .1)))), t .store .ensures .1 ∙ h .loop .inv .2, t .store .kept .0 ∙ h .loop .inv .3)
+    (rw (t .store .ensures .0) (kept-one _ _ _ _ _ _ (p .last) (p .kept) (f .f .given .0 .0) (p .inside) (o .2) (o .3)), (λ ps. rw (t .store .ensures .0) (means-one (tab _ ps) (argsOf (tab _ ps) _ _) _ _ _ _ _ _ _ _ (p .last) (h .loop .inv .1 ps) (f .f .given .0 .0) (p .inside) (form-in w ps (One (f .f .given .0 .0)) (f .f .given .1)))), t .store .ensures .1 ∙ h .loop .inv .2, t .store .kept .0 ∙ h .loop .inv .3)
 
 store-requires-2 : tie.Need-store-requires-2 Inv-loop μ-loop
 store-requires-2 c κs =
     let i : In-loop = search in
     let w : After-form-of = search in
     let f : tie.After-f2 Inv-loop μ-loop = search in
-    let s = start-of i in
-    let h = loop-of i in
     let p = spot-of i in
     let o = form-in w [] (Two (f .f2 .given .0 .0) (f .f2 .given .0 .1 .0)) (f .f2 .given .1) in
     let q = p .two (f .f2 .given .0 .1 .0) (o .3) .2 in
@@ -147,8 +133,6 @@ store-requires-3 c κs =
     let i : In-loop = search in
     let w : After-form-of = search in
     let f : tie.After-f2 Inv-loop μ-loop = search in
-    let s = start-of i in
-    let h = loop-of i in
     let p = spot-of i in
     let o = form-in w [] (Two (f .f2 .given .0 .0) (f .f2 .given .0 .1 .0)) (f .f2 .given .1) in
     let q = p .two (f .f2 .given .0 .0) (o .2) in
@@ -162,8 +146,6 @@ add-n c =
     let i : In-loop = search in
     let w : After-form-of = search in
     let f : tie.After-f2 Inv-loop μ-loop = search in
-    let s = start-of i in
-    let h = loop-of i in
     let p = spot-of i in
     let o = form-in w [] (Two (f .f2 .given .0 .0) (f .f2 .given .0 .1 .0)) (f .f2 .given .1) in
     let q = p .two (f .f2 .given .0 .0) (o .2) .0 in
@@ -177,11 +159,9 @@ loop-less-3 c =
     let i : In-loop = search in
     let w : After-form-of = search in
     let f : tie.After-f2 Inv-loop μ-loop = search in
-    let s = start-of i in
-    let h = loop-of i in
     let p = spot-of i in
     let o = form-in w [] (Two (f .f2 .given .0 .0) (f .f2 .given .0 .1 .0)) (f .f2 .given .1) in
-    rw (u .store3 .ensures .0, t .store2 .ensures .0) (less-two _ _ _ _ _ (h .loop .n - 1) (p .last) (p .kept) (f .f2 .given .0 .0) (f .f2 .given .0 .1 .0) (p .two (f .f2 .given .0 .0) (o .2) .1) (o .2) (o .3))
+    rw (u .store3 .ensures .0, t .store2 .ensures .0) (less-two _ _ _ _ _ _ (p .last) (p .kept) (f .f2 .given .0 .0) (f .f2 .given .0 .1 .0) (p .two (f .f2 .given .0 .0) (o .2) .1) (o .2) (o .3))
 
 loop-again-3 : tie.Need-loop-again-3 Inv-loop μ-loop
 loop-again-3 c =
@@ -190,19 +170,16 @@ loop-again-3 c =
     let i : In-loop = search in
     let w : After-form-of = search in
     let f : tie.After-f2 Inv-loop μ-loop = search in
-    let s = start-of i in
     let h = loop-of i in
     let p = spot-of i in
     let o = form-in w [] (Two (f .f2 .given .0 .0) (f .f2 .given .0 .1 .0)) (f .f2 .given .1) in
-    (rw (u .store3 .ensures .0, t .store2 .ensures .0) (kept-two _ _ _ _ _ (h .loop .n - 1) (p .last) (p .kept) (f .f2 .given .0 .0) (f .f2 .given .0 .1 .0) (p .two (f .f2 .given .0 .0) (o .2) .1) (o .2) (o .3)), (λ ps. rw (u .store3 .ensures .0, t .store2 .ensures .0) (means-two (tab _ ps) (argsOf (tab _ ps) _ _) _ _ _ _ _ _ _ (h .loop .n - 1) (p .last) (h .loop .inv .1 ps) (f .f2 .given .0 .0) (f .f2 .given .0 .1 .0) (p .two (f .f2 .given .0 .0) (o .2) .1) (form-in w ps (Two (f .f2 .given .0 .0) (f .f2 .given .0 .1 .0)) (f .f2 .given .1)))), u .store3 .ensures .1 ∙ t .store2 .ensures .1 ∙ h .loop .inv .2, u .store3 .kept .0 ∙ t .store2 .kept .0 ∙ h .loop .inv .3)
+    (rw (u .store3 .ensures .0, t .store2 .ensures .0) (kept-two _ _ _ _ _ _ (p .last) (p .kept) (f .f2 .given .0 .0) (f .f2 .given .0 .1 .0) (p .two (f .f2 .given .0 .0) (o .2) .1) (o .2) (o .3)), (λ ps. rw (u .store3 .ensures .0, t .store2 .ensures .0) (means-two (tab _ ps) (argsOf (tab _ ps) _ _) _ _ _ _ _ _ _ _ (p .last) (h .loop .inv .1 ps) (f .f2 .given .0 .0) (f .f2 .given .0 .1 .0) (p .two (f .f2 .given .0 .0) (o .2) .1) (form-in w ps (Two (f .f2 .given .0 .0) (f .f2 .given .0 .1 .0)) (f .f2 .given .1)))), u .store3 .ensures .1 ∙ t .store2 .ensures .1 ∙ h .loop .inv .2, u .store3 .kept .0 ∙ t .store2 .kept .0 ∙ h .loop .inv .3)
 
 store-requires-4 : tie.Need-store-requires-4 Inv-loop μ-loop
 store-requires-4 c κs =
     let i : In-loop = search in
     let w : After-form-of = search in
     let f : tie.After-f3 Inv-loop μ-loop = search in
-    let s = start-of i in
-    let h = loop-of i in
     let p = spot-of i in
     let o = form-in w [] (OwnTop (f .f3 .given .0 .0) (f .f3 .given .0 .1 .0)) (f .f3 .given .1) in
     let q = p .lower (f .f3 .given .0 .1 .0) (λ l j z. low-down _ l j (f .f3 .given .0 .1 .0) (o .3 .1 l j z)) in
@@ -221,19 +198,16 @@ returns c =
     let i : In-loop = search in
     let w : After-form-of = search in
     let f : tie.After-f3 Inv-loop μ-loop = search in
-    let s = start-of i in
     let h = loop-of i in
     let p = spot-of i in
     let o = form-in w [] (OwnTop (f .f3 .given .0 .0) (f .f3 .given .0 .1 .0)) (f .f3 .given .1) in
-    ((λ ps. rw (t .store4 .ensures .0) (next-own (tab _ ps) (argsOf (tab _ ps) _ _) _ _ _ _ _ _ _ (h .loop .n - 1) (p .last) (h .loop .inv .1 ps) (p .kept) (f .f3 .given .0 .0) (f .f3 .given .0 .1 .0) (p .inside) (form-in w ps (OwnTop (f .f3 .given .0 .0) (f .f3 .given .0 .1 .0)) (f .f3 .given .1)))), t .store4 .ensures .1 ∙ h .loop .inv .2)
+    ((λ ps. rw (t .store4 .ensures .0) (next-own (tab _ ps) (argsOf (tab _ ps) _ _) _ _ _ _ _ _ _ _ (p .last) (h .loop .inv .1 ps) (p .kept) (f .f3 .given .0 .0) (f .f3 .given .0 .1 .0) (p .inside) (form-in w ps (OwnTop (f .f3 .given .0 .0) (f .f3 .given .0 .1 .0)) (f .f3 .given .1)))), t .store4 .ensures .1 ∙ h .loop .inv .2)
 
 store-requires-5 : tie.Need-store-requires-5 Inv-loop μ-loop
 store-requires-5 c κs =
     let i : In-loop = search in
     let w : After-form-of = search in
     let f : tie.After-f4 Inv-loop μ-loop = search in
-    let s = start-of i in
-    let h = loop-of i in
     let p = spot-of i in
     let o = form-in w [] (GivenTop (f .f4 .given .0 .0) (f .f4 .given .0 .1 .0)) (f .f4 .given .1) in
     let q = p .lower (f .f4 .given .0 .1 .0) (λ l j z. low-down _ l j (f .f4 .given .0 .1 .0) (o .3 .1 l j z)) in
@@ -252,11 +226,10 @@ returns-2 c =
     let i : In-loop = search in
     let w : After-form-of = search in
     let f : tie.After-f4 Inv-loop μ-loop = search in
-    let s = start-of i in
     let h = loop-of i in
     let p = spot-of i in
     let o = form-in w [] (GivenTop (f .f4 .given .0 .0) (f .f4 .given .0 .1 .0)) (f .f4 .given .1) in
-    ((λ ps. rw (t .store5 .ensures .0) (next-given (tab _ ps) (argsOf (tab _ ps) _ _) _ _ _ _ _ _ _ (h .loop .n - 1) (p .last) (h .loop .inv .1 ps) (p .kept) (f .f4 .given .0 .0) (f .f4 .given .0 .1 .0) (p .inside) (form-in w ps (GivenTop (f .f4 .given .0 .0) (f .f4 .given .0 .1 .0)) (f .f4 .given .1)))), t .store5 .ensures .1 ∙ h .loop .inv .2)
+    ((λ ps. rw (t .store5 .ensures .0) (next-given (tab _ ps) (argsOf (tab _ ps) _ _) _ _ _ _ _ _ _ _ (p .last) (h .loop .inv .1 ps) (p .kept) (f .f4 .given .0 .0) (f .f4 .given .0 .1 .0) (p .inside) (form-in w ps (GivenTop (f .f4 .given .0 .0) (f .f4 .given .0 .1 .0)) (f .f4 .given .1)))), t .store5 .ensures .1 ∙ h .loop .inv .2)
 
 same-length-3 : tie.Need-same-length-3 Inv-loop μ-loop
 same-length-3 c =
@@ -269,10 +242,9 @@ returns-3 c =
     let i : In-loop = search in
     let w : After-form-of = search in
     let f : tie.After-f5 Inv-loop μ-loop = search in
-    let s = start-of i in
     let h = loop-of i in
     let p = spot-of i in
-    ((λ ps. next-var (tab _ ps) (argsOf (tab _ ps) _ _) _ _ _ _ _ _ _ (h .loop .n - 1) (p .last) (h .loop .inv .1 ps) (p .kept) (f .f5 .given .0 .0) (form-in w ps (VarTop (f .f5 .given .0 .0)) (f .f5 .given .1))), h .loop .inv .2)
+    ((λ ps. next-var (tab _ ps) (argsOf (tab _ ps) _ _) _ _ _ _ _ _ _ _ (p .last) (h .loop .inv .1 ps) (p .kept) (f .f5 .given .0 .0) (form-in w ps (VarTop (f .f5 .given .0 .0)) (f .f5 .given .1))), h .loop .inv .2)
 
 same-length-4 : tie.Need-same-length-4 Inv-loop μ-loop
 same-length-4 c =
@@ -284,10 +256,9 @@ returns-4 : tie.Need-returns-4 Inv-loop μ-loop
 returns-4 c =
     let i : In-loop = search in
     let w : After-form-of = search in
-    let s = start-of i in
     let h = loop-of i in
     let p = spot-of i in
-    ((λ ps. next-wrong (tab _ ps) (argsOf (tab _ ps) _ _) _ _ _ _ _ _ _ (h .loop .n - 1) (p .last) (h .loop .inv .1 ps) (p .kept) (form-in w ps Misfit (c .enum-told2 .given .1))), h .loop .inv .2)
+    ((λ ps. next-wrong (tab _ ps) (argsOf (tab _ ps) _ _) _ _ _ _ _ _ _ _ (p .last) (h .loop .inv .1 ps) (p .kept) (form-in w ps Misfit (search))), search)
 
 same-length-5 : tie.Need-same-length-5 Inv-loop μ-loop
 same-length-5 c =
@@ -298,7 +269,7 @@ returns-5 : tie.Need-returns-5 Inv-loop μ-loop
 returns-5 c =
     let s : Start = search in
     let h : At-loop = search in
-    ((λ ps. next-end (tab _ ps) (argsOf (tab _ ps) _ _) _ _ (s .args .m) _ _ _ _ (none-left _ (c .loop-test .left)) (h .loop .inv .1 ps)), h .loop .inv .2)
+    ((λ ps. next-end (tab _ ps) (argsOf (tab _ ps) _ _) _ _ (s .args .m) _ _ _ _ (none-left _ (search)) (h .loop .inv .1 ps)), search)
 
 pub next-item-spec : {M : Type 1} → statement M
 next-item-spec =

@@ -5,8 +5,8 @@ use Rattle.types_equal.proofs.stack_pairs.given_with.Tie as tie
 
 returns-2 : tie.Need-returns-2
 returns-2 c =
-    let s : tie.Start = search in
-    ap (givenWith _ _) (sym ((c .before .b) .given .1))
+    let b2 : tie.After-b = search in
+    ap (givenWith _ _) (sym (b2 .b .given .1))
 
 pub given-with-spec : {M : Type 1} → statement M
 given-with-spec =

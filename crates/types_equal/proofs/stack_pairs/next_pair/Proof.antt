@@ -9,9 +9,7 @@ use Rattle.types_equal.proofs.stack_pairs.next_pair.Statement.{statemen
 use Rattle.types_equal.proofs.stack_pairs.next_pair.Tie as tie
 
 next-item-requires : tie.Need-next-item-requires
-next-item-requires c κs =
-    let s : tie.Start = search in
-    (s .pre .0, s .pre .2, s .pre .3, s .pre .4, s .pre .5)
+next-item-requires c κs = (search, search, search, search, search)
 
 next-item-requires-2 : tie.Need-next-item-requires-2
 next-item-requires-2 c κs =
@@ -20,7 +18,7 @@ next-item-requires-2 c κs =
     let k = a .next-item .kept .1 .1 .1 .1 .1 .0 in
     let p3 = s .pre .3 in
     let p4 = s .pre .4 in
-    (s .pre .1, (λ j h. absurd (omega arith)), omega arith, omega arith, rw (k, a .next-item .ensures .1) (s .pre .6))
+    (search, (λ j h. absurd (omega arith)), omega arith, omega arith, rw (k, a .next-item .ensures .1) (search))
 
 returns : tie.Need-returns
 returns c =

@@ -13,12 +13,7 @@ returns-3 : tie.Need-returns-3
 returns-3 c = none-true
 
 returns-4 : tie.Need-returns-4
-returns-4 c =
-    let s : tie.Start = search in
-    let i : tie.Else1 = search in
-    let j : tie.Else2 = search in
-    let k : tie.Else3 = search in
-    at-same _ _ _ _ _ _ _ (i .if1 .left) (j .if2 .left) (k .if3 .left)
+returns-4 c = at-same _ _ _ _ _ _ _ (search) (search) (search)
 
 pub same-place-spec : {M : Type 1} → statement M
 same-place-spec = tie.close (tie.spec returns returns-2 returns-3 returns-4)

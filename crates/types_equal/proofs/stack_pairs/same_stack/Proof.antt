@@ -6,18 +6,16 @@ use Rattle.types_equal.proofs.stack_pairs.same_stack.Statement.{stateme
 use Rattle.types_equal.proofs.stack_pairs.same_stack.Tie as tie
 
 returns : tie.Need-returns
-returns c =
-    let s2 : tie.Start = search in
-    λ t ps. s-place (tab _ ps) _ _ _ _ _ _ _ _ (c .same-place .ensures) t
+returns c = λ t ps. s-place (tab _ ps) _ _ _ _ _ _ _ _ (search) t
 
 returns-2 : tie.Need-returns-2
 returns-2 c =
-    let s2 : tie.Start = search in
+    let y : tie.Then1 = search in
     let read2 : tie.After-read-stack = search in
     let s3 : tie.After-s = search in
     let at2 : tie.After-at = search in
     let isst : tie.After-is-stack = search in
-    λ t ps. s-given (tab _ ps) _ _ _ _ _ _ _ _ ((s3 .s) .given .0 .0) _ ((read2 .read-stack) .ensures .0) ((read2 .read-stack) .ensures .1) ((s3 .s) .given .1) ((at2 .at) .ensures .0) ((isst .is-stack) .ensures) ((c .before .if1) .taken) (c .same-place2 .ensures) t
+    λ t ps. s-given (tab _ ps) _ _ _ _ _ _ _ _ (s3 .s .given .0 .0) _ (read2 .read-stack .ensures .0) (read2 .read-stack .ensures .1) (s3 .s .given .1) (at2 .at .ensures .0) (isst .is-stack .ensures) (y .if1 .taken) (c .same-place2 .ensures) t
 
 returns-3 : tie.Need-returns-3
 returns-3 c = none-true

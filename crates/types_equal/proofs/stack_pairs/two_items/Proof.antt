@@ -8,19 +8,19 @@ returns-2 : tie.Need-returns-2
 returns-2 c =
     let s : tie.Start = search in
     let a2 : tie.After-a = search in
-    (c .own-with) .ensures ∙ ap (λ (z : Next). duoOf z ((s .args) .b)) (sym ((a2 .a) .given .1))
+    c .own-with .ensures ∙ ap (λ (z : Next). duoOf z (s .args .b)) (sym (a2 .a .given .1))
 
 returns-3 : tie.Need-returns-3
 returns-3 c =
     let s : tie.Start = search in
     let a : tie.After-a2 = search in
-    (c .given-with) .ensures ∙ ap (λ (z : Next). duoOf z ((s .args) .b)) (sym ((a .a2) .given .1))
+    c .given-with .ensures ∙ ap (λ (z : Next). duoOf z (s .args .b)) (sym (a .a2 .given .1))
 
 returns-4 : tie.Need-returns-4
 returns-4 c =
     let s : tie.Start = search in
     let a : tie.After-a3 = search in
-    (c .var-with) .ensures ∙ ap (λ (z : Next). duoOf z ((s .args) .b)) (sym ((a .a3) .given .1))
+    c .var-with .ensures ∙ ap (λ (z : Next). duoOf z (s .args .b)) (sym (a .a3 .given .1))
 
 pub two-items-spec : {M : Type 1} → statement M
 two-items-spec =

@@ -5,9 +5,8 @@ use Rattle.types_equal.proofs.stack_pairs.var_with.Tie as tie
 
 returns-4 : tie.Need-returns-4
 returns-4 c =
-    let s : tie.Start = search in
     let b2 : tie.After-b = search in
-    (c .if-onward) .ensures ∙ ap (varWith _ _) (sym ((b2 .b) .given .1))
+    c .if-onward .ensures ∙ ap (varWith _ _) (sym (b2 .b .given .1))
 
 pub var-with-spec : {M : Type 1} → statement M
 var-with-spec =

@@ -30,33 +30,23 @@ abbrev same-letters-claims : ℕ → same-letters-lts.Claims
 same-letters-claims t = (at-reads.Asked, at-reads.Learnt, same-letter-reads.Asked, same-letter-reads.Learnt, same-letters-below t, same-letters.Post)
 
 same-letters-returns : (t : ℕ) → same-letters-lts.Need-returns (same-letters-claims t) (same-letters-at t) same-letters.Post
-same-letters-returns t c =
-    let s : same-letters-lts.Start (same-letters-claims t) (same-letters-at t) same-letters.Post = search in
-    letters-end _ _ _ _ _ ((c .if1) .taken)
+same-letters-returns t c = letters-end _ _ _ _ _ (search)
 
 same-letters-returns-2 : (t : ℕ) → same-letters-lts.Need-returns-2 (same-letters-claims t) (same-letters-at t) same-letters.Post
-same-letters-returns-2 t c =
-    let s : same-letters-lts.Start (same-letters-claims t) (same-letters-at t) same-letters.Post = search in
-    letters-short _ _ _ _ _ ((c .before .if1) .left) ((c .if2) .taken)
+same-letters-returns-2 t c = letters-short _ _ _ _ _ (search) (search)
 
 same-letters-returns-3 : (t : ℕ) → same-letters-lts.Need-returns-3 (same-letters-claims t) (same-letters-at t) same-letters.Post
 same-letters-returns-3 t c =
-    let s : same-letters-lts.Start (same-letters-claims t) (same-letters-at t) same-letters.Post = search in
-    let if : same-letters-lts.Else1 (same-letters-claims t) (same-letters-at t) same-letters.Post = search in
-    let if4 : same-letters-lts.Else2 (same-letters-claims t) (same-letters-at t) same-letters.Post = search in
+    let y : same-letters-lts.Then3 (same-letters-claims t) (same-letters-at t) same-letters.Post = search in
     let at3 : same-letters-lts.After-at (same-letters-claims t) (same-letters-at t) same-letters.Post = search in
     let at4 : same-letters-lts.After-at2 (same-letters-claims t) (same-letters-at t) same-letters.Post = search in
-    let same2 : same-letters-lts.After-same-letter (same-letters-claims t) (same-letters-at t) same-letters.Post = search in
-    letters-on _ _ _ _ _ _ _ ((if .if1) .left) ((if4 .if2) .left) ((at3 .at) .ensures .0) ((at4 .at2) .ensures .0) ((c .before .if3) .taken) ((same2 .same-letter) .ensures) ((c .same-letters) .ensures)
+    letters-on _ _ _ _ _ _ _ (search) (search) (at3 .at .ensures .0) (at4 .at2 .ensures .0) (y .if3 .taken) (search) (search)
 
 same-letters-returns-4 : (t : ℕ) → same-letters-lts.Need-returns-4 (same-letters-claims t) (same-letters-at t) same-letters.Post
 same-letters-returns-4 t c =
-    let s : same-letters-lts.Start (same-letters-claims t) (same-letters-at t) same-letters.Post = search in
-    let if : same-letters-lts.Else1 (same-letters-claims t) (same-letters-at t) same-letters.Post = search in
-    let if4 : same-letters-lts.Else2 (same-letters-claims t) (same-letters-at t) same-letters.Post = search in
     let at3 : same-letters-lts.After-at (same-letters-claims t) (same-letters-at t) same-letters.Post = search in
     let at4 : same-letters-lts.After-at2 (same-letters-claims t) (same-letters-at t) same-letters.Post = search in
-    letters-off _ _ _ _ _ _ _ ((if .if1) .left) ((if4 .if2) .left) ((at3 .at) .ensures .0) ((at4 .at2) .ensures .0) ((c .if3) .left) ((c .before .same-letter) .ensures)
+    letters-off _ _ _ _ _ _ _ (search) (search) (at3 .at .ensures .0) (at4 .at2 .ensures .0) (c .if3 .left) (search)
 
 pub +same-letters-spec : {M : Type 1} → statement M
 +same-letters-spec = close μ-same-letters λ t. same-letters-lts.spec (same-letters-claims t)

@@ -5,8 +5,8 @@ use Rattle.types_equal.proofs.value_pairs.row_with.Tie as tie
 
 returns-2 : tie.Need-returns-2
 returns-2 c =
-    let s : tie.Start = search in
-    ap (rowWith _) (sym ((c .before .y) .given .1))
+    let y2 : tie.After-y = search in
+    ap (rowWith _) (sym (y2 .y .given .1))
 
 pub row-with-spec : {M : Type 1} → statement M
 row-with-spec = tie.close (tie.spec (λ c. search) (λ c. search) (λ c. search) returns-2)

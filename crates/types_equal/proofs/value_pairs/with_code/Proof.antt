@@ -5,8 +5,8 @@ use Rattle.types_equal.proofs.value_pairs.with_code.Tie as tie
 
 returns-7 : tie.Need-returns-7
 returns-7 c =
-    let s : tie.Start = search in
-    ap (pairCode _ _) (sym ((c .before .w) .given .1))
+    let w2 : tie.After-w = search in
+    ap (pairCode _ _) (sym (w2 .w .given .1))
 
 pub with-code-spec : {M : Type 1} → statement M
 with-code-spec =

@@ -5,8 +5,8 @@ use Rattle.types_equal.proofs.value_pairs.with_pointer.Tie as tie
 
 returns-6 : tie.Need-returns-6
 returns-6 c =
-    let s : tie.Start = search in
-    ap (pairPointer _) (sym ((c .before .w) .given .1))
+    let w2 : tie.After-w = search in
+    ap (pairPointer _) (sym (w2 .w .given .1))
 
 pub with-pointer-spec : {M : Type 1} → statement M
 with-pointer-spec =

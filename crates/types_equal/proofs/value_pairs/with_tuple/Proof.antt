@@ -5,9 +5,8 @@ use Rattle.types_equal.proofs.value_pairs.with_tuple.Tie as tie
 
 returns-5 : tie.Need-returns-5
 returns-5 c =
-    let s : tie.Start = search in
     let w2 : tie.After-w = search in
-    (c .if-long) .ensures ∙ ap (pairTuple _ _) (sym ((w2 .w) .given .1))
+    c .if-long .ensures ∙ ap (pairTuple _ _) (sym (w2 .w .given .1))
 
 pub with-tuple-spec : {M : Type 1} → statement M
 with-tuple-spec =

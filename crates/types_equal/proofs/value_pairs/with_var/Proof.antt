@@ -5,9 +5,8 @@ use Rattle.types_equal.proofs.value_pairs.with_var.Tie as tie
 
 returns-3 : tie.Need-returns-3
 returns-3 c =
-    let s : tie.Start = search in
     let w2 : tie.After-w = search in
-    (c .if-same) .ensures ∙ ap (pairValVar _) (sym ((w2 .w) .given .1))
+    c .if-same .ensures ∙ ap (pairValVar _) (sym (w2 .w .given .1))
 
 pub with-var-spec : {M : Type 1} → statement M
 with-var-spec =

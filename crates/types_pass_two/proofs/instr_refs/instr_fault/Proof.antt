@@ -1,64 +1,42 @@
 -- `types_pass_two::instr_refs::instr_fault` meets its contract. Without a row t and with one.
 use Prim.Native.Nat.{_≤_}
 use native.Mathlib.Omega.{arith}
-use Rattle.types_pass_two.specs.instr_refs.Instrs.{operandTable}
 use Rattle.types_pass_two.proofs.instr_refs.Operands.{place-small, instr-bare, instr-given}
 use borrow.Author.Needs.{needs}
 use Rattle.types_pass_two.proofs.instr_refs.instr_fault.Statement.{statement}
 use Rattle.types_pass_two.proofs.instr_refs.instr_fault.Tie as tie
 
-code-at-requires : tie.Need-code-at-requires
-code-at-requires c κs = search needs
-
-cell8-requires : tie.Need-cell8-requires
-cell8-requires c κs = search needs
-
-operand-count-requires : tie.Need-operand-count-requires
-operand-count-requires c κs = search needs
-
-cell8-requires-2 : tie.Need-cell8-requires-2
-cell8-requires-2 c κs = search needs
-
-operands-fault-requires : tie.Need-operands-fault-requires
-operands-fault-requires c κs = search needs
-
-given-place-requires : tie.Need-given-place-requires
-given-place-requires c κs = search needs
-
 returns : tie.Need-returns
 returns c =
-    let a = (c .before .before .before .before .before .before .before .before .before .before .before .before .args) in
-    λ ps. instr-bare (a .rows .now) ps (a .n) (a .nb) (a .instrs .now) (operandTable (a .operands .now) (a .numbers .now) (a .args .now)) (a .j) ((c .before .before .before .before .before .before .code-at) .result) ((c .before .before .before .before .before .cell8) .result) ((c .before .before .before .cell82) .result) ((c .before .before .before .before .operand-count) .result) ((c .before .given-place) .result) ((c .before .before .operands-fault) .result) ((c .before .before .before .before .before .before .code-at) .ensures) ((c .before .before .before .before .before .cell8) .ensures .0) ((c .before .before .before .cell82) .ensures .0) ((c .before .before .before .before .operand-count) .ensures .0) ((c .before .given-place) .ensures) ((c .if1) .taken) ((c .before .before .operands-fault) .ensures)
+    let g : tie.After-given-place = search in
+    let o2 : tie.After-operands-fault = search in
+    let c4 : tie.After-cell82 = search in
+    let o : tie.After-operand-count = search in
+    let c3 : tie.After-cell8 = search in
+    let c2 : tie.After-code-at = search in
+    λ ps. instr-bare _ ps _ _ _ _ _ _ _ _ _ (g .given-place .result) _ (c2 .code-at .ensures) (c3 .cell8 .ensures .0) (c4 .cell82 .ensures .0) (o .operand-count .ensures .0) (g .given-place .ensures) (c .if1 .taken) (o2 .operands-fault .ensures)
 
 cell8-requires-3 : tie.Need-cell8-requires-3
 cell8-requires-3 c κs =
-    let e : (c .before .before .before .before .before .before .code-at) .result ≤ 22 = omega (arith, (c .before .before .before .before .before .before .code-at) .ensures) in
-    let s = place-small ((c .before .before .before .before .before .before .code-at) .result) e in
-    omega (arith, (c .before .given-place) .ensures, s)
-
-value-ref-requires : tie.Need-value-ref-requires
-value-ref-requires c κs = search needs
-
-lower-requires : tie.Need-lower-requires
-lower-requires c κs = search needs
+    let c2 : tie.After-code-at = search in
+    let e : c2 .code-at .result ≤ 22 = omega arith in
+    let s = place-small _ e in
+    omega (arith, s)
 
 returns-2 : tie.Need-returns-2
 returns-2 c =
-    let a = (c .before .before .before .before .before .before .before .before .before .before .before .before .before .before .before .args) in
-    λ ps. instr-given (a .rows .now) ps (a .n) (a .nb) (a .instrs .now) (operandTable (a .operands .now) (a .numbers .now) (a .args .now)) (a .j) ((c .before .before .before .before .before .before .before .before .before .code-at) .result) ((c .before .before .before .before .before .before .before .before .cell8) .result) ((c .before .before .before .before .before .before .cell82) .result) ((c .before .before .before .before .before .before .before .operand-count) .result) ((c .before .before .before .before .given-place) .result) ((c .before .before .before .before .before .operands-fault) .result) ((c .before .before .cell83) .result) ((c .before .value-ref) .result) ((c .lower) .result) ((c .before .before .before .before .before .before .before .before .before .code-at) .ensures) ((c .before .before .before .before .before .before .before .before .cell8) .ensures .0) ((c .before .before .before .before .before .before .cell82) .ensures .0) ((c .before .before .before .before .before .before .before .operand-count) .ensures .0) ((c .before .before .before .before .given-place) .ensures) ((c .before .before .before .if1) .left) ((c .before .before .before .before .before .operands-fault) .ensures) ((c .before .before .cell83) .ensures .0) ((c .before .value-ref) .ensures) ((c .lower) .ensures)
+    let v : tie.After-value-ref = search in
+    let c5 : tie.After-cell83 = search in
+    let n2 : tie.Else1 = search in
+    let g : tie.After-given-place = search in
+    let o2 : tie.After-operands-fault = search in
+    let c4 : tie.After-cell82 = search in
+    let o : tie.After-operand-count = search in
+    let c3 : tie.After-cell8 = search in
+    let c2 : tie.After-code-at = search in
+    λ ps. instr-given _ ps _ _ _ _ _ _ _ _ _ (g .given-place .result) _ _ _ _ (c2 .code-at .ensures) (c3 .cell8 .ensures .0) (c4 .cell82 .ensures .0) (o .operand-count .ensures .0) (g .given-place .ensures) (n2 .if1 .left) (o2 .operands-fault .ensures) (c5 .cell83 .ensures .0) (v .value-ref .ensures) (c .lower .ensures)
 
 pub instr-fault-spec : {M : Type 1} → statement M
 instr-fault-spec =
-    tie.close
-    (tie.spec
-    code-at-requires
-    cell8-requires
-    operand-count-requires
-    cell8-requires-2
-    operands-fault-requires
-    given-place-requires
-    returns
-    cell8-requires-3
-    value-ref-requires
-    lower-requires
-    returns-2)
+    tie.close (tie.spec (λ c κs. search) (λ c κs. search needs) (λ c κs. search needs) (λ c κs. search needs) (λ c κs. search)
+    (λ c κs. search needs) returns cell8-requires-3 (λ c κs. search) (λ c κs. search) returns-2)

@@ -1,5 +1,4 @@
 -- `types_pass_two::instr_refs::label_fault` meets its contract. By the kind of the base.
-use mathlib.Core.Path.{_∙_, ap}
 use lib.ListN.{getD}
 use Rattle.types_pass_two.proofs.instr_refs.Operands.{label-none, label-at}
 use borrow.Author.Needs.{needs}

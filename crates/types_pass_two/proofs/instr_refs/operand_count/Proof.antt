@@ -5,20 +5,15 @@ use borrow.Author.Needs.{needs}
 use Rattle.types_pass_two.proofs.instr_refs.operand_count.Statement.{statement}
 use Rattle.types_pass_two.proofs.instr_refs.operand_count.Tie as tie
 
-mul-h : tie.Need-mul-h
-mul-h c = search needs
-
-index-1-h : tie.Need-index-1-h
-index-1-h c = search needs
-
-index-2-h : tie.Need-index-2-h
-index-2-h c = search needs
-
 returns : tie.Need-returns
-returns c = (count-all ((c .before .before .args) .k) ((c .before .before .args) .m) _ refl ((c .if1) .taken), (c .before .before .pre) .1)
+returns c =
+    let s : tie.Start = search in
+    (count-all (s .args .k) _ _ refl (c .if1 .taken), search)
 
 returns-2 : tie.Need-returns-2
-returns-2 c = count-own ((c .before .before .args) .k) ((c .before .before .args) .m) _ ((c .before .before .pre) .0) refl ((c .if1) .left)
+returns-2 c =
+    let s : tie.Start = search in
+    count-own _ _ _ (s .pre .0) refl (search)
 
 pub operand-count-spec : {M : Type 1} → statement M
-operand-count-spec = tie.close (tie.spec mul-h index-1-h index-2-h returns returns-2)
+operand-count-spec = tie.close (tie.spec (λ c. search needs) (λ c. search needs) (λ c. search needs) returns returns-2)

@@ -7,12 +7,9 @@ use Rattle.types_pass_two.proofs.instr_refs.operand_fault.Tie as tie
 
 returns : tie.Need-returns
 returns c =
-    let s : tie.Start = search in
     let m : tie.After-operand-entry = search in
     let k : tie.After-operand-entry2 = search in
-    let f : tie.After-label-fault = search in
-    let a = s .args in
-    operand-plain (a .rows .now) (a .n) (a .nb) (a .operands .now) (a .numbers .now) (a .args .now) (a .v) (m .operand-entry .result) (k .operand-entry2 .result) _ (f .label-fault .result) (m .operand-entry .ensures .0) (k .operand-entry2 .ensures .0) refl (search) (f .label-fault .ensures)
+    operand-plain _ _ _ _ _ _ _ _ _ _ _ (m .operand-entry .ensures .0) (k .operand-entry2 .ensures .0) refl (search) (search)
 
 abbrev start-of : tie.After-operand-entry3 → tie.Start
 start-of b = search
@@ -28,19 +25,15 @@ label-of b = search
 
 returns-2 : tie.Need-returns-2
 returns-2 c =
-    let o : tie.After-lower2 = search in
     let w : tie.After-lower = search in
     let h : tie.After-code-ref = search in
     let t : tie.After-operand-entry4 = search in
     let g : tie.After-list-fault = search in
     let b : tie.After-operand-entry3 = search in
     let some-args : (count-of b .operand-entry .result) ≡ 0 → ⊥ = search in
-    let a = start-of b .args in
-    operand-inst (a .rows .now) (a .n) (a .nb) (a .operands .now) (a .numbers .now) (a .args .now) (a .v) _ _ _ _ _ _ _ _ _ _ (count-of b .operand-entry .ensures .0) (kind-of b .operand-entry2 .ensures .0) refl (b .operand-entry3 .ensures .0) (t .operand-entry4 .ensures .0) some-args (label-of b .label-fault .ensures) (g .list-fault .ensures) (h .code-ref .ensures) (w .lower .ensures) (o .lower2 .ensures)
+    operand-inst _ _ _ _ _ _ _ _ _ _ _ _ _ _ _ _ _ (count-of b .operand-entry .ensures .0) (kind-of b .operand-entry2 .ensures .0) refl (b .operand-entry3 .ensures .0) (t .operand-entry4 .ensures .0) some-args (label-of b .label-fault .ensures) (g .list-fault .ensures) (h .code-ref .ensures) (w .lower .ensures) (search)
 
 pub operand-fault-spec : {M : Type 1} → statement M
 operand-fault-spec =
-    tie.close
-    (tie.spec
-    (λ c κs. search needs) (λ c κs. search needs) (λ c κs. search needs) returns
-    (λ c κs. search needs) (λ c κs. search needs) (λ c κs. search needs) (λ c κs. search needs) (λ c κs. search needs) (λ c κs. search needs) returns-2)
+    tie.close (tie.spec (λ c κs. search needs) (λ c κs. search needs) (λ c κs. search needs) returns (λ c κs. search needs)
+    (λ c κs. search needs) (λ c κs. search needs) (λ c κs. search needs) (λ c κs. search needs) (λ c κs. search needs) returns-2)

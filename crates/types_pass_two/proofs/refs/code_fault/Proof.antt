@@ -20,87 +20,53 @@ Inv-loop rows n blocks nb instrs ni operands numbers args b₀ b = (ps : List �
 abbrev μ-loop : tie.MeasureT-loop
 μ-loop rows n blocks nb instrs ni operands numbers args b₀ b = nb - b
 
+abbrev start-of-cell22 : tie.After-cell22 Inv-loop μ-loop → tie.Start Inv-loop μ-loop
+start-of-cell22 x = search
+
 loop-holds : tie.Need-loop-holds Inv-loop μ-loop
-loop-holds c =
-    let a = (c .before .before .before .before .before .before .args) in
-    λ ps. blocks-start (rowsIn (tab (a .rows .now) ps) (a .n)) (a .nb) (a .blocks .now) (a .instrs .now) (operandTable (a .operands .now) (a .numbers .now) (a .args .now)) (a .ni) (a .n) ((c .before .before .before .before .before .before .pre) .1)
-
-cell2-requires : tie.Need-cell2-requires Inv-loop μ-loop
-cell2-requires c κs = search needs
-
-cell2-requires-2 : tie.Need-cell2-requires-2 Inv-loop μ-loop
-cell2-requires-2 c κs = search needs
-
-block-fault-requires : tie.Need-block-fault-requires Inv-loop μ-loop
-block-fault-requires c κs = search needs
-
-add-line : tie.Need-add-line Inv-loop μ-loop
-add-line c = search needs
-
-add-line-2 : tie.Need-add-line-2 Inv-loop μ-loop
-add-line-2 c = search needs
-
-add-line-3 : tie.Need-add-line-3 Inv-loop μ-loop
-add-line-3 c = search needs
+loop-holds c = λ ps. blocks-start (rowsIn (tab _ ps) _) _ _ _ _ _ _ (search)
 
 returns : tie.Need-returns Inv-loop μ-loop
 returns c =
-    let a = (c .before .before .before .before .before .before .before .before .before .before .before .before .args) in
-    λ ps. sym (block-found (rowsIn (tab (a .rows .now) ps) (a .n)) (a .nb) (a .blocks .now) (a .instrs .now) (operandTable (a .operands .now) (a .numbers .now) (a .args .now)) (a .ni) (a .n) ((c .before .before .before .before .before .loop) .b) ((c .before .before .before .cell2) .result) ((c .before .before .cell22) .result) _ ((c .before .before .before .before .loop-test) .taken) ((c .before .before .before .cell2) .ensures .0) ((c .before .before .cell22) .ensures .0) refl ((c .before .block-fault) .result) ((c .before .block-fault) .ensures ps (a .nb)) ((c .if1) .taken)) ∙ (c .before .before .before .before .before .loop) .inv ps
-
-block-end-requires : tie.Need-block-end-requires Inv-loop μ-loop
-block-end-requires c κs = search needs
-
-add-base : tie.Need-add-base Inv-loop μ-loop
-add-base c = search needs
-
-add-base-2 : tie.Need-add-base-2 Inv-loop μ-loop
-add-base-2 c = search needs
-
-instrs-fault-requires : tie.Need-instrs-fault-requires Inv-loop μ-loop
-instrs-fault-requires c κs = search needs
+    let b2 : tie.After-block-fault Inv-loop μ-loop = search in
+    let c3 : tie.After-cell22 Inv-loop μ-loop = search in
+    let c2 : tie.After-cell2 Inv-loop μ-loop = search in
+    let i : tie.In-loop Inv-loop μ-loop = search in
+    let l : tie.At-loop Inv-loop μ-loop = search in
+    let s = start-of-cell22 c3 in
+    λ ps. sym (block-found (rowsIn (tab (s .args .rows .now) ps) (s .args .n)) (s .args .nb) (s .args .blocks .now) (s .args .instrs .now) (operandTable (s .args .operands .now) (s .args .numbers .now) (s .args .args .now)) (s .args .ni) (s .args .n) (l .loop .b) (c2 .cell2 .result) (c3 .cell22 .result) _ (i .loop-test .taken) (c2 .cell2 .ensures .0) (c3 .cell22 .ensures .0) refl (b2 .block-fault .result) (b2 .block-fault .ensures ps (s .args .nb)) (c .if1 .taken)) ∙ l .loop .inv ps
 
 returns-2 : tie.Need-returns-2 Inv-loop μ-loop
 returns-2 c =
-    let a = (c .before .before .before .before .before .before .before .before .before .before .before .before .before .before .before .args) in
-    λ ps. sym (body-found (rowsIn (tab (a .rows .now) ps) (a .n)) (a .nb) (a .blocks .now) (a .instrs .now) (operandTable (a .operands .now) (a .numbers .now) (a .args .now)) (a .ni) (a .n) ((c .before .before .before .before .before .before .before .before .loop) .b) ((c .before .before .before .before .before .before .cell2) .result) ((c .before .before .before .before .before .cell22) .result) ((c .before .before .block-end) .result) ((c .before .before .before .before .before .before .before .loop-test) .taken) ((c .before .before .before .before .before .before .cell2) .ensures .0) ((c .before .before .before .before .before .cell22) .ensures .0) ((c .before .before .block-end) .ensures .0) ((c .before .before .before .before .block-fault) .result) ((c .before .instrs-fault) .result) ((c .before .before .before .before .block-fault) .ensures ps (a .nb)) ((c .before .before .before .if1) .left) ((c .before .instrs-fault) .ensures ps) ((c .if2) .taken)) ∙ (c .before .before .before .before .before .before .before .before .loop) .inv ps
-
-add-b : tie.Need-add-b Inv-loop μ-loop
-add-b c = search needs
-
-loop-less : tie.Need-loop-less Inv-loop μ-loop
-loop-less c = search needs
+    let i2 : tie.After-instrs-fault Inv-loop μ-loop = search in
+    let b2 : tie.After-block-end Inv-loop μ-loop = search in
+    let b3 : tie.After-block-fault Inv-loop μ-loop = search in
+    let c3 : tie.After-cell22 Inv-loop μ-loop = search in
+    let c2 : tie.After-cell2 Inv-loop μ-loop = search in
+    let l : tie.At-loop Inv-loop μ-loop = search in
+    λ ps. sym (body-found (rowsIn (tab _ ps) _) _ _ _ _ _ _ _ _ _ _ (search) (c2 .cell2 .ensures .0) (c3 .cell22 .ensures .0) (b2 .block-end .ensures .0) _ _ (b3 .block-fault .ensures ps _) (search) (i2 .instrs-fault .ensures ps) (search)) ∙ l .loop .inv ps
 
 loop-again : tie.Need-loop-again Inv-loop μ-loop
 loop-again c =
-    let a = (c .before .before .before .before .before .before .before .before .before .before .before .before .before .before .before .args) in
-    λ ps. sym (block-next (rowsIn (tab (a .rows .now) ps) (a .n)) (a .nb) (a .blocks .now) (a .instrs .now) (operandTable (a .operands .now) (a .numbers .now) (a .args .now)) (a .ni) (a .n) ((c .before .before .before .before .before .before .before .before .loop) .b) ((c .before .before .before .before .before .before .cell2) .result) ((c .before .before .before .before .before .cell22) .result) ((c .before .before .block-end) .result) ((c .before .before .before .before .before .before .before .loop-test) .taken) ((c .before .before .before .before .before .before .cell2) .ensures .0) ((c .before .before .before .before .before .cell22) .ensures .0) ((c .before .before .block-end) .ensures .0) ((c .before .before .before .before .before .before .before .before .before .before .before .before .before .before .before .pre) .1) ((c .before .before .before .before .block-fault) .result) ((c .before .instrs-fault) .result) ((c .before .before .before .before .block-fault) .ensures ps (a .nb)) ((c .before .before .before .if1) .left) ((c .before .instrs-fault) .ensures ps) ((c .if2) .left)) ∙ (c .before .before .before .before .before .before .before .before .loop) .inv ps
+    let i2 : tie.After-instrs-fault Inv-loop μ-loop = search in
+    let b2 : tie.After-block-end Inv-loop μ-loop = search in
+    let n2 : tie.Else1 Inv-loop μ-loop = search in
+    let b3 : tie.After-block-fault Inv-loop μ-loop = search in
+    let c3 : tie.After-cell22 Inv-loop μ-loop = search in
+    let c2 : tie.After-cell2 Inv-loop μ-loop = search in
+    let i : tie.In-loop Inv-loop μ-loop = search in
+    let l : tie.At-loop Inv-loop μ-loop = search in
+    let s = start-of-cell22 c3 in
+    λ ps. sym (block-next (rowsIn (tab (s .args .rows .now) ps) (s .args .n)) (s .args .nb) (s .args .blocks .now) (s .args .instrs .now) (operandTable (s .args .operands .now) (s .args .numbers .now) (s .args .args .now)) (s .args .ni) (s .args .n) (l .loop .b) (c2 .cell2 .result) (c3 .cell22 .result) (b2 .block-end .result) (i .loop-test .taken) (c2 .cell2 .ensures .0) (c3 .cell22 .ensures .0) (b2 .block-end .ensures .0) (s .pre .1) (b3 .block-fault .result) (i2 .instrs-fault .result) (b3 .block-fault .ensures ps (s .args .nb)) (n2 .if1 .left) (i2 .instrs-fault .ensures ps) (c .if2 .left)) ∙ l .loop .inv ps
 
 returns-3 : tie.Need-returns-3 Inv-loop μ-loop
 returns-3 c =
-    let a = (c .before .before .before .before .before .before .before .before .args) in
-    λ ps. sym (blocks-end (rowsIn (tab (a .rows .now) ps) (a .n)) (a .nb) (a .blocks .now) (a .instrs .now) (operandTable (a .operands .now) (a .numbers .now) (a .args .now)) (a .ni) (a .n) ((c .before .loop) .b) ((c .loop-test) .left)) ∙ (c .before .loop) .inv ps
+    let l : tie.At-loop Inv-loop μ-loop = search in
+    let s : tie.Start Inv-loop μ-loop = search in
+    λ ps. sym (blocks-end (rowsIn (tab (s .args .rows .now) ps) (s .args .n)) _ (s .args .blocks .now) (s .args .instrs .now) (operandTable _ _ _) (s .args .ni) _ _ (c .loop-test .left)) ∙ l .loop .inv ps
 
 pub code-fault-spec : {M : Type 1} → statement M
 code-fault-spec =
-    tie.close
-    (tie.spec
-    Inv-loop
-    μ-loop
-    loop-holds
-    cell2-requires
-    cell2-requires-2
-    block-fault-requires
-    add-line
-    add-line-2
-    add-line-3
-    returns
-    block-end-requires
-    add-base
-    add-base-2
-    instrs-fault-requires
-    returns-2
-    add-b
-    loop-less
-    loop-again
-    returns-3)
+    tie.close (tie.spec Inv-loop μ-loop loop-holds (λ c κs. search needs) (λ c κs. search needs) (λ c κs. search) (λ c. search needs)
+    (λ c. search needs) (λ c. search needs) returns (λ c κs. search) (λ c. search needs) (λ c. search needs) (λ c κs. search needs)
+    returns-2 (λ c. search needs) (λ c. search needs) loop-again returns-3)

@@ -7,14 +7,11 @@ use borrow.Author.Needs.{needs}
 use Rattle.types_pass_two.proofs.row_refs.code_ref.Statement.{statement}
 use Rattle.types_pass_two.proofs.row_refs.code_ref.Tie as tie
 
-cell4-requires : tie.Need-cell4-requires
-cell4-requires c κs = search needs
-
-fault-if-requires : tie.Need-fault-if-requires
-fault-if-requires c κs = search needs
-
 returns : tie.Need-returns
-returns c = (c .fault-if) .ensures ∙ ap (λ (k : ℕ). cond (ltb ((c .before .before .before .args) .t) ((c .before .before .before .args) .n)) (cond (eqb k 5) 0 5) 4) ((c .before .cell4) .ensures .0)
+returns c =
+    let c2 : tie.After-cell4 = search in
+    let s : tie.Start = search in
+    c .fault-if .ensures ∙ ap (λ (k : ℕ). cond (ltb (s .args .t) (s .args .n)) (cond (eqb k 5) 0 5) 4) (c2 .cell4 .ensures .0)
 
 pub code-ref-spec : {M : Type 1} → statement M
-code-ref-spec = tie.close (tie.spec cell4-requires fault-if-requires returns)
+code-ref-spec = tie.close (tie.spec (λ c κs. search needs) (λ c κs. search) returns)

@@ -3,61 +3,57 @@ use Rattle.valid_scope.proofs.entry.Laws.{link-ok, code-low, code-in, c
 use borrow.Author.Needs.{needs}
 use Rattle.valid_scope.proofs.entry.block_fault.Statement.{statement}
 use Rattle.valid_scope.proofs.entry.block_fault.Tie as tie
-use Rattle.valid_scope.proofs.entry.block_fault.Reads as reads
-use Rattle.valid_scope.proofs.entry.block_fault.Lts as lts
-use Rattle.valid_scope.proofs.entry.is_fit.Reads as is-fit-reads
-use Rattle.valid_scope.proofs.entry.least_of.Reads as least-of-reads
-use Rattle.types_rows.proofs.item_count.Reads as item-count-reads
-use Rattle.types_rows.proofs.link.Reads as link-reads
-use Rattle.types_rows.proofs.read_value.Reads as read-value-reads
-use Rattle.valid_scope.proofs.formed.Reads as formed-reads
-
-add-link : tie.Need-add-link
-add-link c = search needs
-
-link-requires : tie.Need-link-requires
-link-requires c κs = search needs
 
 read-value-requires : tie.Need-read-value-requires
-read-value-requires c κs = link-ok ((c .before .before .before .before .before .args) .n) ((c .before .before .before .before .before .args) .c) ((c .link) .result) ((c .link) .ensures) ((c .before .before .before .before .before .pre) .0)
-
-enum-known-v : tie.Need-enum-known-v
-enum-known-v c = search needs
+read-value-requires c κs =
+    let s : tie.Start = search in
+    link-ok _ _ _ (c .link .ensures) (s .pre .0)
 
 returns : tie.Need-returns
-returns c = λ xs. other-fault ((c .before .before .before .before .before .before .before .args) .rows .now) ((c .before .before .before .before .before .before .before .args) .parts .now) ((c .before .before .before .before .before .before .before .args) .n) ((c .before .before .before .before .before .before .before .args) .c) ((c .before .before .link) .result) ((c .before .before .link) .ensures) ((c .before .read-value) .ensures .0) ((c .before .before .before .before .before .before .before .args) .first) xs ((c .match) .keys2)
+returns c =
+    let r : tie.After-read-value = search in
+    let l : tie.After-link = search in
+    λ xs. other-fault _ _ _ _ _ (l .link .ensures) (r .read-value .ensures .0) _ xs (c .match .keys2)
 
 formed-requires : tie.Need-formed-requires
-formed-requires c κs = (code-in ((c .before .before .before .before .before .before .before .before .before .args) .rows .now) ((c .before .before .before .before .before .before .before .before .before .args) .parts .now) ((c .before .before .before .before .before .before .before .before .before .args) .n) ((c .before .before .before .before .before .before .before .before .before .args) .c) ((c .before .before .before .before .link) .result) ((c .before .before .before .before .link) .ensures) ((c .before .before .before .read-value) .ensures .0) ((c .before .v) .given .1) ((c .before .before .before .read-value) .ensures .1) .0, (c .before .before .before .before .before .before .before .before .before .pre) .3)
+formed-requires c κs =
+    let v2 : tie.After-v = search in
+    let r : tie.After-read-value = search in
+    let l : tie.After-link = search in
+    let s : tie.Start = search in
+    (code-in _ (s .args .parts .now) _ _ _ (l .link .ensures) (r .read-value .ensures .0) (v2 .v .given .1) (r .read-value .ensures .1) .0, search)
 
 is-fit-requires : tie.Need-is-fit-requires
 is-fit-requires c κs =
-    let k = code-low ((c .before .before .before .before .before .before .before .before .before .before .args) .rows .now) ((c .before .before .before .before .before .before .before .before .before .before .args) .parts .now) ((c .before .before .before .before .before .before .before .before .before .before .args) .n) ((c .before .before .before .before .before .before .before .before .before .before .args) .c) ((c .before .before .before .before .before .link) .result) ((c .before .before .before .before .before .link) .ensures) ((c .before .before .before .before .read-value) .ensures .0) ((c .before .before .v) .given .1) ((c .before .before .before .before .read-value) .ensures .1) in
-    (k .2, link-ok ((c .before .before .before .before .before .before .before .before .before .before .args) .n) ((c .before .before .before .before .before .before .before .before .before .before .args) .c) ((c .before .before .before .before .before .link) .result) ((c .before .before .before .before .before .link) .ensures) ((c .before .before .before .before .before .before .before .before .before .before .pre) .0) .0, k .0, k .1, counted-stack ((c .before .before .before .before .before .before .before .before .before .before .args) .rows .now) ((c .before .before .before .before .before .before .before .before .before .before .args) .parts .now) ((c .before .before .before .before .before .before .before .before .before .before .args) .n) ((c .before .before .before .before .before .before .before .before .before .before .args) .c) ((c .before .before .before .before .before .link) .result) ((c .before .before .before .before .before .link) .ensures) ((c .before .before .before .before .read-value) .ensures .0) ((c .before .before .v) .given .1) ((c .before .before .before .before .read-value) .ensures .1) ((c .before .before .before .before .before .before .before .before .before .before .pre) .2))
+    let v2 : tie.After-v = search in
+    let r : tie.After-read-value = search in
+    let l : tie.After-link = search in
+    let s : tie.Start = search in
+    let k = code-low _ (s .args .parts .now) (s .args .n) (s .args .c) _ (l .link .ensures) (r .read-value .ensures .0) (v2 .v .given .1) (search) in
+    (k .2, link-ok _ _ _ (l .link .ensures) (s .pre .0) .0, k .0, k .1, counted-stack _ _ _ _ _ (l .link .ensures) (r .read-value .ensures .0) (v2 .v .given .1) (search) (s .pre .2))
 
 item-count-requires : tie.Need-item-count-requires
 item-count-requires c κs =
-    let k = code-low ((c .before .before .before .before .before .before .before .before .before .before .before .args) .rows .now) ((c .before .before .before .before .before .before .before .before .before .before .before .args) .parts .now) ((c .before .before .before .before .before .before .before .before .before .before .before .args) .n) ((c .before .before .before .before .before .before .before .before .before .before .before .args) .c) ((c .before .before .before .before .before .before .link) .result) ((c .before .before .before .before .before .before .link) .ensures) ((c .before .before .before .before .before .read-value) .ensures .0) ((c .before .before .before .v) .given .1) ((c .before .before .before .before .before .read-value) .ensures .1) in
-    let l = link-ok ((c .before .before .before .before .before .before .before .before .before .before .before .args) .n) ((c .before .before .before .before .before .before .before .before .before .before .before .args) .c) ((c .before .before .before .before .before .before .link) .result) ((c .before .before .before .before .before .before .link) .ensures) ((c .before .before .before .before .before .before .before .before .before .before .before .pre) .0) in
+    let v2 : tie.After-v = search in
+    let r : tie.After-read-value = search in
+    let l2 : tie.After-link = search in
+    let s : tie.Start = search in
+    let k = code-low _ (s .args .parts .now) (s .args .n) (s .args .c) _ (l2 .link .ensures) (r .read-value .ensures .0) (v2 .v .given .1) (search) in
+    let l = link-ok _ _ _ (l2 .link .ensures) (s .pre .0) in
     omega (arith, k .0, l .0)
 
-least-of-requires : tie.Need-least-of-requires
-least-of-requires c κs = search needs
-
 returns-2 : tie.Need-returns-2
-returns-2 c = λ xs. block-least ((c .before .before .before .before .before .before .before .before .before .before .before .before .before .args) .rows .now) ((c .before .before .before .before .before .before .before .before .before .before .before .before .before .args) .parts .now) ((c .before .before .before .before .before .before .before .before .before .before .before .before .before .args) .n) ((c .before .before .before .before .before .before .before .before .before .before .before .before .before .args) .c) ((c .before .before .before .before .before .before .before .before .link) .result) ((c .before .before .before .before .before .before .before .before .link) .ensures) ((c .before .before .before .before .before .before .before .read-value) .ensures .0) ((c .before .before .before .before .before .v) .given .1) ((c .before .before .before .before .before .before .before .read-value) .ensures .1) ((c .before .before .before .before .before .before .before .before .before .before .before .before .before .args) .first) ((c .before .before .before .formed) .result) ((c .before .before .is-fit) .result) ((c .before .item-count) .result) ((c .least-of) .result) xs ((c .before .before .before .formed) .ensures) ((c .before .before .is-fit) .ensures xs) ((c .before .item-count) .ensures .0) ((c .before .before .before .before .before .before .before .before .before .before .before .before .before .pre) .2) ((c .least-of) .ensures)
+returns-2 c =
+    let i2 : tie.After-item-count = search in
+    let i : tie.After-is-fit = search in
+    let f : tie.After-formed = search in
+    let v2 : tie.After-v = search in
+    let r : tie.After-read-value = search in
+    let l : tie.After-link = search in
+    let s : tie.Start = search in
+    λ xs. block-least _ _ _ _ _ (l .link .ensures) (r .read-value .ensures .0) (v2 .v .given .1) (r .read-value .ensures .1) _ _ (i .is-fit .result) _ _ xs (f .formed .ensures) (i .is-fit .ensures xs) (i2 .item-count .ensures .0) (s .pre .2) (c .least-of .ensures)
 
 pub block-fault-spec : {M : Type 1} → statement M
 block-fault-spec =
-    tie.close
-    (tie.spec
-    add-link
-    link-requires
-    read-value-requires
-    enum-known-v
-    returns
-    formed-requires
-    is-fit-requires
-    item-count-requires
-    least-of-requires
-    returns-2)
+    tie.close (tie.spec (λ c. search needs) (λ c κs. search) read-value-requires (λ c. search) returns formed-requires is-fit-requires
+    item-count-requires (λ c κs. search) returns-2)

@@ -7,22 +7,14 @@ use Rattle.valid_scope.proofs.variables.at_past.Statement.{statement}
 use Rattle.valid_scope.proofs.variables.at_past.Tie as tie
 
 returns : tie.Need-returns
-returns c = sym (List·getD-eq-default (c .before .before .args .s .now) 0 (omega arith))
-
-sub-if2 : tie.Need-sub-if2
-sub-if2 c = search needs
+returns c =
+    let s2 : tie.Start = search in
+    sym (List·getD-eq-default (s2 .args .s .now) 0 (omega arith))
 
 returns-2 : tie.Need-returns-2
-returns-2 c = sym (List·getD-eq-default (c .before .before .before .args .s .now) 0 (omega arith))
-
-add-at : tie.Need-add-at
-add-at c = search needs
-
-at-requires : tie.Need-at-requires
-at-requires c κs = search needs
-
-returns-3 : tie.Need-returns-3
-returns-3 c = search needs
+returns-2 c =
+    let s2 : tie.Start = search in
+    sym (List·getD-eq-default (s2 .args .s .now) 0 (omega arith))
 
 pub at-past-spec : {M : Type 1} → statement M
-at-past-spec = tie.close (tie.spec returns sub-if2 returns-2 add-at at-requires returns-3)
+at-past-spec = tie.close (tie.spec returns (λ c. search needs) returns-2 (λ c. search needs) (λ c κs. search) (λ c. search))

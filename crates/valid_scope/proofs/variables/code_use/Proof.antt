@@ -6,18 +6,9 @@ use borrow.Author.Needs.{needs}
 use Rattle.valid_scope.proofs.variables.code_use.Statement.{statement}
 use Rattle.valid_scope.proofs.variables.code_use.Tie as tie
 
-use-at-requires : tie.Need-use-at-requires
-use-at-requires c κs = search needs
-
-parts-use-requires : tie.Need-parts-use-requires
-parts-use-requires c κs = search needs
-
-both-requires : tie.Need-both-requires
-both-requires c κs = search needs
-
 returns : tie.Need-returns
 unfolding codeUse
-returns c = c .both .ensures ∙ ap₂ both (c .before .before .use-at .ensures) (c .before .parts-use .ensures)
+returns c = c .both .ensures ∙ ap₂ both (search) (search)
 
 pub code-use-spec : {M : Type 1} → statement M
-code-use-spec = tie.close (tie.spec use-at-requires parts-use-requires both-requires returns)
+code-use-spec = tie.close (tie.spec (λ c κs. search needs) (λ c κs. search needs) (λ c κs. search) returns)

@@ -4,53 +4,22 @@ use borrow.Author.Needs.{needs}
 use Rattle.valid_scope.proofs.variables.form_respected.Statement.{statement}
 use Rattle.valid_scope.proofs.variables.form_respected.Tie as tie
 
-parts-respected-requires : tie.Need-parts-respected-requires
-parts-respected-requires c κs = search needs
-
 returns : tie.Need-returns
-returns c =
-    let a = c .before .before .before .before .before .args in
-    respected-tuple (a .uses .now) (a .tops .now) (a .parts .now) (a .c) (a .a) (a .b) (c .parts-respected .ensures) (c .before .if1 .taken)
-
-respected-at-requires : tie.Need-respected-at-requires
-respected-at-requires c κs = search needs
+returns c = respected-tuple _ _ _ _ _ _ (search) (search)
 
 returns-2 : tie.Need-returns-2
-returns-2 c =
-    let a = c .before .before .before .before .before .before .args in
-    respected-pointer (a .uses .now) (a .tops .now) (a .parts .now) (a .c) (a .a) (a .b) (c .respected-at .ensures) (c .before .if2 .taken)
-
-code-respected-requires : tie.Need-code-respected-requires
-code-respected-requires c κs = search needs
+returns-2 c = respected-pointer _ _ _ _ _ _ (search) (search)
 
 returns-3 : tie.Need-returns-3
-returns-3 c =
-    let a = c .before .before .before .before .before .before .before .args in
-    respected-code (a .uses .now) (a .tops .now) (a .parts .now) (a .c) (a .a) (a .b) (c .code-respected .ensures) (c .before .if3 .taken)
-
-both-respected-requires : tie.Need-both-respected-requires
-both-respected-requires c κs = search needs
+returns-3 c = respected-code _ _ _ _ _ _ (search) (search)
 
 returns-4 : tie.Need-returns-4
-returns-4 c =
-    let a = c .before .before .before .before .before .before .before .before .args in
-    respected-two (a .uses .now) (a .tops .now) (a .parts .now) (a .c) (a .a) (a .b) (c .both-respected .ensures) (c .before .if4 .taken)
+returns-4 c = respected-two _ _ _ _ _ _ (search) (search)
 
 returns-5 : tie.Need-returns-5
-returns-5 c =
-    let a = c .before .before .before .before .before .before .before .args in
-    respected-leaf (a .uses .now) (a .tops .now) (a .parts .now) (a .c) (a .a) (a .b) (c .before .before .before .if1 .left) (c .before .before .if2 .left) (c .before .if3 .left) (c .if4 .left)
+returns-5 c = respected-leaf _ _ _ _ _ _ (search) (search) (search) (search)
 
 pub form-respected-spec : {M : Type 1} → statement M
 form-respected-spec =
-    tie.close
-    (tie.spec
-    parts-respected-requires
-    returns
-    respected-at-requires
-    returns-2
-    code-respected-requires
-    returns-3
-    both-respected-requires
-    returns-4
+    tie.close (tie.spec (λ c κs. search needs) returns (λ c κs. search) returns-2 (λ c κs. search) returns-3 (λ c κs. search) returns-4
     returns-5)

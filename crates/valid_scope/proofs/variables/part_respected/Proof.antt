@@ -4,28 +4,18 @@ use borrow.Author.Needs.{needs}
 use Rattle.valid_scope.proofs.variables.part_respected.Statement.{statement}
 use Rattle.valid_scope.proofs.variables.part_respected.Tie as tie
 
-at-requires : tie.Need-at-requires
-at-requires c κs = search needs
-
-add-x : tie.Need-add-x
-add-x c = search needs
-
 returns : tie.Need-returns
 returns c =
-    let a = c .before .before .before .before .args in
-    respected-none (a .tops .now) (a .parts .now) (a .i) (a .off) (c .before .at .ensures .0) (c .if1 .taken)
-
-sub-respected-at : tie.Need-sub-respected-at
-sub-respected-at c = search needs
-
-respected-at-requires : tie.Need-respected-at-requires
-respected-at-requires c κs = search needs
+    let a2 : tie.After-at = search in
+    let s : tie.Start = search in
+    respected-none _ (s .args .parts .now) (s .args .i) _ (a2 .at .ensures .0) (c .if1 .taken)
 
 returns-2 : tie.Need-returns-2
 returns-2 c =
-    let a = c .before .before .before .before .before .args in
-    respected-some (a .tops .now) (a .parts .now) (a .i) (a .off) (c .before .before .at .ensures .0) (c .before .if1 .left) (c .respected-at .ensures)
+    let n : tie.Else1 = search in
+    let a2 : tie.After-at = search in
+    let s : tie.Start = search in
+    respected-some _ (s .args .parts .now) (s .args .i) _ (a2 .at .ensures .0) (n .if1 .left) (search)
 
 pub part-respected-spec : {M : Type 1} → statement M
-part-respected-spec =
-    tie.close (tie.spec at-requires add-x returns sub-respected-at respected-at-requires returns-2)
+part-respected-spec = tie.close (tie.spec (λ c κs. search) (λ c. search needs) returns (λ c. search needs) (λ c κs. search) returns-2)

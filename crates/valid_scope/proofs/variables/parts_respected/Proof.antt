@@ -15,48 +15,25 @@ abbrev μ-loop : tie.MeasureT-loop
 μ-loop parts tops p n off i₀ i = n - i
 
 loop-holds : tie.Need-loop-holds Inv-loop μ-loop
-loop-holds c =
-    let a = c .before .before .args in
-    (omega arith, respected-start (a .tops .now) (a .parts .now) (a .p) (a .n) (a .off))
-
-add-part-respected : tie.Need-add-part-respected Inv-loop μ-loop
-add-part-respected c = search needs
-
-part-respected-requires : tie.Need-part-respected-requires Inv-loop μ-loop
-part-respected-requires c κs = search needs
+loop-holds c = (omega arith, respected-start _ _ _ _ _)
 
 returns : tie.Need-returns Inv-loop μ-loop
 returns c =
-    let a = c .before .before .before .before .before .before .args in
-    respected-not (a .tops .now) (a .parts .now) (a .p) (a .n) (a .off) (c .before .before .before .loop .i) (c .before .before .loop-test .taken) (c .before .part-respected .ensures) (c .if1 .taken) (c .before .before .before .loop .inv .1)
-
-add-i : tie.Need-add-i Inv-loop μ-loop
-add-i c = search needs
-
-loop-less : tie.Need-loop-less Inv-loop μ-loop
-loop-less c = search needs
+    let p2 : tie.After-part-respected Inv-loop μ-loop = search in
+    let i2 : tie.In-loop Inv-loop μ-loop = search in
+    respected-not _ _ _ _ _ _ (i2 .loop-test .taken) (p2 .part-respected .ensures) (search) (search)
 
 loop-again : tie.Need-loop-again Inv-loop μ-loop
 loop-again c =
-    let a = c .before .before .before .before .before .before .args in
-    (omega arith, respected-more (a .tops .now) (a .parts .now) (a .p) (a .n) (a .off) (c .before .before .before .loop .i) (c .before .before .loop-test .taken) (c .before .part-respected .ensures) (c .if1 .left) (c .before .before .before .loop .inv .1))
+    let p2 : tie.After-part-respected Inv-loop μ-loop = search in
+    (omega arith, respected-more _ _ _ _ _ _ (search) (p2 .part-respected .ensures) (search) (search))
 
 returns-2 : tie.Need-returns-2 Inv-loop μ-loop
 returns-2 c =
-    let a = c .before .before .before .before .args in
-    respected-end (a .tops .now) (a .parts .now) (a .p) (a .n) (a .off) (c .before .loop .i) (omega arith) (c .before .loop .inv .1)
+    let l : tie.At-loop Inv-loop μ-loop = search in
+    respected-end _ _ _ _ _ _ (omega arith) (l .loop .inv .1)
 
 pub parts-respected-spec : {M : Type 1} → statement M
 parts-respected-spec =
-    tie.close
-    (tie.spec
-    Inv-loop
-    μ-loop
-    loop-holds
-    add-part-respected
-    part-respected-requires
-    returns
-    add-i
-    loop-less
-    loop-again
-    returns-2)
+    tie.close (tie.spec Inv-loop μ-loop loop-holds (λ c. search needs) (λ c κs. search) returns (λ c. search needs) (λ c. search needs)
+    loop-again returns-2)

@@ -3,16 +3,12 @@ use mathlib.Core.Path.{ap}
 use mathlib.Core.Bool.{not}
 use lib.Dec.{eqb}
 use Rattle.valid_scope.specs.variables.Uses.{respectedAt}
-use borrow.Author.Needs.{needs}
 use Rattle.valid_scope.proofs.variables.respected_at.Statement.{statement}
 use Rattle.valid_scope.proofs.variables.respected_at.Tie as tie
-
-at-requires : tie.Need-at-requires
-at-requires c κs = search needs
 
 returns : tie.Need-returns
 unfolding respectedAt
 returns c = ap (λ z. not (eqb z 255)) (c .at .ensures .0)
 
 pub respected-at-spec : {M : Type 1} → statement M
-respected-at-spec = tie.close (tie.spec at-requires returns)
+respected-at-spec = tie.close (tie.spec (λ c κs. search) returns)

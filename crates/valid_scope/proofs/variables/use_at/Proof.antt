@@ -6,25 +6,13 @@ use Rattle.valid_scope.proofs.variables.use_at.Statement.{statement}
 use Rattle.valid_scope.proofs.variables.use_at.Tie as tie
 
 returns : tie.Need-returns
-returns c = use-past (c .before .args .uses .now) (c .before .args .k) (c .before .args .t) (c .if1 .taken)
-
-mul-i : tie.Need-mul-i
-mul-i c = search needs
-
-add-i : tie.Need-add-i
-add-i c = search needs
-
-mul-result : tie.Need-mul-result
-mul-result c = search needs
-
-shared-slice-read-result : tie.Need-shared-slice-read-result
-shared-slice-read-result c = search needs
+returns c = use-past _ _ _ (search)
 
 returns-2 : tie.Need-returns-2
-returns-2 c = use-in (c .before .before .before .args .uses .now) (c .before .before .before .args .k) (c .before .before .before .args .t) (omega arith)
+returns-2 c = use-in _ _ _ (omega arith)
 
 returns-3 : tie.Need-returns-3
-returns-3 c = use-out (c .before .before .args .uses .now) (c .before .before .args .k) (c .before .before .args .t) (omega arith) (omega arith)
+returns-3 c = use-out _ _ _ (omega arith) (omega arith)
 
 pub use-at-spec : {M : Type 1} → statement M
-use-at-spec = tie.close (tie.spec returns mul-i add-i mul-result shared-slice-read-result returns-2 returns-3)
+use-at-spec = tie.close (tie.spec returns (λ c. search needs) (λ c. search needs) (λ c. search needs) (λ c. search) returns-2 returns-3)

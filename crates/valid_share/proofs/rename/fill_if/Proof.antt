@@ -11,7 +11,7 @@ returns c =
     let s : tie.Start = search in
     let k : tie.After-entry = search in
     let h : tie.After-has-parts = search in
-    (no-parts (k .entry .result) _ _ _ _ (s .args .image .now) (k .entry .ensures .0) (h .has-parts .ensures) (c .if1 .taken), nothing _ _ _)
+    (no-parts _ _ _ _ _ (s .args .image .now) (k .entry .ensures .0) (h .has-parts .ensures) (search), nothing _ _ _)
 
 returns-2 : tie.Need-returns-2
 unfolding part
@@ -22,13 +22,10 @@ returns-2 c =
     let y : tie.After-entry3 = search in
     let f : tie.After-fill-row = search in
     let a = s .args in
-    (some-parts (a .first .now) (part (a .rows) (a .blocks) (a .image .now)) (part (a .parts) (a .operands) (a .image .now)) (a .r) _ _ _ (k .entry .ensures .0) (x .entry2 .ensures .0) (y .entry3 .ensures .0) _ _ (a .image .now) (f .fill-row .last .0) (f .fill-row .ensures .0), f .fill-row .ensures .1)
+    (some-parts _ _ _ _ _ _ _ (k .entry .ensures .0) (x .entry2 .ensures .0) (y .entry3 .ensures .0) _ _ (a .image .now) (f .fill-row .last .0) (f .fill-row .ensures .0), search)
 
 pub fill-if-spec : {M : Type 1} → statement M
 fill-if-spec =
-    tie.close
-    (tie.spec (λ c. search needs) (λ c. search) (λ c. search) (λ c. search needs) (λ c κs. search needs) (λ c κs. search)
-    (λ c. search) returns
-    (λ c. search needs) (λ c. search) (λ c. search) (λ c. search needs) (λ c κs. search needs)
-    (λ c. search needs) (λ c. search) (λ c. search) (λ c. search needs) (λ c κs. search needs)
-    (λ c κs. search) (λ c. search) returns-2)
+    tie.close (tie.spec (λ c. search needs) (λ c. search) (λ c. search) (λ c. search needs) (λ c κs. search needs) (λ c κs. search)
+    (λ c. search) returns (λ c. search needs) (λ c. search) (λ c. search) (λ c. search needs) (λ c κs. search needs) (λ c. search needs)
+    (λ c. search) (λ c. search) (λ c. search needs) (λ c κs. search needs) (λ c κs. search) (λ c. search) returns-2)

@@ -1,8 +1,6 @@
 use Prim.Native.Nat.{_-_, _≤_}
 use native.Mathlib.Omega.{arith}
-use native.Mathlib.Nat.{not-suc-le-zero}
 use borrow.Author.Needs.{needs}
-use Rattle.image.proofs.Laws.{nothing}
 use Rattle.valid_share.proofs.rename.Laws.{Turned, parts-turn, turned}
 use Rattle.valid_share.proofs.rename.fill_parts.Statement.{statement}
 use Rattle.valid_share.proofs.rename.fill_parts.Tie as tie
@@ -19,26 +17,21 @@ Start = tie.Start Inv-loop μ-loop
 abbrev At-loop : Type 0
 At-loop = tie.At-loop Inv-loop μ-loop
 
-loop-holds : tie.Need-loop-holds Inv-loop μ-loop
-loop-holds c = (omega arith, record { filled = λ q j h p k. absurd (not-suc-le-zero h); outside = nothing _ _ _ })
-
 loop-again : tie.Need-loop-again Inv-loop μ-loop
 loop-again c =
     let s : Start = search in
     let l : At-loop = search in
-    let f : tie.After-fill-if Inv-loop μ-loop = search in
     let o = s .pre .0 in
-    (omega arith, parts-turn (l .loop .inv .1) (o .rows) (omega arith) (o .parts) (omega arith) (omega arith) _ (omega arith) (f .fill-if .ensures .0) (f .fill-if .ensures .1))
+    (omega arith, parts-turn (l .loop .inv .1) (o .rows) (omega arith) (o .parts) (omega arith) (omega arith) _ (omega arith) (search) (search))
 
 returns : tie.Need-returns Inv-loop μ-loop
 returns c =
     let s : Start = search in
     let l : At-loop = search in
     let o = s .pre .0 in
-    turned (l .loop .inv .1) (o .rows) (omega arith) (o .parts) (omega arith) (omega arith) (s .args .p .end) (o .slots) (s .pre .2) (omega arith)
+    turned (l .loop .inv .1) (o .rows) (omega arith) (o .parts) (omega arith) (omega arith) _ (o .slots) (search) (omega arith)
 
 pub fill-parts-spec : {M : Type 1} → statement M
 fill-parts-spec =
-    tie.close
-    (tie.spec Inv-loop μ-loop loop-holds (λ c. search needs) (λ c. search needs) (λ c κs. search needs) (λ c. search needs)
-    (λ c. search needs) loop-again (λ c. search) returns)
+    tie.close (tie.spec Inv-loop μ-loop (λ c. search needs) (λ c. search needs) (λ c. search needs) (λ c κs. search needs)
+    (λ c. search needs) (λ c. search needs) loop-again (λ c. search) returns)

@@ -3,9 +3,8 @@ use mathlib.Core.Path.{_≡_}
 use native.Mathlib.Omega.{arith}
 use borrow.Author.Needs.{needs}
 use Rattle.image.specs.Sections.{part, Outside}
-use Rattle.image.proofs.Laws.{nothing}
 use Rattle.valid_share.specs.rename.Renamed.{newPart, FilledRow}
-use Rattle.valid_share.proofs.rename.Laws.{row-first, row-turn}
+use Rattle.valid_share.proofs.rename.Laws.{row-turn}
 use Rattle.valid_share.proofs.rename.fill_row.Statement.{statement}
 use Rattle.valid_share.proofs.rename.fill_row.Tie as tie
 
@@ -21,11 +20,6 @@ Start = tie.Start Inv-loop μ-loop
 abbrev At-loop : Type 0
 At-loop = tie.At-loop Inv-loop μ-loop
 
-loop-holds : tie.Need-loop-holds Inv-loop μ-loop
-loop-holds c =
-    let s : Start = search in
-    (omega arith, row-first _ _ (s .args .image .now), nothing _ _ _)
-
 loop-again : tie.Need-loop-again Inv-loop μ-loop
 unfolding part
 loop-again c =
@@ -33,19 +27,17 @@ loop-again c =
     let l : At-loop = search in
     let n : tie.After-new-part Inv-loop μ-loop = search in
     let w : tie.After-narrow Inv-loop μ-loop = search in
-    let a = s .args in
-    let t = row-turn (a .first .now) (a .image .now) (a .parts) (a .operands) (a .base) (a .k) (a .a) (a .b) (s .pre .0) (s .pre .1) (s .pre .2) (l .loop .image) (l .loop .j) _ _ (omega arith) (l .loop .inv .1) (l .loop .inv .2) (n .new-part .ensures .0) (w .narrow .ensures) in
+    let t = row-turn _ _ _ _ _ _ _ _ (s .pre .0) (s .pre .1) (s .pre .2) _ _ _ _ (omega arith) (l .loop .inv .1) (l .loop .inv .2) (n .new-part .ensures .0) (w .narrow .ensures) in
     (omega arith, t .0, t .1)
 
 returns : tie.Need-returns Inv-loop μ-loop
 returns c =
     let l : At-loop = search in
     let e : l .loop .j ≡ 17 = omega arith in
-    (rw e at (l .loop .inv .1), l .loop .inv .2)
+    (rw e at (l .loop .inv .1), search)
 
 pub fill-row-spec : {M : Type 1} → statement M
 fill-row-spec =
-    tie.close
-    (tie.spec Inv-loop μ-loop loop-holds (λ c. search needs) (λ c. search) (λ c. search) (λ c. search needs)
-    (λ c κs. search needs) (λ c κs. search) (λ c. search needs) (λ c. search needs) (λ c. search needs)
-    (λ c. search needs) (λ c. search needs) loop-again (λ c. search) returns)
+    tie.close (tie.spec Inv-loop μ-loop (λ c. search needs) (λ c. search needs) (λ c. search) (λ c. search) (λ c. search needs)
+    (λ c κs. search needs) (λ c κs. search) (λ c. search needs) (λ c. search needs) (λ c. search needs) (λ c. search needs)
+    (λ c. search needs) loop-again (λ c. search) returns)

@@ -1,9 +1,7 @@
 use Prim.Native.Nat.{_-_, _≤_}
 use native.Mathlib.Omega.{arith}
-use native.Mathlib.Nat.{not-suc-le-zero}
 use borrow.Author.Needs.{needs}
 use Rattle.image.specs.Sections.{part, Outside}
-use Rattle.image.proofs.Laws.{nothing}
 use Rattle.valid_share.specs.rename.Renamed.{FilledRows}
 use Rattle.valid_share.proofs.rename.Laws.{rows-turn}
 use Rattle.valid_share.proofs.rename.fill_rows.Statement.{statement}
@@ -20,9 +18,6 @@ Start = tie.Start Inv-loop μ-loop
 
 abbrev At-loop : Type 0
 At-loop = tie.At-loop Inv-loop μ-loop
-
-loop-holds : tie.Need-loop-holds Inv-loop μ-loop
-loop-holds c = (omega arith, λ s e h k. absurd (not-suc-le-zero h), nothing _ _ _)
 
 loop-again : tie.Need-loop-again Inv-loop μ-loop
 unfolding part
@@ -41,7 +36,6 @@ returns c =
 
 pub fill-rows-spec : {M : Type 1} → statement M
 fill-rows-spec =
-    tie.close
-    (tie.spec Inv-loop μ-loop loop-holds (λ c. search needs) (λ c. search) (λ c. search) (λ c. search needs)
-    (λ c κs. search needs) (λ c. search needs) (λ c. search) (λ c. search) (λ c. search needs)
-    (λ c κs. search needs) (λ c. search needs) (λ c. search needs) loop-again (λ c. search) returns)
+    tie.close (tie.spec Inv-loop μ-loop (λ c. search needs) (λ c. search needs) (λ c. search) (λ c. search) (λ c. search needs)
+    (λ c κs. search needs) (λ c. search needs) (λ c. search) (λ c. search) (λ c. search needs) (λ c κs. search needs) (λ c. search needs)
+    (λ c. search needs) loop-again (λ c. search) returns)

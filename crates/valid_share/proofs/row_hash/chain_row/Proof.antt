@@ -4,50 +4,22 @@ use Rattle.valid_share.proofs.row_hash.chain_row.Statement.{statement}
 use Rattle.valid_share.proofs.row_hash.chain_row.Tie as tie
 
 returns : tie.Need-returns
-returns c = unchained (((c .before .before .before .args) .work) .now) (((c .before .before .before .args) .chains) .now) ((c .before .before .before .args) .c) ((c .before .before .before .args) .r) ((c .if1) .taken)
-
-chain-of-requires : tie.Need-chain-of-requires
-chain-of-requires c κs = search needs
-
-at-requires : tie.Need-at-requires
-at-requires c κs = search needs
-
-add-put-link : tie.Need-add-put-link
-add-put-link c = search needs
-
-narrow-requires : tie.Need-narrow-requires
-narrow-requires c κs = search needs
-
-put-link-requires : tie.Need-put-link-requires
-put-link-requires c κs = search needs
-
-add-narrow : tie.Need-add-narrow
-add-narrow c = search needs
-
-narrow-requires-2 : tie.Need-narrow-requires-2
-narrow-requires-2 c κs = search needs
-
-put-link-requires-2 : tie.Need-put-link-requires-2
-put-link-requires-2 c κs = search needs
-
-same-length : tie.Need-same-length
-same-length c = search needs
+returns c =
+    let s : tie.Start = search in
+    unchained (s .args .work .now) _ _ _ (c .if1 .taken)
 
 returns-2 : tie.Need-returns-2
-returns-2 c = last-row (((c .before .before .before .before .before .before .before .before .before .before .before .before .before .before .before .before .args) .work) .now) (((c .before .before .before .before .before .before .before .before .before .before .before .before .before .before .before .before .args) .chains) .now) ((c .before .before .before .before .before .before .before .before .before .before .before .before .before .before .before .before .args) .c) ((c .before .before .before .before .before .before .before .before .before .before .before .before .before .before .before .before .args) .r) ((c .before .before .before .before .before .before .before .before .before .before .before .before .before .if1) .left) ((c .before .before .before .before .before .before .before .before .before .before .before .before .chain-of) .ensures .0) ((c .before .before .before .before .before .before .before .before .before .before .at) .ensures .0) ((c .before .before .before .before .before .before .before .before .narrow) .ensures) ((c .before .before .before .narrow2) .ensures) ((c .before .before .before .before .before .before .before .put-link) .ensures) ((c .before .before .put-link2) .ensures)
+returns-2 c =
+    let n3 : tie.After-narrow2 = search in
+    let p : tie.After-put-link = search in
+    let n2 : tie.After-narrow = search in
+    let a : tie.After-at = search in
+    let c2 : tie.After-chain-of = search in
+    let n : tie.Else1 = search in
+    let s : tie.Start = search in
+    last-row (s .args .work .now) (s .args .chains .now) _ _ (n .if1 .left) (c2 .chain-of .ensures .0) (a .at .ensures .0) (n2 .narrow .ensures) (n3 .narrow2 .ensures) (p .put-link .ensures) (search)
 
 pub chain-row-spec : {M : Type 1} → statement M
 chain-row-spec =
-    tie.close
-    (tie.spec
-    returns
-    chain-of-requires
-    at-requires
-    add-put-link
-    narrow-requires
-    put-link-requires
-    add-narrow
-    narrow-requires-2
-    put-link-requires-2
-    same-length
-    returns-2)
+    tie.close (tie.spec returns (λ c κs. search) (λ c κs. search) (λ c. search needs) (λ c κs. search) (λ c κs. search)
+    (λ c. search needs) (λ c κs. search needs) (λ c κs. search) (λ c. search) returns-2)

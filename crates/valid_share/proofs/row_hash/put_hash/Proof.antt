@@ -1,58 +1,23 @@
-use Prim.Native.Nat.{_+_, _*_}
+use Prim.Native.Nat.{_*_}
 use Rattle.valid_share.proofs.row_hash.Laws.{two}
 use borrow.Author.Needs.{needs}
 use Rattle.valid_share.proofs.row_hash.put_hash.Statement.{statement}
 use Rattle.valid_share.proofs.row_hash.put_hash.Tie as tie
 
-entry-requires : tie.Need-entry-requires
-entry-requires c κs = search needs
-
-entry-requires-2 : tie.Need-entry-requires-2
-entry-requires-2 c κs = search needs
-
-entry-requires-3 : tie.Need-entry-requires-3
-entry-requires-3 c κs = search needs
-
-row-hash-requires : tie.Need-row-hash-requires
-row-hash-requires c κs = search needs
-
-stack-power-requires : tie.Need-stack-power-requires
-stack-power-requires c κs = search needs
-
-mul-put : tie.Need-mul-put
-mul-put c = search needs
-
-put-requires : tie.Need-put-requires
-put-requires c κs = search needs
-
-mul-put-2 : tie.Need-mul-put-2
-mul-put-2 c = search needs
-
-add-put : tie.Need-add-put
-add-put c = search needs
-
-put-requires-2 : tie.Need-put-requires-2
-put-requires-2 c κs = search needs
-
-same-length : tie.Need-same-length
-same-length c = search needs
+abbrev start-of-work2 : tie.After-work2 → tie.Start
+start-of-work2 x = search
 
 returns : tie.Need-returns
-returns c = ((c .before .before .before .before .before .before .before .before .before .before .row-hash) .result, ((c .before .before .before .before .before .before .before .before .stack-power) .result, two (((c .before .before .before .before .before .before .before .before .before .before .before .before .before .before .before .before .before .before .before .args) .work) .now) (2 * ((c .before .before .before .before .before .before .before .before .before .before .before .before .before .before .before .before .before .before .before .args) .r)) ((c .before .before .before .before .before .before .before .before .before .before .row-hash) .result) (2 * ((c .before .before .before .before .before .before .before .before .before .before .before .before .before .before .before .before .before .before .before .args) .r) + 1) ((c .before .before .before .before .before .before .before .before .stack-power) .result) ((c .before .before .before .before .before .before .put) .ensures) ((c .before .before .put2) .ensures)))
+returns c =
+    let p2 : tie.After-put2 = search in
+    let p : tie.After-put = search in
+    let s : tie.After-stack-power = search in
+    let r2 : tie.After-row-hash = search in
+    let w : tie.After-work2 = search in
+    let s2 = start-of-work2 w in
+    (r2 .row-hash .result, (s .stack-power .result, two (s2 .args .work .now) (2 * (s2 .args .r)) (r2 .row-hash .result) _ _ (p .put .ensures) (p2 .put2 .ensures)))
 
 pub put-hash-spec : {M : Type 1} → statement M
 put-hash-spec =
-    tie.close
-    (tie.spec
-    entry-requires
-    entry-requires-2
-    entry-requires-3
-    row-hash-requires
-    stack-power-requires
-    mul-put
-    put-requires
-    mul-put-2
-    add-put
-    put-requires-2
-    same-length
-    returns)
+    tie.close (tie.spec (λ c κs. search needs) (λ c κs. search needs) (λ c κs. search needs) (λ c κs. search) (λ c κs. search)
+    (λ c. search needs) (λ c κs. search) (λ c. search needs) (λ c. search needs) (λ c κs. search) (λ c. search) returns)
