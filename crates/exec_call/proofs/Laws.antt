@@ -23,18 +23,36 @@ use Rattle.image.specs.Layout.{placesOf}
 use Rattle.image.proofs.Laws.{ordered, part-length, small, large, large-shared}
 use Rattle.text_decode.specs.store.Store.{storeIn}
 use Rattle.text_decode.proofs.AnswerLaws.{failed}
-use Rattle.exec_call.specs.Tries.{called, ranOn, Tries, PlanFits}
+use Rattle.exec_call.specs.Tries.{Called, RanOn, Tries, CalledIn, startingIn, continuingIn, PlanFits}
 
 -- ---- attempts
-pub tried : {R : Type 0} (got asked : Outcome) (after before : State) → got ≡ asked → (R → true ≡ true) × Tries true got asked after before
-tried got asked after before e = (λ r. refl, record { done = λ w. e; kept = λ w. absurd (true≢false w) })
+pub tried : {R : Type 0} {first : Bool} {text samples : List ℕ} {m : ℕ} {out : Outcome} {after before : State} → Called first text samples m before out
+    → (R → true ≡ true) × Tries true first text samples m out after before
+tried e = (λ r. refl, record { done = λ w. e; kept = λ w. absurd (true≢false w) })
 
-pub unfit : {R : Type 0} (got asked : Outcome) (before : State) (b : Bool) → (R → b ≡ true) → not b ≡ true → (R → false ≡ true) × Tries false got asked before before
-unfit got asked before b h e = (λ r. absurd (failed b h e r), record { done = λ w. absurd (true≢false (sym w)); kept = λ w. refl })
+pub unfit : {R : Type 0} {first : Bool} {text samples : List ℕ} {m : ℕ} {out : Outcome} {before : State} {b : Bool} → (R → b ≡ true) → not b ≡ true
+    → (R → false ≡ true) × Tries false first text samples m out before before
+unfit {b = b} h e = (λ r. absurd (failed b h e r), record { done = λ w. absurd (true≢false (sym w)); kept = λ w. refl })
+
+-- ---- with working memory lent
+module _ {long : Bool} {text samples : List ℕ} {m : ℕ} {σ : State} {out : Outcome} where
+  pub starting-in : CalledIn long true text samples m σ out → out ≡ startingIn long text samples m σ
+  starting-in k = by long refl
+    where
+      by : (b : Bool) → long ≡ b → out ≡ startingIn b text samples m σ
+      by true e = k .enough e .started refl
+      by false e = k .short e
+
+  pub continuing-in : CalledIn long false text samples m σ out → out ≡ continuingIn long text m σ
+  continuing-in k = by long refl
+    where
+      by : (b : Bool) → long ≡ b → out ≡ continuingIn b text m σ
+      by true e = k .enough e .continued refl
+      by false e = k .short e
 
 -- ---- one attempt
 
-module _ (text ι os ns β : List ℕ) (r : Ready) (d : ReadyIs text ι os ns β r) where
+module _ {text ι os ns β : List ℕ} {r : Ready} (d : ReadyIs text ι os ns β r) where
   refusal-is : (r .fault ≡ 0 → ⊥) → barred text ≡ some (record { number = r .fault; line = r .line; items = [] })
   refusal-is h = let e : eqb (r .fault) 0 ≡ false = ne-eqb (r .fault) 0 h in sym (d .fault) ∙ rw e refl
 
@@ -44,23 +62,27 @@ module _ (text ι os ns β : List ℕ) (r : Ready) (d : ReadyIs text ι os ns β
   pub unbarred : r .fault ≡ 0 → Unbarred (tables ι os ns β (r .instrs) (r .blocks))
   unbarred z = let k = d .startable z in record { text = text; args = k .args; free = none-is z; represents = k .represents }
 
-  module _ (m : ℕ) (σ : State) where
+  module _ {m : ℕ} {σ : State} {first : Bool} {samples : List ℕ} where
     -- a refusal
-    pub refused : (first : Bool) (samples : List ℕ) → (r .fault ≡ 0 → ⊥) → refuse σ (r .fault) (r .line) ≡ called first text samples m σ
+    pub refused : (r .fault ≡ 0 → ⊥) → Called first text samples m σ (refuse σ (r .fault) (r .line))
     unfolding starting continuing
-    refused true samples h = sym (ap (λ (o : Option Refusal). startUnless o (programOf text) (samplesOf samples) m σ) (refusal-is h))
-    refused false samples h = sym (ap (λ (o : Option Refusal). continueUnless o (programOf text) m σ) (refusal-is h))
+    refused h = record {
+      started = λ e. sym (ap (λ (o : Option Refusal). startUnless o (programOf text) (samplesOf samples) m σ) (refusal-is h));
+      continued = λ e. sym (ap (λ (o : Option Refusal). continueUnless o (programOf text) m σ) (refusal-is h));
+    }
 
     -- a run
-    none-bars : (first : Bool) (samples : List ℕ) → r .fault ≡ 0 → ranOn first (programOf text) (samplesOf samples) m σ ≡ called first text samples m σ
+    pub ran : r .fault ≡ 0 → {out : Outcome}
+        → ((args : List ℕ) (P : Program) → Represents (tables ι os ns β (r .instrs) (r .blocks)) args (bodies P) → r .samples ≡ wanted (P .blocks) → RanOn first P (samplesOf samples) m σ out)
+        → Called first text samples m σ out
     unfolding starting continuing
-    none-bars true samples z = sym (ap (λ (o : Option Refusal). startUnless o (programOf text) (samplesOf samples) m σ) (none-is z))
-    none-bars false samples z = sym (ap (λ (o : Option Refusal). continueUnless o (programOf text) m σ) (none-is z))
-
-    pub ran : (first : Bool) (samples : List ℕ) (z : r .fault ≡ 0) (out : Outcome)
-        → ((args : List ℕ) (P : Program) → Represents (tables ι os ns β (r .instrs) (r .blocks)) args (bodies P) → r .samples ≡ wanted (P .blocks) → out ≡ ranOn first P (samplesOf samples) m σ)
-        → out ≡ called first text samples m σ
-    ran first samples z out f = let k = d .startable z in f (k .args) (programOf text) (k .represents) (k .samples) ∙ none-bars first samples z
+    ran z f =
+        let k = d .startable z in
+        let h = f (k .args) (programOf text) (k .represents) (k .samples) in
+        record {
+          started = λ e. h .started e ∙ sym (ap (λ (o : Option Refusal). startUnless o (programOf text) (samplesOf samples) m σ) (none-is z));
+          continued = λ e. h .continued e ∙ sym (ap (λ (o : Option Refusal). continueUnless o (programOf text) m σ) (none-is z));
+        }
 
 -- ---- a plan that is as long as the layouts want
 pub plan-small : (i p : ℕ) → 4423 ≤ i → i < 5162 → 712 ≤ p → PlanFits i p

@@ -14,16 +14,19 @@ use Rattle.image.specs.Layout.{placesOf}
 use Rattle.exec_machine.specs.Step.{Tables, tables}
 use Rattle.exec_ready.specs.declared.Ready.{Ready}
 
--- a start, or to go on
-abbrev pub called : Bool → List ℕ → List ℕ → ℕ → State → Outcome
-called first text samples m σ = cond first (starting text samples m σ) (continuing text m σ)
+-- the answer to a call: of a start, or of going on
+pub record Called (first : Bool) (text samples : List ℕ) (m : ℕ) (σ : State) (out : Outcome) : Type 0 where
+  pub started : first ≡ true → out ≡ starting text samples m σ
+  pub continued : first ≡ false → out ≡ continuing text m σ
 
 -- the same, where nothing bars the program
-abbrev pub ranOn : Bool → Program → Option (List ℕ) → ℕ → State → Outcome
-ranOn first P xs m σ = cond first (startOn P xs m σ) (continueUnless none P m σ)
+pub record RanOn (first : Bool) (P : Program) (xs : Option (List ℕ)) (m : ℕ) (σ : State) (out : Outcome) : Type 0 where
+  pub started : first ≡ true → out ≡ startOn P xs m σ
+  pub continued : first ≡ false → out ≡ continueUnless none P m σ
 
-pub record Tries (fits : Bool) (got asked : Outcome) (after before : State) : Type 0 where
-  pub done : fits ≡ true → got ≡ asked
+-- an attempt, from a state to the one after it
+pub record Tries (fits first : Bool) (text samples : List ℕ) (m : ℕ) (out : Outcome) (after before : State) : Type 0 where
+  pub done : fits ≡ true → Called first text samples m before out
   pub kept : fits ≡ false → after ≡ before
 
 -- ---- in working memory
@@ -35,9 +38,10 @@ tablesIn p image numbers r = tables (instrSection p image) (operandSection p ima
 abbrev pub PlanFits : ℕ → ℕ → Type 0
 PlanFits image plan = placesOf image .parts - placesOf image .instrs + 8 ≤ plan
 
--- a start, or to go on, with working memory lent: 16, line 0, where it is too short, before anything else
-abbrev pub calledIn : Bool → Bool → List ℕ → List ℕ → ℕ → State → Outcome
-calledIn long first text samples m σ = cond long (called first text samples m σ) (refuse σ 16 0)
+-- the answer to a call with working memory lent: 16, line 0, where it is too short, before anything else
+pub record CalledIn (long first : Bool) (text samples : List ℕ) (m : ℕ) (σ : State) (out : Outcome) : Type 0 where
+  pub enough : long ≡ true → Called first text samples m σ out
+  pub short : long ≡ false → out ≡ refuse σ 16 0
 
 -- the same, each by itself
 abbrev pub startingIn : Bool → List ℕ → List ℕ → ℕ → State → Outcome

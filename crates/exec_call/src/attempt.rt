@@ -6,7 +6,7 @@
 ghost use mathlib.Core.Path.{_≡_};
 ghost use Rattle.exec_machine.specs.Step.{stateOf};
 ghost use Rattle.exec_outcome.specs.Answers.{outcomeIs};
-ghost use Rattle.exec_call.specs.Tries.{called, Tries};
+ghost use Rattle.exec_call.specs.Tries.{Called, Tries};
 use crate::Tried;
 use crate::call_in;
 use exec_machine::Place;
@@ -27,7 +27,7 @@ fn small(
     hn: &mut [u32],
     place: Place,
 ) -> Tried
-    ensures { λ r. ⌜ Tries (r .fits) (outcomeIs (r .outcome) (now (rk .exit)) (now (rn .exit)) (now (sk .exit)) (now (sn .exit)) (now (hk .exit)) (now (hn .exit))) (called first (now (text .entry)) (now (samples .entry)) budget (stateOf (now (rk .entry)) (now (rn .entry)) (now (sk .entry)) (now (sn .entry)) (now (hk .entry)) (now (hn .entry)) place)) (stateOf (now (rk .exit)) (now (rn .exit)) (now (sk .exit)) (now (sn .exit)) (now (hk .exit)) (now (hn .exit)) place) (stateOf (now (rk .entry)) (now (rn .entry)) (now (sk .entry)) (now (sn .entry)) (now (hk .entry)) (now (hn .entry)) place) ⌝ }
+    ensures { λ r. ⌜ Tries (r .fits) first (now (text .entry)) (now (samples .entry)) budget (outcomeIs (r .outcome) (now (rk .exit)) (now (rn .exit)) (now (sk .exit)) (now (sn .exit)) (now (hk .exit)) (now (hn .exit))) (stateOf (now (rk .exit)) (now (rn .exit)) (now (sk .exit)) (now (sn .exit)) (now (hk .exit)) (now (hn .exit)) place) (stateOf (now (rk .entry)) (now (rn .entry)) (now (sk .entry)) (now (sn .entry)) (now (hk .entry)) (now (hn .entry)) place) ⌝ }
 {
     if 9223372036854775807 < text.len() {
         return small(first, text, samples, budget, rk, rn, sk, sn, hk, hn, place);
@@ -68,7 +68,7 @@ fn large(
     hn: &mut [u32],
     place: Place,
 ) -> Outcome
-    ensures { λ r. ⌜ outcomeIs r (now (rk .exit)) (now (rn .exit)) (now (sk .exit)) (now (sn .exit)) (now (hk .exit)) (now (hn .exit)) ≡ called first (now (text .entry)) (now (samples .entry)) budget (stateOf (now (rk .entry)) (now (rn .entry)) (now (sk .entry)) (now (sn .entry)) (now (hk .entry)) (now (hn .entry)) place) ⌝ }
+    ensures { λ r. ⌜ Called first (now (text .entry)) (now (samples .entry)) budget (stateOf (now (rk .entry)) (now (rn .entry)) (now (sk .entry)) (now (sn .entry)) (now (hk .entry)) (now (hn .entry)) place) (outcomeIs r (now (rk .exit)) (now (rn .exit)) (now (sk .exit)) (now (sn .exit)) (now (hk .exit)) (now (hn .exit))) ⌝ }
 {
     let mut image = [0u16; 150900];
     let mut numbers = [0u32; 16400];
@@ -109,7 +109,7 @@ pub fn call(
     hn: &mut [u32],
     place: Place,
 ) -> Outcome
-    ensures { λ r. ⌜ outcomeIs r (now (rk .exit)) (now (rn .exit)) (now (sk .exit)) (now (sn .exit)) (now (hk .exit)) (now (hn .exit)) ≡ called first (now (text .entry)) (now (samples .entry)) budget (stateOf (now (rk .entry)) (now (rn .entry)) (now (sk .entry)) (now (sn .entry)) (now (hk .entry)) (now (hn .entry)) place) ⌝ }
+    ensures { λ r. ⌜ Called first (now (text .entry)) (now (samples .entry)) budget (stateOf (now (rk .entry)) (now (rn .entry)) (now (sk .entry)) (now (sn .entry)) (now (hk .entry)) (now (hn .entry)) place) (outcomeIs r (now (rk .exit)) (now (rn .exit)) (now (sk .exit)) (now (sn .exit)) (now (hk .exit)) (now (hn .exit))) ⌝ }
 {
     if 2048 < text.len() {
         return large(first, text, samples, budget, rk, rn, sk, sn, hk, hn, place);

@@ -9,7 +9,7 @@ ghost use lib.ListN.{length};
 ghost use Rattle.exec_machine.specs.Step.{stateOf};
 ghost use Rattle.exec_outcome.specs.Answers.{outcomeIs};
 ghost use Rattle.image.specs.Enough.{enough, Left};
-ghost use Rattle.exec_call.specs.Tries.{calledIn};
+ghost use Rattle.exec_call.specs.Tries.{CalledIn};
 use crate::call_in;
 use exec_machine::Place;
 use exec_outcome::Outcome;
@@ -31,7 +31,7 @@ pub fn call(
     hn: &mut [u32],
     place: Place,
 ) -> Outcome
-    ensures { λ r. ⌜ (outcomeIs r (now (rk .exit)) (now (rn .exit)) (now (sk .exit)) (now (sn .exit)) (now (hk .exit)) (now (hn .exit)) ≡ calledIn (enough (length (now (image .entry))) (length (now (numbers .entry))) (length (now (plan .entry)))) first (now (text .entry)) (now (samples .entry)) budget (stateOf (now (rk .entry)) (now (rn .entry)) (now (sk .entry)) (now (sn .entry)) (now (hk .entry)) (now (hn .entry)) place)) × Left {A = List ℕ × List ℕ × List ℕ} (enough (length (now (image .entry))) (length (now (numbers .entry))) (length (now (plan .entry)))) (now (image .entry), now (numbers .entry), now (plan .entry)) (now (image .exit), now (numbers .exit), now (plan .exit)) ⌝ }
+    ensures { λ r. ⌜ CalledIn (enough (length (now (image .entry))) (length (now (numbers .entry))) (length (now (plan .entry)))) first (now (text .entry)) (now (samples .entry)) budget (stateOf (now (rk .entry)) (now (rn .entry)) (now (sk .entry)) (now (sn .entry)) (now (hk .entry)) (now (hn .entry)) place) (outcomeIs r (now (rk .exit)) (now (rn .exit)) (now (sk .exit)) (now (sn .exit)) (now (hk .exit)) (now (hn .exit))) × Left {A = List ℕ × List ℕ × List ℕ} (enough (length (now (image .entry))) (length (now (numbers .entry))) (length (now (plan .entry)))) (now (image .entry), now (numbers .entry), now (plan .entry)) (now (image .exit), now (numbers .exit), now (plan .exit)) ⌝ }
 {
     if !image::lent::is_enough(image.len(), numbers.len(), plan.len()) {
         return exec_outcome::refuse(16, 0, place);

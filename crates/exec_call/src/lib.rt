@@ -10,18 +10,18 @@ pub mod lent;
 ghost use mathlib.Core.Path.{_≡_};
 ghost use mathlib.Core.Bool.{true};
 ghost use mathlib.Core.List.{List};
-ghost use Prim.Native.Nat.{ℕ, _+_, _*_, _≤_};
+ghost use Prim.Native.Nat.{ℕ, _≤_};
 ghost use lib.ListN.{length};
 ghost use Rattle.text.specs.Samples.{samplesOf};
 ghost use Rattle.valid.specs.Program.{Program};
 ghost use Rattle.exec.specs.Run.{bodies, wanted};
 ghost use Rattle.image.specs.Sections.{Ordered};
 ghost use Rattle.exec_machine.specs.Step.{stateOf};
-ghost use Rattle.exec_machine.specs.Represents.{Represents, Fit};
+ghost use Rattle.exec_machine.specs.Represents.{Represents};
 ghost use Rattle.load.specs.Loaded.{SpaceIn};
 ghost use Rattle.exec_outcome.specs.Answers.{outcomeIs};
-ghost use Rattle.exec_launch.specs.Startable.{Unbarred};
-ghost use Rattle.exec_call.specs.Tries.{tablesIn, PlanFits, called, ranOn, Tries};
+ghost use Rattle.exec_launch.specs.Startable.{Launchable};
+ghost use Rattle.exec_call.specs.Tries.{tablesIn, PlanFits, RanOn, Tries};
 use exec_machine::Place;
 use exec_outcome::Outcome;
 use exec_ready::Ready;
@@ -51,8 +51,8 @@ fn run_in(
     hn: &mut [u32],
     place: Place,
 ) -> Outcome
-    requires { ⌜ Ordered p (length (now image)) × (r .samples ≤ 16) × Fit (tablesIn p (now image) (now numbers) r) × (8 * r .instrs + 8 ≤ length (now plan)) × Unbarred (tablesIn p (now image) (now numbers) r) ⌝ }
-    ensures { λ out. ⌜ ((args : List ℕ) (P : Program) → Represents (tablesIn p (now (image .entry)) (now (numbers .entry)) r) args (bodies P) → r .samples ≡ wanted (P .blocks) → outcomeIs out (now (rk .exit)) (now (rn .exit)) (now (sk .exit)) (now (sn .exit)) (now (hk .exit)) (now (hn .exit)) ≡ ranOn first P (samplesOf (now (samples .entry))) budget (stateOf (now (rk .entry)) (now (rn .entry)) (now (sk .entry)) (now (sn .entry)) (now (hk .entry)) (now (hn .entry)) place)) ⌝ }
+    requires { ⌜ Ordered p (length (now image)) × (r .samples ≤ 16) × Launchable (tablesIn p (now image) (now numbers) r) (now plan) ⌝ }
+    ensures { λ out. ⌜ ((args : List ℕ) (P : Program) → Represents (tablesIn p (now (image .entry)) (now (numbers .entry)) r) args (bodies P) → r .samples ≡ wanted (P .blocks) → RanOn first P (samplesOf (now (samples .entry))) budget (stateOf (now (rk .entry)) (now (rn .entry)) (now (sk .entry)) (now (sn .entry)) (now (hk .entry)) (now (hn .entry)) place) (outcomeIs out (now (rk .exit)) (now (rn .exit)) (now (sk .exit)) (now (sn .exit)) (now (hk .exit)) (now (hn .exit)))) ⌝ }
 {
     let blocks = p.blocks;
     let instrs = p.instrs;
@@ -117,7 +117,7 @@ pub(crate) fn call_in(
     place: Place,
 ) -> Tried
     requires { ⌜ PlanFits (length (now image)) (length (now plan)) ⌝ }
-    ensures { λ r. ⌜ (SpaceIn (now (image .entry)) (now (numbers .entry)) → r .fits ≡ true) × Tries (r .fits) (outcomeIs (r .outcome) (now (rk .exit)) (now (rn .exit)) (now (sk .exit)) (now (sn .exit)) (now (hk .exit)) (now (hn .exit))) (called first (now (text .entry)) (now (samples .entry)) budget (stateOf (now (rk .entry)) (now (rn .entry)) (now (sk .entry)) (now (sn .entry)) (now (hk .entry)) (now (hn .entry)) place)) (stateOf (now (rk .exit)) (now (rn .exit)) (now (sk .exit)) (now (sn .exit)) (now (hk .exit)) (now (hn .exit)) place) (stateOf (now (rk .entry)) (now (rn .entry)) (now (sk .entry)) (now (sn .entry)) (now (hk .entry)) (now (hn .entry)) place) ⌝ }
+    ensures { λ r. ⌜ (SpaceIn (now (image .entry)) (now (numbers .entry)) → r .fits ≡ true) × Tries (r .fits) first (now (text .entry)) (now (samples .entry)) budget (outcomeIs (r .outcome) (now (rk .exit)) (now (rn .exit)) (now (sk .exit)) (now (sn .exit)) (now (hk .exit)) (now (hn .exit))) (stateOf (now (rk .exit)) (now (rn .exit)) (now (sk .exit)) (now (sn .exit)) (now (hk .exit)) (now (hn .exit)) place) (stateOf (now (rk .entry)) (now (rn .entry)) (now (sk .entry)) (now (sn .entry)) (now (hk .entry)) (now (hn .entry)) place) ⌝ }
 {
     let r = exec_ready::make_ready(text, image, numbers);
     if !r.fits {

@@ -15,8 +15,8 @@ use Rattle.calls.proofs.Kept.{handle-fits}
 use Rattle.calls.proofs.GoodForm.{WellFormed, first-form, run-form}
 use Rattle.exec_machine.specs.declared.Place.{Place}
 use Rattle.exec_machine.specs.Step.{Tables, stateOf}
-use Rattle.exec_step.specs.moved.Stepped.{Inside}
-use Rattle.exec_run.specs.Runs.{Safe}
+use Rattle.exec_step.specs.moved.Stepped.{Words, Inside}
+use Rattle.exec_run.specs.Runs.{Safe, PlaceIn}
 use Rattle.exec_launch.specs.Startable.{Unbarred}
 use Rattle.exec_launch.proofs.Laws.{not-no, flat-length}
 
@@ -38,20 +38,13 @@ module _ (rk rn sk sn hk hn : List ℕ) (p : Place) where
   abbrev σ : State
   σ = stateOf rk rn sk sn hk hn p
 
-  -- words as many as the limits
-  abbrev pub Enough : Type 0
-  Enough = (8 ≤ length rk) × (8 ≤ length rn) × (256 ≤ length sk) × (256 ≤ length sn) × (2048 ≤ length hk) × (2048 ≤ length hn)
-
-  enough : longEnough σ ≡ true → Enough
+  enough : longEnough σ ≡ true → Words rk rn sk sn hk hn
   enough e =
       let l = true-long σ e in
-      let r = l .0 in
-      let s = l .1 in
-      let h = l .2 in
-      (omega arith, omega arith, omega arith, omega arith, omega arith, omega arith)
+      omega arith
 
   -- what `long_enough` answers
-  pub starts-enough : (t : Bool) → t ≡ longEnough σ → not t ≡ false → Enough
+  pub starts-enough : (t : Bool) → t ≡ longEnough σ → not t ≡ false → Words rk rn sk sn hk hn
   starts-enough t et h = enough (sym et ∙ not-no t h)
 
   -- what `good_form` answers
@@ -65,27 +58,26 @@ module _ (rk rn sk sn hk hn : List ℕ) (p : Place) where
     formed : WellFormed (u .text) σ
     formed = let b = and-inv (longEnough σ) (goodForm P σ) (sym (et P count-is) ∙ not-no t h) in (b .1, b .0)
 
-    pub resumes-enough : Enough
+    pub resumes-enough : Words rk rn sk sn hk hn
     resumes-enough = enough (formed .1)
 
-    pub resumes-place : (p .depth ≤ 256) × (p .used ≤ 2048) × (p .position ≤ T .count)
+    pub resumes-place : PlaceIn p (T .count)
     resumes-place =
         let f = to-form P σ (formed .1) (formed .0) in
-        let l = f .position in
         let e = count-is in
-        (f .depth, f .used, omega arith)
+        record { depth = f .depth; used = f .used; position = omega arith }
 
     pub resumes-safe : Safe T σ
     resumes-safe = safe-from T u σ formed
 
 -- ---- at the start
-pub starts-place : (xs : List ℕ) (τ : State) (rk rn sk sn hk hn : List ℕ) (p : Place) (n : ℕ) → stateOf rk rn sk sn hk hn p ≡ initial xs τ → length xs ≤ 16 → (p .depth ≤ 256) × (p .used ≤ 2048) × (p .position ≤ n)
+pub starts-place : (xs : List ℕ) (τ : State) (rk rn sk sn hk hn : List ℕ) (p : Place) (n : ℕ) → stateOf rk rn sk sn hk hn p ≡ initial xs τ → length xs ≤ 16 → PlaceIn p n
 unfolding initial
 starts-place xs τ rk rn sk sn hk hn p n e h =
     let d : p .depth ≡ 0 = ap (λ (x : State). x .depth) e in
     let u : p .used ≡ suc (length xs) = ap (λ (x : State). x .used) e in
     let z : p .position ≡ 0 = ap (λ (x : State). x .position) e in
-    (omega arith, omega arith, omega arith)
+    omega arith
 
 pub starts-safe : (T : Tables) → Unbarred T → (xs : List ℕ) → length xs ≤ 16 → (τ : State) (t : Bool) → t ≡ longEnough τ → not t ≡ false → {σ : State} → σ ≡ initial xs τ → Safe T σ
 starts-safe T u xs l τ t et h e = subst (Safe T) (sym e) (safe-from T u (initial xs τ) (first-form (u .text) (u .free) xs l τ (sym et ∙ not-no t h)))

@@ -7,17 +7,17 @@
 ghost use mathlib.Core.Path.{_≡_};
 ghost use mathlib.Core.List.{List};
 ghost use mathlib.Core.Option.{none};
-ghost use Prim.Native.Nat.{ℕ, _+_, _*_, _≤_};
-ghost use lib.ListN.{length};
+ghost use Prim.Native.Nat.{ℕ, _≤_};
 ghost use Rattle.text.specs.Samples.{samplesOf};
 ghost use Rattle.valid.specs.Program.{Program};
 ghost use Rattle.exec.specs.Machine.{Bodies};
 ghost use Rattle.exec.specs.Run.{outcome, run, budget, bodies, wanted, startOn, continueUnless};
 ghost use Rattle.exec_machine.specs.Step.{tables, stateOf};
-ghost use Rattle.exec_machine.specs.Represents.{Represents, Fit};
-ghost use Rattle.exec_run.specs.Runs.{Safe};
+ghost use Rattle.exec_machine.specs.Represents.{Represents};
+ghost use Rattle.exec_step.specs.moved.Stepped.{Words};
+ghost use Rattle.exec_run.specs.Runs.{Safe, Roomy, PlaceIn};
 ghost use Rattle.exec_outcome.specs.Answers.{outcomeIs};
-ghost use Rattle.exec_launch.specs.Startable.{Unbarred};
+ghost use Rattle.exec_launch.specs.Startable.{Launchable};
 use exec_machine::Place;
 use exec_outcome::Outcome;
 use exec_outcome::capped;
@@ -42,7 +42,7 @@ fn run_from(
     p: Place,
     m: usize,
 ) -> Outcome
-    requires { ⌜ Fit (tables (now instrs) (now operands) (now bases) (now blocks) count labels) × (8 * count + 8 ≤ length (now plan)) × (8 ≤ length (now rk)) × (8 ≤ length (now rn)) × (256 ≤ length (now sk)) × (256 ≤ length (now sn)) × (2048 ≤ length (now hk)) × (2048 ≤ length (now hn)) × (p .depth ≤ 256) × (p .used ≤ 2048) × (p .position ≤ count) × Safe (tables (now instrs) (now operands) (now bases) (now blocks) count labels) (stateOf (now rk) (now rn) (now sk) (now sn) (now hk) (now hn) p) ⌝ }
+    requires { ⌜ Roomy (tables (now instrs) (now operands) (now bases) (now blocks) count labels) (now plan) × Words (now rk) (now rn) (now sk) (now sn) (now hk) (now hn) × PlaceIn p count × Safe (tables (now instrs) (now operands) (now bases) (now blocks) count labels) (stateOf (now rk) (now rn) (now sk) (now sn) (now hk) (now hn) p) ⌝ }
     ensures { λ r. ⌜ ((args : List ℕ) (P : Bodies) → Represents (tables (now (instrs .entry)) (now (operands .entry)) (now (bases .entry)) (now (blocks .entry)) count labels) args P → outcomeIs r (now (rk .exit)) (now (rn .exit)) (now (sk .exit)) (now (sn .exit)) (now (hk .exit)) (now (hn .exit)) ≡ outcome (run P (budget m) (stateOf (now (rk .entry)) (now (rn .entry)) (now (sk .entry)) (now (sn .entry)) (now (hk .entry)) (now (hn .entry)) p))) ⌝ }
 {
     let ran = exec_run::run(
@@ -85,7 +85,7 @@ pub fn start_ready(
     place: Place,
     m: usize,
 ) -> Outcome
-    requires { ⌜ (want ≤ 16) × Fit (tables (now instrs) (now operands) (now bases) (now blocks) count labels) × (8 * count + 8 ≤ length (now plan)) × Unbarred (tables (now instrs) (now operands) (now bases) (now blocks) count labels) ⌝ }
+    requires { ⌜ (want ≤ 16) × Launchable (tables (now instrs) (now operands) (now bases) (now blocks) count labels) (now plan) ⌝ }
     ensures { λ r. ⌜ ((args : List ℕ) (P : Program) → Represents (tables (now (instrs .entry)) (now (operands .entry)) (now (bases .entry)) (now (blocks .entry)) count labels) args (bodies P) → want ≡ wanted (P .blocks) → outcomeIs r (now (rk .exit)) (now (rn .exit)) (now (sk .exit)) (now (sn .exit)) (now (hk .exit)) (now (hn .exit)) ≡ startOn P (samplesOf (now (samples .entry))) m (stateOf (now (rk .entry)) (now (rn .entry)) (now (sk .entry)) (now (sn .entry)) (now (hk .entry)) (now (hn .entry)) place)) ⌝ }
 {
     let mut xs = [0u32; 16];
@@ -133,7 +133,7 @@ pub fn resume_ready(
     place: Place,
     m: usize,
 ) -> Outcome
-    requires { ⌜ Fit (tables (now instrs) (now operands) (now bases) (now blocks) count labels) × (8 * count + 8 ≤ length (now plan)) × Unbarred (tables (now instrs) (now operands) (now bases) (now blocks) count labels) ⌝ }
+    requires { ⌜ Launchable (tables (now instrs) (now operands) (now bases) (now blocks) count labels) (now plan) ⌝ }
     ensures { λ r. ⌜ ((args : List ℕ) (P : Program) → Represents (tables (now (instrs .entry)) (now (operands .entry)) (now (bases .entry)) (now (blocks .entry)) count labels) args (bodies P) → outcomeIs r (now (rk .exit)) (now (rn .exit)) (now (sk .exit)) (now (sn .exit)) (now (hk .exit)) (now (hn .exit)) ≡ continueUnless none P m (stateOf (now (rk .entry)) (now (rn .entry)) (now (sk .entry)) (now (sn .entry)) (now (hk .entry)) (now (hn .entry)) place)) ⌝ }
 {
     if !exec_state::good_form::good_form(count, rk, rn, sk, sn, hk, hn, place) {

@@ -92,4 +92,30 @@ module _ (ι : List ℕ) (ω : OperandTable) (j : ℕ) where
   unfolding instrAt
   is-halt h =
       let no : (m : ℕ) → m < 22 → eqb code m ≡ false = λ m l. ne-eqb code m (λ e. omega arith) in
-      simp (no 0 (omega arith), no 1 (omega arith), no 2 (omega arith), no 3 (omega arith), no 4 (omega arith), no 5 (omega arith), no 6 (omega arith), no 7 (omega arith), no 8 (omega arith), no 9 (omega arith), no 10 (omega arith), no 11 (omega arith), no 12 (omega arith), no 13 (omega arith), no 14 (omega arith), no 15 (omega arith), no 16 (omega arith), no 17 (omega arith), no 18 (omega arith), no 19 (omega arith), no 20 (omega arith), no 21 (omega arith))
+      simp (
+        no 0 (omega arith),
+        no 1 (omega arith),
+        no 2 (omega arith),
+        no 3 (omega arith),
+        no 4 (omega arith),
+        no 5 (omega arith),
+        no 6
+            (omega arith),
+        no 7 (omega arith),
+        no 8 (omega arith),
+        no 9 (omega arith),
+        no 10 (omega arith),
+        no 11 (omega arith),
+        no 12
+            (omega arith),
+        no 13 (omega arith),
+        no 14 (omega arith),
+        no 15 (omega arith),
+        no 16 (omega arith),
+        no 17 (omega arith),
+        no 18
+            (omega arith),
+        no 19 (omega arith),
+        no 20 (omega arith),
+        no 21 (omega arith),
+      )

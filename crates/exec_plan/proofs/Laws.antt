@@ -171,7 +171,9 @@ pub goal-is : {b d : Bool} (c : Bool) (t s : ℕ) {r : ℕ} → b ≡ d → b �
 goal-is c t s e q h = h ∙ ap (λ (x : Bool). 8 * cond x t s) (sym q ∙ e)
 
 -- ---- rows in the table
-pub eight : (s : List ℕ) (p a b c d e f g h : ℕ) {s1 s2 s3 s4 s5 s6 s7 s8 : List ℕ} → s1 ≡ set s p a → s2 ≡ set s1 (p + 1) b → s3 ≡ set s2 (p + 2) c → s4 ≡ set s3 (p + 3) d → s5 ≡ set s4 (p + 4) e → s6 ≡ set s5 (p + 5) f → s7 ≡ set s6 (p + 6) g → s8 ≡ set s7 (p + 7) h → s8 ≡ putRow s p (a ∷ b ∷ c ∷ d ∷ e ∷ f ∷ g ∷ h ∷ [])
+pub eight : (s : List ℕ) (p a b c d e f g h : ℕ) {s1 s2 s3 s4 s5 s6 s7 s8 : List ℕ} → s1 ≡ set s p a → s2 ≡ set s1 (p + 1) b
+    → s3 ≡ set s2 (p + 2) c → s4 ≡ set s3 (p + 3) d → s5 ≡ set s4 (p + 4) e → s6 ≡ set s5 (p + 5) f → s7 ≡ set s6 (p + 6) g
+    → s8 ≡ set s7 (p + 7) h → s8 ≡ putRow s p (a ∷ b ∷ c ∷ d ∷ e ∷ f ∷ g ∷ h ∷ [])
 unfolding putRow
 eight s p a b c d e f g h e1 e2 e3 e4 e5 e6 e7 e8 =
     let q1 : p + 1 ≡ suc p = omega arith in
@@ -246,7 +248,10 @@ module _ (T : Tables) where
       behind k hk = ap (λ (s : List ℕ). getD s (8 * T .count + k) 0) e ∙ in-row φ (8 * T .count) stuckRow k l hk
 
 -- ---- the row that the function makes, from what it reads
-module _ (ι os bs β : List ℕ) (l j : ℕ) {code a b c v m kind n label t o q raw : ℕ} (ek : code ≡ cell 8 ι j 0) (ea : a ≡ cell 8 ι j 1) (eb : b ≡ cell 8 ι j 2) (ec : c ≡ cell 8 ι j 3) (ev : v ≡ cell 8 ι j 5) (em : m ≡ cell 8 ι j 6) (er : raw ≡ cell 4 os v 0) (eo : kind ≡ cond (ltb raw 2) raw 2) (en : n ≡ getD bs v 0) (el : label ≡ n) (et : t ≡ cell 2 β label 1) (eb3 : o ≡ code - 3) (eq1 : q ≡ kind - 1) where
+module _ (ι os bs β : List ℕ) (l j : ℕ) {code a b c v m kind n label t o q raw : ℕ} (ek : code ≡ cell 8 ι j 0) (ea : a ≡ cell 8 ι j 1)
+    (eb : b ≡ cell 8 ι j 2) (ec : c ≡ cell 8 ι j 3) (ev : v ≡ cell 8 ι j 5) (em : m ≡ cell 8 ι j 6) (er : raw ≡ cell 4 os v 0)
+    (eo : kind ≡ cond (ltb raw 2) raw 2) (en : n ≡ getD bs v 0) (el : label ≡ n) (et : t ≡ cell 2 β label 1) (eb3 : o ≡ code - 3)
+    (eq1 : q ≡ kind - 1) where
   number-of : n ≡ getD bs (cell 8 ι j 5) 0
   number-of = en ∙ ap (λ (i : ℕ). getD bs i 0) ev
 
@@ -287,7 +292,12 @@ module _ (ι os bs β : List ℕ) (l j : ℕ) {code a b c v m kind n label t o q
     unfolding goalAt
     goal-of x h = h ∙ ap₂ (λ (k s : ℕ). 8 * cond (taken (branchOf k) (signOf x)) s (j + 1)) branch-of target-of
 
-    pub row-is : {k0 k1 k2 x y z g f nf nx ny nz r p0 p1 p2 p5 : ℕ} → k0 ≡ getD (getD columns code []) 0 0 → x ≡ chosen k0 a b c t v o q → k1 ≡ getD (getD columns code []) 1 0 → y ≡ chosen k1 a b c t v o q → k2 ≡ getD (getD columns code []) 2 0 → z ≡ chosen k2 a b c t v o q → g ≡ getD (getD forms code halts) kind 24 → f ≡ kept g label l → nf ≡ classOf f → nx ≡ x → ny ≡ y → nz ≡ z → r ≡ lastOf code kind m n → p0 ≡ 8 * cond (taken (branchOf o) (signOf 2147483648)) t (j + 1) → p5 ≡ fifthOf f p0 → p1 ≡ 8 * cond (taken (branchOf o) (signOf 0)) t (j + 1) → p2 ≡ 8 * cond (taken (branchOf o) (signOf 1)) t (j + 1) → (nf ∷ nx ∷ ny ∷ nz ∷ r ∷ p5 ∷ p1 ∷ p2 ∷ []) ≡ rowOf T0 j
+    pub row-is : {k0 k1 k2 x y z g f nf nx ny nz r p0 p1 p2 p5 : ℕ} → k0 ≡ getD (getD columns code []) 0 0 → x ≡ chosen k0 a b c t v o q
+        → k1 ≡ getD (getD columns code []) 1 0 → y ≡ chosen k1 a b c t v o q → k2 ≡ getD (getD columns code []) 2 0 → z ≡ chosen k2 a b c
+        t v o q → g ≡ getD (getD forms code halts) kind 24 → f ≡ kept g label l → nf ≡ classOf f → nx ≡ x → ny ≡ y → nz ≡ z
+        → r ≡ lastOf code kind m n → p0 ≡ 8 * cond (taken (branchOf o) (signOf 2147483648)) t (j + 1) → p5 ≡ fifthOf f p0 → p1 ≡ 8 * cond
+        (taken (branchOf o) (signOf 0)) t (j + 1) → p2 ≡ 8 * cond (taken (branchOf o) (signOf 1)) t (j + 1)
+        → (nf ∷ nx ∷ ny ∷ nz ∷ r ∷ p5 ∷ p1 ∷ p2 ∷ []) ≡ rowOf T0 j
     unfolding rowOf goalIn
     row-is e0 ex e1 ey e2 ez eg ef qf qx qy qz er g0 q5 g1 g2 =
         λ i. (qf ∙ ap classOf (form-of eg ef)) i ∷ (qx ∙ column-of 0 e0 ex) i ∷ (qy ∙ column-of 1 e1 ey) i ∷ (qz ∙ column-of 2 e2 ez) i ∷ last-is er i ∷ (q5 ∙ ap₂ fifthOf (form-of eg ef) (goal-of 2147483648 g0)) i ∷ goal-of 0 g1 i ∷ goal-of 1 g2 i ∷ []

@@ -501,7 +501,9 @@ module _ (T : Tables) (σ : State) (h : σ .position < T .count) {f x y z n p : 
         let m = names _ (is-arith ι (operandsOf T) j c e hc) in
         (low x (cell 8 ι j 1) (first c hc e rc) (m .0), low y (cell 8 ι j 2) (second c hc e rc) (m .1), operand-read c e q (m .2) r1 r2)
 
-    branch-low : (c : ℕ) → 3 ≤ c → c < 9 → code ≡ c → ((k : ℕ) → lastOf c k (countAt T j) number ≡ number) → getD forms c halts ≡ 21 ∷ 22 ∷ 4 ∷ [] → getD columns c [] ≡ 1 ∷ 6 ∷ 0 ∷ [] → readsOperand (getD (getD forms c halts) 1 24) ≡ false → readsOperand (getD (getD forms c halts) 2 24) ≡ false → Low
+    branch-low : (c : ℕ) → 3 ≤ c → c < 9 → code ≡ c → ((k : ℕ) → lastOf c k (countAt T j) number ≡ number) → getD forms c
+        halts ≡ 21 ∷ 22 ∷ 4 ∷ [] → getD columns c [] ≡ 1 ∷ 6 ∷ 0 ∷ [] → readsOperand (getD (getD forms c halts) 1 24) ≡ false
+        → readsOperand (getD (getD forms c halts) 2 24) ≡ false → Low
     branch-low c l3 l9 e q rf rc r1 r2 =
         let k : ℕ = c - 3 in
         let ek : code ≡ 3 + k = omega arith in
@@ -757,7 +759,10 @@ module _ (T : Tables) (φ : List ℕ) (pl : Plan T φ) (σ : State) (h : σ .pos
   unfolding planned
   stuck f e = rw e
 
-  pub next-is : {l : ℕ} {β : List ℕ} → T .labels ≡ l → T .blocks ≡ β → planned β l (targetAt T (σ .position)) (goalIn T (σ .position)) (formIn (cell 8 φ (σ .position) 0) (cell 8 φ (σ .position) 5)) (cell 8 φ (σ .position) 1) (cell 8 φ (σ .position) 2) (cell 8 φ (σ .position) 3) (cell 8 φ (σ .position) 4) (σ .position + 1) (σ .registers) (σ .stack) (σ .heap) (σ .depth) (σ .used) ≡ nextAt T σ
+  pub next-is : {l : ℕ} {β : List ℕ} → T .labels ≡ l → T .blocks ≡ β → planned β l (targetAt T (σ .position)) (goalIn T (σ .position))
+      (formIn (cell 8 φ (σ .position) 0) (cell 8 φ (σ .position) 5)) (cell 8 φ (σ .position) 1) (cell 8 φ (σ .position) 2)
+      (cell 8 φ (σ .position) 3) (cell 8 φ (σ .position) 4) (σ .position + 1) (σ .registers) (σ .stack) (σ .heap) (σ .depth)
+      (σ .used) ≡ nextAt T σ
   next-is {l} {β} el eβ =
       ap₂ (λ (b : List ℕ) (k : ℕ). planned b k (targetAt T i) (goalIn T i) form (cell 8 φ i 1) (cell 8 φ i 2) (cell 8 φ i 3) (cell 8 φ i 4) (i + 1) (σ .registers) (σ .stack) (σ .heap) (σ .depth) (σ .used)) (sym eβ) (sym el)
       ∙ by-row
@@ -811,7 +816,10 @@ module _ (T : Tables) (φ : List ℕ) (pl : Plan T φ) (σ : State) (h : σ .pos
         (λ m. row-low T σ m (form-cell m) (cell-1 m) (cell-2 m) (cell-3 m) (cell-4 m) refl fit .2 r)
         (λ e. let w : cell 8 φ i 4 ≡ 0 = behind e 4 (omega arith) in omega arith)
 
-    pub tuple-operands : formIn (cell 8 φ (σ .position) 0) (cell 8 φ (σ .position) 5) ≡ 2 → (cell 8 φ (σ .position) 3 + cell 8 φ (σ .position) 4 ≤ length (T .bases)) × (4 * (cell 8 φ (σ .position) 3 + cell 8 φ (σ .position) 4) ≤ length (T .operands)) × ((k : ℕ) → k < cell 8 φ (σ .position) 4 → getD (T .operands) (4 * (cell 8 φ (σ .position) 3 + k)) 0 ≡ 0 → getD (T .bases) (cell 8 φ (σ .position) 3 + k) 0 < 8)
+    pub tuple-operands : formIn (cell 8 φ (σ .position) 0) (cell 8 φ (σ .position) 5) ≡ 2 → (cell 8 φ (σ .position) 3 + cell 8 φ
+        (σ .position) 4 ≤ length (T .bases)) × (4 * (cell 8 φ (σ .position) 3 + cell 8 φ (σ .position) 4) ≤ length (T .operands))
+        × ((k : ℕ) → k < cell 8 φ (σ .position) 4 → getD (T .operands) (4 * (cell 8 φ (σ .position) 3 + k)) 0 ≡ 0 → getD (T .bases)
+        (cell 8 φ (σ .position) 3 + k) 0 < 8)
     tuple-operands e =
         let m : i < T .count = before-last (omega (arith, e)) in
         malloc-operands T σ m (form-cell m) (cell-1 m) (cell-2 m) (cell-3 m) (cell-4 m) refl fit e

@@ -1,12 +1,12 @@
 -- The machine's own table of a program: what its rows say, and what a row does.
-use Prim.Native.Nat.{ℕ, zero, suc, _+_, _-_, _*_, _<_, _≤_}
+use Prim.Native.Nat.{ℕ, suc, _+_, _-_, _*_, _<_}
 use mathlib.Core.Path.{_≡_}
-use mathlib.Core.Bool.{Bool, true, false, _&&_, _||_, cond}
+use mathlib.Core.Bool.{Bool, _||_, cond}
 use mathlib.Core.List.{List, [], _∷_}
-use lib.Dec.{leb, ltb, eqb}
-use lib.ListN.{length, getD, set}
-use Rattle.syntax.specs.Syntax.{reg, lit, Operand, plain, add, sub, mul}
-use Rattle.exec.specs.Machine.{Memory, at, intKind, integer, height, compute, signOf, taken, wordOf}
+use lib.Dec.{ltb, eqb}
+use lib.ListN.{getD, set}
+use Rattle.syntax.specs.Syntax.{reg, lit, plain, add, sub, mul}
+use Rattle.exec.specs.Machine.{Memory, at, intKind, height, compute, signOf, taken, wordOf}
 use Rattle.tables.specs.Tables.{cell}
 use Rattle.exec_words.specs.arith.Codes.{branchOf, column}
 use Rattle.exec_machine.specs.declared.Stop.the-variants.{Halted, Stuck}
@@ -45,6 +45,16 @@ readsOperand f = eqb f 0 || eqb f 3 || eqb f 5 || eqb f 8 || eqb f 20 || eqb f 2
 -- the number of that choice; where a label leads is kept eight times, as the place of its row in the table
 unfoldable pub chosen : ℕ → ℕ → ℕ → ℕ → ℕ → ℕ → ℕ → ℕ → ℕ
 chosen k a b c t v o q = cond (eqb k 1) a (cond (eqb k 2) b (cond (eqb k 3) c (cond (eqb k 4) (8 * t) (cond (eqb k 5) v (cond (eqb k 6) o (cond (eqb k 7) q 0))))))
+
+-- numbers of 16 bits to choose from: the instruction's own, where its label leads, its first operand, a branch's and a constant's kind
+pub record Choices (a b c t v o q : ℕ) : Type 0 where
+  pub first : a < 65536
+  pub second : b < 65536
+  pub third : c < 65536
+  pub target : t < 65536
+  pub operand : v < 65536
+  pub branch : o < 65536
+  pub constant : q < 65536
 
 -- ---- a form in a row: those below 15 are the row's class; the others are of class 15 and stand where the first goal of a branch does
 unfoldable pub classOf : ℕ → ℕ

@@ -10,7 +10,7 @@ ghost use lib.ListN.{length, getD, set};
 ghost use Rattle.exec.specs.Machine.{signOf, taken};
 ghost use Rattle.exec_words.specs.arith.Codes.{branchOf};
 ghost use Rattle.exec_machine.specs.Step.{tables};
-ghost use Rattle.exec_plan.specs.Plan.{forms, halts, columns, chosen, classOf, fifthOf, addedOf, lastOf, putRow, rowOf, Plan};
+ghost use Rattle.exec_plan.specs.Plan.{forms, halts, columns, chosen, Choices, classOf, fifthOf, addedOf, lastOf, putRow, rowOf, Plan};
 
 // The form of an instruction, by its code and the kind of its operand: register, integer, label. Forms below 15 are classes of their
 // own: 0 add register, 1 add integer, 2 malloc, 3 mul register, 4 branch to a label, 5 mov register, 6 mov of a constant,
@@ -132,7 +132,7 @@ fn column(code: usize, i: usize) -> usize
 }
 
 fn choose(k: usize, a: usize, b: usize, c: usize, t: usize, v: usize, o: usize, q: usize) -> usize
-    requires { ⌜ (a < 65536) × (b < 65536) × (c < 65536) × (t < 65536) × (v < 65536) × (o < 65536) × (q < 65536) ⌝ }
+    requires { ⌜ Choices a b c t v o q ⌝ }
     ensures { λ r. ⌜ (r ≡ chosen k a b c t v o q) × (r < 4294967296) ⌝ }
 {
     match k {

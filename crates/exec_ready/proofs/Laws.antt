@@ -120,7 +120,9 @@ least-first T β ι ω ni (suc (suc n)) f e =
     let xs : List Instr = instrsFrom ι ω (cell 2 β 0 1) (cell 2 β 1 1 - cell 2 β 0 1) in
     e xs ∙ more n (leastOf (blockFaults true (blockOf (typeAt value T (cell 2 β 0 0)) xs)))
 
-pub some-block-fault : (rows parts : List ℕ) (n c : ℕ) (β : List ℕ) (f nb : ℕ) (xs : List Instr) → (nb ≡ 0 → ⊥) → c ≡ cell 2 β 0 0 → f ≡ leastOf (blockFaults true (blockOf (typeAt value (typesOf (rowsIn (tab rows parts) n)) c) xs)) → f ≡ cond (eqb nb 0) 8 (leastOf (blockFaults true (blockOf (typeAt value (typesOf (rowsIn (tab rows parts) n)) (cell 2 β 0 0)) xs)))
+pub some-block-fault : (rows parts : List ℕ) (n c : ℕ) (β : List ℕ) (f nb : ℕ) (xs : List Instr) → (nb ≡ 0 → ⊥) → c ≡ cell 2 β 0 0
+    → f ≡ leastOf (blockFaults true (blockOf (typeAt value (typesOf (rowsIn (tab rows parts) n)) c) xs)) → f ≡ cond (eqb nb 0) 8
+    (leastOf (blockFaults true (blockOf (typeAt value (typesOf (rowsIn (tab rows parts) n)) (cell 2 β 0 0)) xs)))
 some-block-fault rows parts n c β f nb xs h ec e =
     let k : eqb nb 0 ≡ false = ne-eqb nb 0 h in
     rw k (e ∙ ap (λ (x : ℕ). leastOf (blockFaults true (blockOf (typeAt value (typesOf (rowsIn (tab rows parts) n)) x) xs))) ec)
@@ -192,7 +194,10 @@ module _ (text : List ℕ) (σ : Store) (uses tops : List ℕ) (r : Loaded) (l :
           go (suc zero) k = unfold blocksOf blocksFrom wanted in e _
           go (suc (suc n)) k = unfold blocksOf blocksFrom wanted in e _
 
-      pub may-start : (s c : ℕ) → f ≡ 0 → c ≡ cell 2 (σ .blocks) 0 0 → ((xs : List Instr) → s ≡ declared (blockOf (typeAt value (typesOf (rowsIn (rowTable σ) (r .rows))) c) xs .regs)) → (out : Ready) → out ≡ record { fits = true; fault = 0; line = 0; blocks = r .blocks; instrs = r .instrs; samples = s } → ReadyIs text (σ .instrs) (σ .operands) (σ .numbers) (σ .blocks) out
+      pub may-start : (s c : ℕ) → f ≡ 0 → c ≡ cell 2 (σ .blocks) 0 0 → ((xs : List Instr) → s ≡ declared
+          (blockOf (typeAt value (typesOf (rowsIn (rowTable σ) (r .rows))) c) xs .regs)) → (out : Ready) → out ≡ record
+          { fits = true; fault = 0; line = 0; blocks = r .blocks; instrs = r .instrs; samples = s } → ReadyIs text (σ .instrs)
+          (σ .operands) (σ .numbers) (σ .blocks) out
       may-start s c w ec ed out o =
           let es : (xs : List Instr) → s ≡ declared (blockOf (typeAt value T (cell 2 (σ .blocks) 0 0)) xs .regs) = λ xs. ed xs ∙ ap (λ (x : ℕ). declared (blockOf (typeAt value T x) xs .regs)) ec in
           let h = some-block w in

@@ -1,6 +1,6 @@
 -- From one step by the table's rows to the run.
 use mathlib.Core.Path.{_≡_, refl, ap, ap₂, sym, _∙_, subst}
-use mathlib.Core.Bool.{Bool, true, false}
+use mathlib.Core.Bool.{Bool}
 use mathlib.Core.List.{List}
 use Prim.Native.Nat.{ℕ, zero, suc, _+_, _-_, _*_, _/_, _<_, _≤_}
 use native.Mathlib.Nat.{zero-add, add-zero}
@@ -21,11 +21,10 @@ use Rattle.exec_plan.specs.Plan.{readsOperand, formIn, Plan}
 use Rattle.exec_plan.proofs.Rows.{class-low, other-low, low-first, low-second, low-operand, tuple-operands}
 use Rattle.exec_step.specs.declared.moved.Moved.{Moved}
 use Rattle.exec_step.specs.declared.moved.Moved.the-variants as moved
-use Rattle.exec_step.specs.moved.Stepped.{held, Still, Stepped, Inside}
+use Rattle.exec_step.specs.moved.Stepped.{held, Still, Stepped, RowAt, Inside}
 use Rattle.exec_step.specs.Rows.{formOf, FitRow}
-use Rattle.exec_run.specs.declared.Outcome.{Outcome}
 use Rattle.exec_run.specs.declared.Outcome.the-variants.{Paused, Ended}
-use Rattle.exec_run.specs.Runs.{ranIs, later, Safe}
+use Rattle.exec_run.specs.Runs.{later, Safe, Planned, PlaceIn}
 
 -- ---- runs
 none-before : (r : Ran) → later 0 r ≡ r
@@ -100,70 +99,72 @@ pub record Running (T : Tables) (b : ℕ) (σ₀ : State) (R S H : Memory) (n at
   pub safe : Safe T (held R S H h u position)
   pub ran : (args : List ℕ) (P : Bodies) → Represents T args P → later (b - n) (run P n (held R S H h u position)) ≡ run P b σ₀
 
-module _ (T : Tables) (b : ℕ) where
-  -- the place's row, and the position from it
-  abbrev pub start : List ℕ → List ℕ → List ℕ → List ℕ → List ℕ → List ℕ → ℕ → ℕ → ℕ → State
-  start rk rn sk sn hk hn at h u = held (lent rk rn) (lent sk sn) (lent hk hn) h u (at / 8)
+-- the place's row, and the position from it
+abbrev pub start : List ℕ → List ℕ → List ℕ → List ℕ → List ℕ → List ℕ → ℕ → ℕ → ℕ → State
+start rk rn sk sn hk hn at h u = held (lent rk rn) (lent sk sn) (lent hk hn) h u (at / 8)
 
-  pub at-first : (rk rn sk sn hk hn : List ℕ) (j h u : ℕ) → h ≤ 256 → u ≤ 2048 → j ≤ T .count → Safe T (held (lent rk rn) (lent sk sn) (lent hk hn) h u j) → Running T b (start rk rn sk sn hk hn (8 * j) h u) (lent rk rn) (lent sk sn) (lent hk hn) b (8 * j) h u
-  at-first rk rn sk sn hk hn j h u hd hu hp safe =
-      let z : b - b ≡ 0 = omega arith in
-      let q : j ≡ 8 * j / 8 = omega arith in
-      let e : (args : List ℕ) (P : Bodies) → Represents T args P → later (b - b) (run P b (held (lent rk rn) (lent sk sn) (lent hk hn) h u j)) ≡ run P b (start rk rn sk sn hk hn (8 * j) h u) =
-      λ args P rep. ap (λ (k : ℕ). later k (run P b (held (lent rk rn) (lent sk sn) (lent hk hn) h u j))) z ∙ none-before (run P b (held (lent rk rn) (lent sk sn) (lent hk hn) h u j)) ∙ ap (λ (k : ℕ). run P b (held (lent rk rn) (lent sk sn) (lent hk hn) h u k)) q in
-      record { position = j; place = refl; within = hp; depth = hd; used = hu; left = omega arith; safe = safe; ran = e }
+pub at-first : {T : Tables} {b : ℕ} {rk rn sk sn hk hn : List ℕ} {p : Place} → PlaceIn p (T .count) → Safe T (stateOf rk rn sk sn hk hn p) → Running T b (start rk rn sk sn hk hn (8 * p .position) (p .depth) (p .used)) (lent rk rn) (lent sk sn) (lent hk hn) b (8 * p .position) (p .depth) (p .used)
+at-first {b = b} {rk} {rn} {sk} {sn} {hk} {hn} {p} within safe =
+    let σ : State = stateOf rk rn sk sn hk hn p in
+    let z : b - b ≡ 0 = omega arith in
+    let q : p .position ≡ 8 * p .position / 8 = omega arith in
+    record {
+      position = p .position;
+      place = refl;
+      within = within .position;
+      depth = within .depth;
+      used = within .used;
+      left = omega arith;
+      safe = safe;
+      ran = λ args P rep. ap (λ (k : ℕ). later k (run P b σ)) z ∙ none-before (run P b σ) ∙ ap (λ (k : ℕ). run P b (held (lent rk rn) (lent sk sn) (lent hk hn) (p .depth) (p .used) k)) q;
+    }
 
-  pub from-start : (P : Bodies) (rk rn sk sn hk hn : List ℕ) (p : Place) → run P b (start rk rn sk sn hk hn (8 * p .position) (p .depth) (p .used)) ≡ run P b (stateOf rk rn sk sn hk hn p)
-  from-start P rk rn sk sn hk hn p =
-      let q : 8 * p .position / 8 ≡ p .position = omega arith in
-      ap (λ (k : ℕ). run P b (held (lent rk rn) (lent sk sn) (lent hk hn) (p .depth) (p .used) k)) q
+pub from-start : (P : Bodies) (b : ℕ) (rk rn sk sn hk hn : List ℕ) (p : Place) → run P b (start rk rn sk sn hk hn (8 * p .position) (p .depth) (p .used)) ≡ run P b (stateOf rk rn sk sn hk hn p)
+from-start P b rk rn sk sn hk hn p =
+    let q : 8 * p .position / 8 ≡ p .position = omega arith in
+    ap (λ (k : ℕ). run P b (held (lent rk rn) (lent sk sn) (lent hk hn) (p .depth) (p .used) k)) q
 
-  module _ (σ₀ : State) (R S H : Memory) (n at h u : ℕ) (g : Running T b σ₀ R S H n at h u) (more : Bool) (em : more ≡ ltb 0 n) where
-    abbrev σ : State
-    σ = held R S H h u (g .position)
+-- what is told of `step`
+module _ {T : Tables} {b : ℕ} {σ₀ : State} {R S H : Memory} {n at h u : ℕ} (g : Running T b σ₀ R S H n at h u) {more : Bool} (em : more ≡ ltb 0 n)
+    {r : Moved} {R′ S′ H′ : Memory} (t : Stepped T more (held R S H h u (g .position)) r R′ S′ H′) where
+  abbrev σ : State
+  σ = held R S H h u (g .position)
 
-    -- what is told of `step`
-    abbrev pub Told : Moved → Memory → Memory → Memory → Type 0
-    Told r R′ S′ H′ = Stepped T more σ r R′ S′ H′
+  pub budget-left : {to d w : ℕ} → r ≡ moved.To to d w → 0 < n
+  budget-left e = ltb-true 0 n (sym em ∙ t .reached _ _ _ e .budget)
 
-    module _ (r : Moved) (R′ S′ H′ : Memory) (t : Told r R′ S′ H′) where
-      pub budget-left : (to d w : ℕ) → r ≡ moved.To to d w → 0 < n
-      budget-left to d w e = ltb-true 0 n (sym em ∙ subst (λ (m : Moved). Told m R′ S′ H′) e t .budget)
+  pub goes : {to d w : ℕ} → r ≡ moved.To to d w → Running T b σ₀ R′ S′ H′ (n - 1) to d w
+  goes e =
+      let m = t .reached _ _ _ e in
+      let l : 0 < n = budget-left e in
+      record {
+        position = m .position;
+        place = m .place;
+        within = m .within;
+        depth = m .depth;
+        used = m .used;
+        left = omega (arith, g .left);
+        safe = safe-next T σ (g .safe) _ (m .result);
+        ran = λ args P rep. turn-to T args P rep σ b n _ (g .left) l (m .result) ∙ g .ran args P rep;
+      }
 
-      pub goes : (to d w : ℕ) → r ≡ moved.To to d w → Running T b σ₀ R′ S′ H′ (n - 1) to d w
-      goes to d w e =
-          let m = subst (λ (m : Moved). Told m R′ S′ H′) e t in
-          let l : 0 < n = budget-left to d w e in
-          let q : n ≤ b = g .left in
-          let v : n - 1 ≤ b = omega arith in
-          record {
-            position = m .position;
-            place = m .place;
-            within = m .within;
-            depth = m .depth;
-            used = m .used;
-            left = v;
-            safe = safe-next T σ (g .safe) (held R′ S′ H′ d w (m .position)) (m .result);
-            ran = λ args P rep. turn-to T args P rep σ b n (held R′ S′ H′ d w (m .position)) q l (m .result) ∙ g .ran args P rep;
-          }
+  still : Still σ R′ S′ H′ → (p : Place) → p ≡ record { depth = h; used = u; position = g .position } → _≡_ {A = State} (record { registers = R′; stack = S′; heap = H′; depth = p .depth; used = p .used; position = p .position }) σ
+  still s p e = λ i. record { registers = s .registers i; stack = s .stack i; heap = s .heap i; depth = e i .depth; used = e i .used; position = e i .position }
 
-      still : Still σ R′ S′ H′ → (p : Place) → p ≡ record { depth = h; used = u; position = g .position } → _≡_ {A = State} (record { registers = R′; stack = S′; heap = H′; depth = p .depth; used = p .used; position = p .position }) σ
-      still s p e = λ i. record { registers = s .registers i; stack = s .stack i; heap = s .heap i; depth = e i .depth; used = e i .used; position = e i .position }
+  module _ {args : List ℕ} {P : Bodies} (rep : Represents T args P) {k : ℕ} (ek : k ≡ b - n) {p : Place} (ep : (j : ℕ) → at ≡ 8 * j → p ≡ record { depth = h; used = u; position = j }) where
+    pub waits : r ≡ moved.Paused → _≡_ {A = Ran} (record { end = paused; steps = k; state = record { registers = R′; stack = S′; heap = H′; depth = p .depth; used = p .used; position = p .position } }) (run P b σ₀)
+    waits e =
+        let m = t .waits e in
+        let z : n ≤ 0 = ltb-false 0 n (sym em ∙ m .budget) in
+        let q : n ≡ 0 = omega arith in
+        (λ i. record { end = paused; steps = ek i; state = still (m .still) p (ep (g .position) (g .place)) i })
+        ∙ turn-waits T args P rep σ b n (m .next) q (m .result) ∙ g .ran args P rep
 
-      module _ (args : List ℕ) (P : Bodies) (rep : Represents T args P) (k : ℕ) (ek : k ≡ b - n) (p : Place) (ep : (j : ℕ) → at ≡ 8 * j → p ≡ record { depth = h; used = u; position = j }) where
-        pub waits : r ≡ moved.Paused → _≡_ {A = Ran} (record { end = paused; steps = k; state = record { registers = R′; stack = S′; heap = H′; depth = p .depth; used = p .used; position = p .position } }) (run P b σ₀)
-        waits e =
-            let m = subst (λ (m : Moved). Told m R′ S′ H′) e t in
-            let z : n ≤ 0 = ltb-false 0 n (sym em ∙ m .budget) in
-            let q : n ≡ 0 = omega arith in
-            (λ i. record { end = paused; steps = ek i; state = still (m .still) p (ep (g .position) (g .place)) i })
-            ∙ turn-waits T args P rep σ b n (m .next) q (m .result) ∙ g .ran args P rep
-
-        pub stops : (s : Reason) → r ≡ moved.Ended s → _≡_ {A = Ran} (record { end = stopped (stopIs s); steps = k; state = record { registers = R′; stack = S′; heap = H′; depth = p .depth; used = p .used; position = p .position } }) (run P b σ₀)
-        stops s e =
-            let m = subst (λ (m : Moved). Told m R′ S′ H′) e t in
-            (λ i. record { end = stopped (stopIs s); steps = ek i; state = still (m .still) p (ep (g .position) (g .place)) i })
-            ∙ turn-stops T args P rep σ b n (stopIs s) (m .result) ∙ g .ran args P rep
+    pub stops : {s : Reason} → r ≡ moved.Ended s → _≡_ {A = Ran} (record { end = stopped (stopIs s); steps = k; state = record { registers = R′; stack = S′; heap = H′; depth = p .depth; used = p .used; position = p .position } }) (run P b σ₀)
+    stops {s} e =
+        let m = t .stops s e in
+        (λ i. record { end = stopped (stopIs s); steps = ek i; state = still (m .still) p (ep (g .position) (g .place)) i })
+        ∙ turn-stops T args P rep σ b n (stopIs s) (m .result) ∙ g .ran args P rep
 
 -- ---- the row at `at`
 module _ (T : Tables) (φ : List ℕ) (pl : Plan T φ) (fit : Fit T) (j at : ℕ) (e : at ≡ 8 * j) (h : j ≤ T .count) (σ : State) (ej : σ .position ≡ j) where
@@ -197,14 +198,19 @@ module _ (T : Tables) (φ : List ℕ) (pl : Plan T φ) (fit : Fit T) (j at : ℕ
     tuple = sourced;
   }
 
-pub row-fit : (T : Tables) (φ : List ℕ) → Plan T φ → Fit T → (b : ℕ) (σ₀ : State) (R S H : Memory) (n at h u : ℕ) → Running T b σ₀ R S H n at h u → FitRow φ (T .operands) (T .bases) at
-row-fit T φ pl fit b σ₀ R S H n at h u g = fit-row T φ pl fit (g .position) at (g .place) (g .within) (held R S H h u (g .position)) refl
+pub row-fit : {T : Tables} {φ : List ℕ} {b : ℕ} {σ₀ : State} {R S H : Memory} {n at h u : ℕ} → Planned T φ → Running T b σ₀ R S H n at h u → FitRow φ (T .operands) (T .bases) at
+row-fit {R = R} {S} {H} {h = h} {u} p g = fit-row _ _ (p .plan) (p .fit) (g .position) _ (g .place) (g .within) (held R S H h u (g .position)) refl
 
-pub row-inside : (T : Tables) (b : ℕ) (σ₀ : State) (R S H : Memory) (n at h u : ℕ) → Running T b σ₀ R S H n at h u → Inside R H
-row-inside T b σ₀ R S H n at h u g = safe-now T (held R S H h u (g .position)) (g .safe)
+pub row-inside : {T : Tables} {b : ℕ} {σ₀ : State} {R S H : Memory} {n at h u : ℕ} → Running T b σ₀ R S H n at h u → Inside R H
+row-inside g = safe-now _ (held _ _ _ _ _ (g .position)) (g .safe)
 
-pub row-in : (T : Tables) (m b : ℕ) (σ₀ : State) (R S H : Memory) (n at h u : ℕ) → 8 * T .count + 8 ≤ m → Running T b σ₀ R S H n at h u → at + 8 ≤ m
-row-in T m b σ₀ R S H n at h u l g = omega (arith, g .place, g .within)
+pub row-at : {T : Tables} {φ : List ℕ} {b : ℕ} {σ₀ : State} {R S H : Memory} {n at h u : ℕ} → Planned T φ → Running T b σ₀ R S H n at h u → RowAt φ at h u
+row-at p g = record { whole = omega (arith, p .room, g .place, g .within); depth = g .depth; used = g .used }
+
+-- words as many as before
+pub record AsLong (ks ns ks₀ ns₀ : List ℕ) : Type 0 where
+  pub kinds : length ks ≡ length ks₀
+  pub numbers : length ns ≡ length ns₀
 
 pub place-at : (at h u j : ℕ) → at ≡ 8 * j → _≡_ {A = Place} (record { depth = h; used = u; position = at / 8 }) (record { depth = h; used = u; position = j })
 place-at at h u j e = let q : at / 8 ≡ j = omega arith in ap (λ (i : ℕ). record { depth = h; used = u; position = i }) q

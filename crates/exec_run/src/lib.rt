@@ -5,15 +5,14 @@
 // rk and rn are the registers' kinds and numbers, sk and sn the stack's, hk and hn the heap's.
 ghost use mathlib.Core.Path.{_≡_};
 ghost use mathlib.Core.List.{List};
-ghost use Prim.Native.Nat.{ℕ, _+_, _-_, _*_, _<_, _≤_};
+ghost use Prim.Native.Nat.{ℕ, _-_, _*_, _≤_};
 ghost use lib.Dec.{ltb};
-ghost use lib.ListN.{length};
 ghost use Rattle.exec.specs.Machine.{Bodies};
 ghost use Rattle.exec.specs.Run.{run};
 ghost use Rattle.exec_machine.specs.Step.{tables, stateOf};
-ghost use Rattle.exec_machine.specs.Represents.{Represents, Fit};
-ghost use Rattle.exec_plan.specs.Plan.{Plan};
-ghost use Rattle.exec_run.specs.Runs.{ranIs, Safe};
+ghost use Rattle.exec_machine.specs.Represents.{Represents};
+ghost use Rattle.exec_step.specs.moved.Stepped.{Words};
+ghost use Rattle.exec_run.specs.Runs.{ranIs, Safe, Roomy, Planned, PlaceIn};
 use exec_machine::Place;
 use exec_machine::Stop;
 use exec_step::moved::Moved;
@@ -68,7 +67,7 @@ fn run_rows(
     p: Place,
     budget: usize,
 ) -> Outcome
-    requires { ⌜ Plan (tables (now instrs) (now operands) (now bases) (now blocks) count labels) (now plan) × Fit (tables (now instrs) (now operands) (now bases) (now blocks) count labels) × (8 * count + 8 ≤ length (now plan)) × (8 ≤ length (now rk)) × (8 ≤ length (now rn)) × (256 ≤ length (now sk)) × (256 ≤ length (now sn)) × (2048 ≤ length (now hk)) × (2048 ≤ length (now hn)) × (p .depth ≤ 256) × (p .used ≤ 2048) × (p .position ≤ count) × Safe (tables (now instrs) (now operands) (now bases) (now blocks) count labels) (stateOf (now rk) (now rn) (now sk) (now sn) (now hk) (now hn) p) ⌝ }
+    requires { ⌜ Planned (tables (now instrs) (now operands) (now bases) (now blocks) count labels) (now plan) × Words (now rk) (now rn) (now sk) (now sn) (now hk) (now hn) × PlaceIn p count × Safe (tables (now instrs) (now operands) (now bases) (now blocks) count labels) (stateOf (now rk) (now rn) (now sk) (now sn) (now hk) (now hn) p) ⌝ }
     ensures { λ r. ⌜ ((args : List ℕ) (P : Bodies) → Represents (tables (now (instrs .entry)) (now (operands .entry)) (now (bases .entry)) (now (blocks .entry)) count labels) args P → ranIs r (now (rk .exit)) (now (rn .exit)) (now (sk .exit)) (now (sn .exit)) (now (hk .exit)) (now (hn .exit)) ≡ run P budget (stateOf (now (rk .entry)) (now (rn .entry)) (now (sk .entry)) (now (sn .entry)) (now (hk .entry)) (now (hn .entry)) p)) ⌝ }
 {
     let mut left = budget;
@@ -129,7 +128,7 @@ pub fn run(
     p: Place,
     budget: usize,
 ) -> Outcome
-    requires { ⌜ Fit (tables (now instrs) (now operands) (now bases) (now blocks) count labels) × (8 * count + 8 ≤ length (now plan)) × (8 ≤ length (now rk)) × (8 ≤ length (now rn)) × (256 ≤ length (now sk)) × (256 ≤ length (now sn)) × (2048 ≤ length (now hk)) × (2048 ≤ length (now hn)) × (p .depth ≤ 256) × (p .used ≤ 2048) × (p .position ≤ count) × Safe (tables (now instrs) (now operands) (now bases) (now blocks) count labels) (stateOf (now rk) (now rn) (now sk) (now sn) (now hk) (now hn) p) ⌝ }
+    requires { ⌜ Roomy (tables (now instrs) (now operands) (now bases) (now blocks) count labels) (now plan) × Words (now rk) (now rn) (now sk) (now sn) (now hk) (now hn) × PlaceIn p count × Safe (tables (now instrs) (now operands) (now bases) (now blocks) count labels) (stateOf (now rk) (now rn) (now sk) (now sn) (now hk) (now hn) p) ⌝ }
     ensures { λ r. ⌜ ((args : List ℕ) (P : Bodies) → Represents (tables (now (instrs .entry)) (now (operands .entry)) (now (bases .entry)) (now (blocks .entry)) count labels) args P → ranIs r (now (rk .exit)) (now (rn .exit)) (now (sk .exit)) (now (sn .exit)) (now (hk .exit)) (now (hn .exit)) ≡ run P budget (stateOf (now (rk .entry)) (now (rn .entry)) (now (sk .entry)) (now (sn .entry)) (now (hk .entry)) (now (hn .entry)) p)) ⌝ }
 {
     exec_plan::predecode(instrs, operands, bases, blocks, count, labels, plan);

@@ -31,7 +31,6 @@ pub record FitRow (φ os bs : List ℕ) (at : ℕ) : Type 0 where
   pub tuple : formOf φ at ≡ 2 → Sourced os bs (getD φ (at + 3) 0) (getD φ (at + 4) 0)
 
 -- the answer r and the words left are those of the row at `at`, which is `planned`
-abbrev pub Done : OperandTable → List ℕ → ℕ → List ℕ → ℕ → ℕ → ℕ → Bool → Memory → Memory → Memory → Moved → Memory → Memory → Memory → Type 0
-Done ω β l φ at h u more R S H r R′ S′ H′ =
-    (m s j p : ℕ) (g : ℕ → ℕ) → Starts β l m → Goals φ at m s g → at + 8 ≡ 8 * p → (formOf φ at < 24 → p ≤ m)
-    → Turned m (resultOf ω (held R S H h u j) (planned β l s g (formOf φ at) (getD φ (at + 1) 0) (getD φ (at + 2) 0) (getD φ (at + 3) 0) (getD φ (at + 4) 0) p R S H h u)) more (held R S H h u j) r R′ S′ H′
+pub record Done (ω : OperandTable) (β : List ℕ) (l : ℕ) (φ : List ℕ) (at h u : ℕ) (more : Bool) (R S H : Memory) (r : Moved) (R′ S′ H′ : Memory) : Type 0 where
+  pub turned : (m s j p : ℕ) (g : ℕ → ℕ) → Starts β l m → Goals φ at m s g → at + 8 ≡ 8 * p → (formOf φ at < 24 → p ≤ m)
+      → Turned m (resultOf ω (held R S H h u j) (planned β l s g (formOf φ at) (getD φ (at + 1) 0) (getD φ (at + 2) 0) (getD φ (at + 3) 0) (getD φ (at + 4) 0) p R S H h u)) more (held R S H h u j) r R′ S′ H′

@@ -3,13 +3,13 @@
 // and registers and heap as long as the limits; of ld and st, that a handle in a register is at a tuple's start (`Inside`), so that no
 // place in the heap is tested; of malloc, that its operands stand in the table.
 // rk and rn are the registers' kinds and numbers, hk and hn the heap's; h is the depth, u the words of the heap in use.
-ghost use Prim.Native.Nat.{_+_, _≤_};
-ghost use lib.ListN.{length, getD};
+ghost use Prim.Native.Nat.{_+_};
+ghost use lib.ListN.{getD};
 ghost use Rattle.exec.specs.Machine.{Memory};
 ghost use Rattle.tables.specs.Tables.{OperandTable};
-ghost use Rattle.exec_words.specs.memory.Lent.{lent, operandTable, Sourced};
+ghost use Rattle.exec_words.specs.memory.Lent.{lent, operandTable, Sourced, Long};
 ghost use Rattle.exec_machine.specs.Step.{nextLoad, nextStore, nextTuple};
-ghost use Rattle.exec_step.specs.moved.Stepped.{Does, Low, Inside};
+ghost use Rattle.exec_step.specs.moved.Stepped.{Does, LowRow, Inside};
 use crate::moved::Moved;
 use crate::moved::assign;
 use crate::moved::index;
@@ -33,7 +33,7 @@ pub(crate) fn load(
     u: usize,
     more: bool,
 ) -> Moved
-    requires { ⌜ (at + 8 ≤ length (now plan)) × (8 ≤ length (now rk)) × (8 ≤ length (now rn)) × Low (now plan) at × (h ≤ 256) × (u ≤ 2048) × (2048 ≤ length (now hk)) × (2048 ≤ length (now hn)) × Inside (lent (now rk) (now rn)) (lent (now hk) (now hn)) ⌝ }
+    requires { ⌜ LowRow (now plan) at h u × Long 8 (now rk) (now rn) × Long 2048 (now hk) (now hn) × Inside (lent (now rk) (now rn)) (lent (now hk) (now hn)) ⌝ }
     ensures { λ r. ⌜ ((ω : OperandTable) (S : Memory) → Does ω at h u more (lent (now (rk .entry)) (now (rn .entry))) S (lent (now (hk .entry)) (now (hn .entry))) (λ p. nextLoad (lent (now (rk .entry)) (now (rn .entry))) (lent (now (hk .entry)) (now (hn .entry))) p (getD (now (plan .entry)) (at + 1) 0) (getD (now (plan .entry)) (at + 2) 0) (getD (now (plan .entry)) (at + 3) 0)) r (lent (now (rk .exit)) (now (rn .exit))) S (lent (now (hk .entry)) (now (hn .entry)))) ⌝ }
 {
     let w = get(rk, rn, index(plan, at, 2));
@@ -61,7 +61,7 @@ pub(crate) fn store(
     u: usize,
     more: bool,
 ) -> Moved
-    requires { ⌜ (at + 8 ≤ length (now plan)) × (8 ≤ length (now rk)) × (8 ≤ length (now rn)) × Low (now plan) at × (h ≤ 256) × (u ≤ 2048) × (2048 ≤ length (now hk)) × (2048 ≤ length (now hn)) × Inside (lent (now rk) (now rn)) (lent (now hk) (now hn)) ⌝ }
+    requires { ⌜ LowRow (now plan) at h u × Long 8 (now rk) (now rn) × Long 2048 (now hk) (now hn) × Inside (lent (now rk) (now rn)) (lent (now hk) (now hn)) ⌝ }
     ensures { λ r. ⌜ ((ω : OperandTable) (S : Memory) → Does ω at h u more (lent (now (rk .entry)) (now (rn .entry))) S (lent (now (hk .entry)) (now (hn .entry))) (λ p. nextStore (lent (now (rk .entry)) (now (rn .entry))) (lent (now (hk .entry)) (now (hn .entry))) p (getD (now (plan .entry)) (at + 1) 0) (getD (now (plan .entry)) (at + 3) 0) (getD (now (plan .entry)) (at + 2) 0)) r (lent (now (rk .entry)) (now (rn .entry))) S (lent (now (hk .exit)) (now (hn .exit)))) ⌝ }
 {
     let w = get(rk, rn, index(plan, at, 1));
@@ -92,7 +92,7 @@ pub(crate) fn tuple(
     u: usize,
     more: bool,
 ) -> Moved
-    requires { ⌜ (at + 8 ≤ length (now plan)) × (8 ≤ length (now rk)) × (8 ≤ length (now rn)) × Low (now plan) at × (h ≤ 256) × (u ≤ 2048) × (2048 ≤ length (now hk)) × (2048 ≤ length (now hn)) × Sourced (now operands) (now bases) (getD (now plan) (at + 3) 0) (getD (now plan) (at + 4) 0) ⌝ }
+    requires { ⌜ LowRow (now plan) at h u × Long 8 (now rk) (now rn) × Long 2048 (now hk) (now hn) × Sourced (now operands) (now bases) (getD (now plan) (at + 3) 0) (getD (now plan) (at + 4) 0) ⌝ }
     ensures { λ r. ⌜ ((S : Memory) → Does (operandTable (now (operands .entry)) (now (bases .entry))) at h u more (lent (now (rk .entry)) (now (rn .entry))) S (lent (now (hk .entry)) (now (hn .entry))) (λ p. nextTuple u p (getD (now (plan .entry)) (at + 1) 0) (getD (now (plan .entry)) (at + 3) 0) (getD (now (plan .entry)) (at + 4) 0)) r (lent (now (rk .exit)) (now (rn .exit))) S (lent (now (hk .exit)) (now (hn .exit)))) ⌝ }
 {
     let n = read(plan, at, 4);

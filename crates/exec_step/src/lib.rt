@@ -10,14 +10,14 @@ pub mod registers;
 pub mod stack;
 
 ghost use mathlib.Core.Path.{_≡_};
-ghost use Prim.Native.Nat.{ℕ, _+_, _*_, _<_, _≤_};
-ghost use lib.ListN.{length, getD};
+ghost use Prim.Native.Nat.{ℕ, _*_, _≤_};
+ghost use lib.ListN.{getD};
 ghost use Rattle.exec_words.specs.memory.Lent.{lent, operandTable};
 ghost use Rattle.exec_machine.specs.Step.{Tables};
 ghost use Rattle.exec_machine.specs.Represents.{Fit};
 ghost use Rattle.exec_plan.specs.Plan.{Plan};
 ghost use Rattle.exec_step.specs.Rows.{Done, FitRow};
-ghost use Rattle.exec_step.specs.moved.Stepped.{held, Stepped, Inside};
+ghost use Rattle.exec_step.specs.moved.Stepped.{held, Stepped, RowAt, Words, Inside};
 use crate::heap::load;
 use crate::heap::store;
 use crate::heap::tuple;
@@ -63,7 +63,7 @@ fn other(
     u: usize,
     more: bool,
 ) -> Moved
-    requires { ⌜ (at + 8 ≤ length (now plan)) × (8 ≤ length (now rk)) × (8 ≤ length (now rn)) × (256 ≤ length (now sk)) × (256 ≤ length (now sn)) × (2048 ≤ length (now hk)) × (2048 ≤ length (now hn)) × FitRow (now plan) (now operands) (now bases) at × (h ≤ 256) × (u ≤ 2048) × (getD (now plan) at 0 ≡ 15) ⌝ }
+    requires { ⌜ RowAt (now plan) at h u × FitRow (now plan) (now operands) (now bases) at × Words (now rk) (now rn) (now sk) (now sn) (now hk) (now hn) × (getD (now plan) at 0 ≡ 15) ⌝ }
     ensures { λ r. ⌜ Done (operandTable (now (operands .entry)) (now (bases .entry))) (now (blocks .entry)) labels (now (plan .entry)) at h u more (lent (now (rk .entry)) (now (rn .entry))) (lent (now (sk .entry)) (now (sn .entry))) (lent (now (hk .entry)) (now (hn .entry))) r (lent (now (rk .exit)) (now (rn .exit))) (lent (now (sk .exit)) (now (sn .exit))) (lent (now (hk .exit)) (now (hn .exit))) ⌝ }
 {
     let f = read(plan, at, 5);
@@ -99,7 +99,7 @@ fn row(
     u: usize,
     more: bool,
 ) -> Moved
-    requires { ⌜ (at + 8 ≤ length (now plan)) × (8 ≤ length (now rk)) × (8 ≤ length (now rn)) × (256 ≤ length (now sk)) × (256 ≤ length (now sn)) × (2048 ≤ length (now hk)) × (2048 ≤ length (now hn)) × FitRow (now plan) (now operands) (now bases) at × (h ≤ 256) × (u ≤ 2048) × Inside (lent (now rk) (now rn)) (lent (now hk) (now hn)) ⌝ }
+    requires { ⌜ RowAt (now plan) at h u × FitRow (now plan) (now operands) (now bases) at × Words (now rk) (now rn) (now sk) (now sn) (now hk) (now hn) × Inside (lent (now rk) (now rn)) (lent (now hk) (now hn)) ⌝ }
     ensures { λ r. ⌜ Done (operandTable (now (operands .entry)) (now (bases .entry))) (now (blocks .entry)) labels (now (plan .entry)) at h u more (lent (now (rk .entry)) (now (rn .entry))) (lent (now (sk .entry)) (now (sn .entry))) (lent (now (hk .entry)) (now (hn .entry))) r (lent (now (rk .exit)) (now (rn .exit))) (lent (now (sk .exit)) (now (sn .exit))) (lent (now (hk .exit)) (now (hn .exit))) ⌝ }
 {
     let class = read(plan, at, 0) % 16;
@@ -157,7 +157,7 @@ pub fn step(
     used: usize,
     more: bool,
 ) -> Moved
-    requires { ⌜ (at + 8 ≤ length (now plan)) × (8 ≤ length (now rk)) × (8 ≤ length (now rn)) × (256 ≤ length (now sk)) × (256 ≤ length (now sn)) × (2048 ≤ length (now hk)) × (2048 ≤ length (now hn)) × FitRow (now plan) (now operands) (now bases) at × (depth ≤ 256) × (used ≤ 2048) × Inside (lent (now rk) (now rn)) (lent (now hk) (now hn)) ⌝ }
+    requires { ⌜ RowAt (now plan) at depth used × FitRow (now plan) (now operands) (now bases) at × Words (now rk) (now rn) (now sk) (now sn) (now hk) (now hn) × Inside (lent (now rk) (now rn)) (lent (now hk) (now hn)) ⌝ }
     ensures { λ r. ⌜ ((T : Tables) (j : ℕ) → Plan T (now (plan .entry)) → Fit T → at ≡ 8 * j → j ≤ T .count → T .labels ≡ labels → T .blocks ≡ (now (blocks .entry)) → T .operands ≡ now (operands .entry) → T .bases ≡ now (bases .entry) → Stepped T more (held (lent (now (rk .entry)) (now (rn .entry))) (lent (now (sk .entry)) (now (sn .entry))) (lent (now (hk .entry)) (now (hn .entry))) depth used j) r (lent (now (rk .exit)) (now (rn .exit))) (lent (now (sk .exit)) (now (sn .exit))) (lent (now (hk .exit)) (now (hn .exit)))) ⌝ }
 {
     row(

@@ -8,7 +8,7 @@ ghost use mathlib.Core.Bool.{cond};
 ghost use Prim.Native.Nat.{_+_, _<_, _≤_};
 ghost use lib.ListN.{length, getD};
 ghost use Rattle.exec.specs.Machine.{at, put, height};
-ghost use Rattle.exec_words.specs.memory.Lent.{wordIs, lent};
+ghost use Rattle.exec_words.specs.memory.Lent.{wordIs, lent, Long};
 ghost use Rattle.exec_step.specs.moved.Stepped.{toward};
 use exec_machine::Stop;
 use exec_words::memory::Word;
@@ -72,7 +72,7 @@ pub(crate) fn assign(
     u: usize,
     more: bool,
 ) -> Moved
-    requires { ⌜ (at + 8 ≤ length (now plan)) × (8 ≤ length (now rk)) × (8 ≤ length (now rn)) × (getD (now plan) (at + 1) 0 < 8) ⌝ }
+    requires { ⌜ (at + 8 ≤ length (now plan)) × Long 8 (now rk) (now rn) × (getD (now plan) (at + 1) 0 < 8) ⌝ }
     ensures { λ r. ⌜ (r ≡ toward more (at + 8) h u) × ((lent (now (rk .exit)) (now (rn .exit))) ≡ cond more (put (lent (now (rk .entry)) (now (rn .entry))) (getD (now (plan .entry)) (at + 1) 0) (wordIs w)) (lent (now (rk .entry)) (now (rn .entry)))) ⌝ }
 {
     if !more {

@@ -10,10 +10,10 @@ ghost use Rattle.syntax.specs.Syntax.{Operand, reg, lit, plain};
 ghost use Rattle.exec.specs.Machine.{Memory, at as wordAt, signOf, taken, wordOf, intKind};
 ghost use Rattle.tables.specs.Tables.{OperandTable};
 ghost use Rattle.exec_words.specs.arith.Codes.{arithOf, branchOf, column};
-ghost use Rattle.exec_words.specs.memory.Lent.{wordIs, lent};
+ghost use Rattle.exec_words.specs.memory.Lent.{wordIs, lent, Long};
 ghost use Rattle.exec_machine.specs.declared.Stop.the-variants.{Stuck};
 ghost use Rattle.exec_machine.specs.Step.{resultOf, given, nextArith, nextJump, Go, End};
-ghost use Rattle.exec_step.specs.moved.Stepped.{held, Turned, Does, Starts, Low, Leads};
+ghost use Rattle.exec_step.specs.moved.Stepped.{held, Turned, Does, Starts, LowRow, Leads};
 use crate::moved::Moved;
 use crate::moved::assign;
 use crate::moved::goes;
@@ -25,7 +25,7 @@ use exec_words::memory::get;
 
 // The operand, if it is a register.
 pub(crate) fn register(plan: &[u32], rk: &[u8], rn: &[u32], at: usize) -> Word
-    requires { ⌜ (at + 8 ≤ length (now plan)) × (8 ≤ length (now rk)) × (8 ≤ length (now rn)) × (getD (now plan) (at + 4) 0 < 8) ⌝ }
+    requires { ⌜ (at + 8 ≤ length (now plan)) × Long 8 (now rk) (now rn) × (getD (now plan) (at + 4) 0 < 8) ⌝ }
     ensures { λ r. ⌜ wordIs r ≡ wordOf (lent (now (rk .entry)) (now (rn .entry))) (plain (reg (getD (now (plan .entry)) (at + 4) 0))) ⌝ }
 {
     get(rk, rn, index(plan, at, 4))
@@ -66,7 +66,7 @@ pub(crate) fn reckon(
     u: usize,
     more: bool,
 ) -> Moved
-    requires { ⌜ (at + 8 ≤ length (now plan)) × (8 ≤ length (now rk)) × (8 ≤ length (now rn)) × Low (now plan) at × (h ≤ 256) × (u ≤ 2048) ⌝ }
+    requires { ⌜ LowRow (now plan) at h u × Long 8 (now rk) (now rn) ⌝ }
     ensures { λ r. ⌜ ((ω : OperandTable) (b : Operand) (S H : Memory) → wordIs w ≡ wordOf (lent (now (rk .entry)) (now (rn .entry))) b → Does ω at h u more (lent (now (rk .entry)) (now (rn .entry))) S H (λ p. nextArith (lent (now (rk .entry)) (now (rn .entry))) p (arithOf op) (getD (now (plan .entry)) (at + 1) 0) (getD (now (plan .entry)) (at + 2) 0) b) r (lent (now (rk .exit)) (now (rn .exit))) S H) ⌝ }
 {
     let x = get(rk, rn, index(plan, at, 2));
@@ -93,7 +93,7 @@ pub(crate) fn branch(
     u: usize,
     more: bool,
 ) -> Moved
-    requires { ⌜ (at + 8 ≤ length (now plan)) × (8 ≤ length (now rk)) × (8 ≤ length (now rn)) × Low (now plan) at × (h ≤ 256) × (u ≤ 2048) ⌝ }
+    requires { ⌜ LowRow (now plan) at h u × Long 8 (now rk) (now rn) ⌝ }
     ensures { λ r. ⌜ ((ω : OperandTable) (S H : Memory) (m j : ℕ) (g : ℕ → ℕ) → Leads (now (plan .entry)) at m g → Turned m (resultOf ω (held (lent (now (rk .entry)) (now (rn .entry))) S H h u j) (given intKind (wordAt (lent (now (rk .entry)) (now (rn .entry))) (getD (now (plan .entry)) (at + 1) 0)) (λ v. Go (g (column (signOf v)))))) more (held (lent (now (rk .entry)) (now (rn .entry))) S H h u j) r (lent (now (rk .entry)) (now (rn .entry))) S H) ⌝ }
 {
     let w = get(rk, rn, index(plan, at, 1));
@@ -139,7 +139,7 @@ pub(crate) fn branch_register(
     u: usize,
     more: bool,
 ) -> Moved
-    requires { ⌜ (at + 8 ≤ length (now plan)) × (8 ≤ length (now rk)) × (8 ≤ length (now rn)) × Low (now plan) at × (h ≤ 256) × (u ≤ 2048) × (getD (now plan) (at + 4) 0 < 8) ⌝ }
+    requires { ⌜ LowRow (now plan) at h u × Long 8 (now rk) (now rn) × (getD (now plan) (at + 4) 0 < 8) ⌝ }
     ensures { λ r. ⌜ ((ω : OperandTable) (S H : Memory) (m j p : ℕ) → Starts (now (blocks .entry)) labels m → at + 8 ≡ 8 * p → p ≤ m → Turned m (resultOf ω (held (lent (now (rk .entry)) (now (rn .entry))) S H h u j) (given intKind (wordAt (lent (now (rk .entry)) (now (rn .entry))) (getD (now (plan .entry)) (at + 1) 0)) (λ x. cond (taken (branchOf (getD (now (plan .entry)) (at + 2) 0)) (signOf x)) (nextJump (now (blocks .entry)) labels (wordOf (lent (now (rk .entry)) (now (rn .entry))) (plain (reg (getD (now (plan .entry)) (at + 4) 0))))) (Go p)))) more (held (lent (now (rk .entry)) (now (rn .entry))) S H h u j) r (lent (now (rk .entry)) (now (rn .entry))) S H) ⌝ }
 {
     let w = get(rk, rn, index(plan, at, 1));
@@ -163,7 +163,7 @@ pub(crate) fn branch_nowhere(
     u: usize,
     more: bool,
 ) -> Moved
-    requires { ⌜ (at + 8 ≤ length (now plan)) × (8 ≤ length (now rk)) × (8 ≤ length (now rn)) × Low (now plan) at × (h ≤ 256) × (u ≤ 2048) ⌝ }
+    requires { ⌜ LowRow (now plan) at h u × Long 8 (now rk) (now rn) ⌝ }
     ensures { λ r. ⌜ ((ω : OperandTable) (S H : Memory) → Does ω at h u more (lent (now (rk .entry)) (now (rn .entry))) S H (λ p. given intKind (wordAt (lent (now (rk .entry)) (now (rn .entry))) (getD (now (plan .entry)) (at + 1) 0)) (λ x. cond (taken (branchOf (getD (now (plan .entry)) (at + 2) 0)) (signOf x)) (End Stuck) (Go p))) r (lent (now (rk .entry)) (now (rn .entry))) S H) ⌝ }
 {
     let w = get(rk, rn, index(plan, at, 1));

@@ -2,13 +2,13 @@
 // a stack pointer (slp, ssp). Promised of each function: the step that crate exec_machine says, budget or none; a stop comes first. Asked:
 // a row that names registers, and registers and stack as long as the limits. rk and rn are the registers' kinds and numbers, sk and sn the
 // stack's; h is the depth, u the words of the heap in use.
-ghost use Prim.Native.Nat.{_+_, _≤_};
-ghost use lib.ListN.{length, getD};
+ghost use Prim.Native.Nat.{_+_};
+ghost use lib.ListN.{getD};
 ghost use Rattle.exec.specs.Machine.{Memory};
 ghost use Rattle.tables.specs.Tables.{OperandTable};
-ghost use Rattle.exec_words.specs.memory.Lent.{lent};
+ghost use Rattle.exec_words.specs.memory.Lent.{lent, Long};
 ghost use Rattle.exec_machine.specs.Step.{nextCut, nextPush, nextPop, nextRead, nextWrite, nextReadThrough, nextWriteThrough};
-ghost use Rattle.exec_step.specs.moved.Stepped.{Does, Low};
+ghost use Rattle.exec_step.specs.moved.Stepped.{Does, RowAt, LowRow};
 use crate::moved::Moved;
 use crate::moved::assign;
 use crate::moved::goes;
@@ -29,7 +29,7 @@ pub(crate) fn cut(
     u: usize,
     more: bool,
 ) -> Moved
-    requires { ⌜ (at + 8 ≤ length (now plan)) × (8 ≤ length (now rk)) × (8 ≤ length (now rn)) × Low (now plan) at × (h ≤ 256) × (u ≤ 2048) ⌝ }
+    requires { ⌜ LowRow (now plan) at h u × Long 8 (now rk) (now rn) ⌝ }
     ensures { λ r. ⌜ ((ω : OperandTable) (S H : Memory) → Does ω at h u more (lent (now (rk .entry)) (now (rn .entry))) S H (λ p. nextCut (lent (now (rk .entry)) (now (rn .entry))) h p (getD (now (plan .entry)) (at + 1) 0)) r (lent (now (rk .entry)) (now (rn .entry))) S H) ⌝ }
 {
     let w = get(rk, rn, index(plan, at, 1));
@@ -52,7 +52,7 @@ pub(crate) fn push(
     u: usize,
     more: bool,
 ) -> Moved
-    requires { ⌜ (at + 8 ≤ length (now plan)) × (h ≤ 256) × (u ≤ 2048) × (256 ≤ length (now sk)) × (256 ≤ length (now sn)) ⌝ }
+    requires { ⌜ RowAt (now plan) at h u × Long 256 (now sk) (now sn) ⌝ }
     ensures { λ r. ⌜ ((ω : OperandTable) (R H : Memory) → Does ω at h u more R (lent (now (sk .entry)) (now (sn .entry))) H (λ p. nextPush h p (getD (now (plan .entry)) (at + 3) 0)) r R (lent (now (sk .exit)) (now (sn .exit))) H) ⌝ }
 {
     let n = read(plan, at, 3);
@@ -68,7 +68,7 @@ pub(crate) fn push(
 
 // sfree
 pub(crate) fn pop(plan: &[u32], at: usize, h: u32, u: usize, more: bool) -> Moved
-    requires { ⌜ (at + 8 ≤ length (now plan)) × (h ≤ 256) × (u ≤ 2048) ⌝ }
+    requires { ⌜ RowAt (now plan) at h u ⌝ }
     ensures { λ r. ⌜ ((ω : OperandTable) (R S H : Memory) → Does ω at h u more R S H (λ p. nextPop h p (getD (now (plan .entry)) (at + 3) 0)) r R S H) ⌝ }
 {
     let n = read(plan, at, 3);
@@ -90,7 +90,7 @@ pub(crate) fn peek(
     u: usize,
     more: bool,
 ) -> Moved
-    requires { ⌜ (at + 8 ≤ length (now plan)) × (8 ≤ length (now rk)) × (8 ≤ length (now rn)) × (256 ≤ length (now sk)) × (256 ≤ length (now sn)) × Low (now plan) at × (h ≤ 256) × (u ≤ 2048) ⌝ }
+    requires { ⌜ LowRow (now plan) at h u × Long 8 (now rk) (now rn) × Long 256 (now sk) (now sn) ⌝ }
     ensures { λ r. ⌜ ((ω : OperandTable) (H : Memory) → Does ω at h u more (lent (now (rk .entry)) (now (rn .entry))) (lent (now (sk .entry)) (now (sn .entry))) H (λ p. nextRead (lent (now (sk .entry)) (now (sn .entry))) h p (getD (now (plan .entry)) (at + 1) 0) (getD (now (plan .entry)) (at + 3) 0)) r (lent (now (rk .exit)) (now (rn .exit))) (lent (now (sk .entry)) (now (sn .entry))) H) ⌝ }
 {
     let top = exec_words::memory::wide(h);
@@ -114,7 +114,7 @@ pub(crate) fn poke(
     u: usize,
     more: bool,
 ) -> Moved
-    requires { ⌜ (at + 8 ≤ length (now plan)) × (8 ≤ length (now rk)) × (8 ≤ length (now rn)) × (256 ≤ length (now sk)) × (256 ≤ length (now sn)) × Low (now plan) at × (h ≤ 256) × (u ≤ 2048) ⌝ }
+    requires { ⌜ LowRow (now plan) at h u × Long 8 (now rk) (now rn) × Long 256 (now sk) (now sn) ⌝ }
     ensures { λ r. ⌜ ((ω : OperandTable) (H : Memory) → Does ω at h u more (lent (now (rk .entry)) (now (rn .entry))) (lent (now (sk .entry)) (now (sn .entry))) H (λ p. nextWrite (lent (now (rk .entry)) (now (rn .entry))) h p (getD (now (plan .entry)) (at + 3) 0) (getD (now (plan .entry)) (at + 2) 0)) r (lent (now (rk .entry)) (now (rn .entry))) (lent (now (sk .exit)) (now (sn .exit))) H) ⌝ }
 {
     let top = exec_words::memory::wide(h);
@@ -138,7 +138,7 @@ pub(crate) fn peek_through(
     u: usize,
     more: bool,
 ) -> Moved
-    requires { ⌜ (at + 8 ≤ length (now plan)) × (8 ≤ length (now rk)) × (8 ≤ length (now rn)) × (256 ≤ length (now sk)) × (256 ≤ length (now sn)) × Low (now plan) at × (h ≤ 256) × (u ≤ 2048) ⌝ }
+    requires { ⌜ LowRow (now plan) at h u × Long 8 (now rk) (now rn) × Long 256 (now sk) (now sn) ⌝ }
     ensures { λ r. ⌜ ((ω : OperandTable) (H : Memory) → Does ω at h u more (lent (now (rk .entry)) (now (rn .entry))) (lent (now (sk .entry)) (now (sn .entry))) H (λ p. nextReadThrough (lent (now (rk .entry)) (now (rn .entry))) (lent (now (sk .entry)) (now (sn .entry))) h p (getD (now (plan .entry)) (at + 1) 0) (getD (now (plan .entry)) (at + 2) 0) (getD (now (plan .entry)) (at + 3) 0)) r (lent (now (rk .exit)) (now (rn .exit))) (lent (now (sk .entry)) (now (sn .entry))) H) ⌝ }
 {
     let w = get(rk, rn, index(plan, at, 2));
@@ -169,7 +169,7 @@ pub(crate) fn poke_through(
     u: usize,
     more: bool,
 ) -> Moved
-    requires { ⌜ (at + 8 ≤ length (now plan)) × (8 ≤ length (now rk)) × (8 ≤ length (now rn)) × (256 ≤ length (now sk)) × (256 ≤ length (now sn)) × Low (now plan) at × (h ≤ 256) × (u ≤ 2048) ⌝ }
+    requires { ⌜ LowRow (now plan) at h u × Long 8 (now rk) (now rn) × Long 256 (now sk) (now sn) ⌝ }
     ensures { λ r. ⌜ ((ω : OperandTable) (H : Memory) → Does ω at h u more (lent (now (rk .entry)) (now (rn .entry))) (lent (now (sk .entry)) (now (sn .entry))) H (λ p. nextWriteThrough (lent (now (rk .entry)) (now (rn .entry))) h p (getD (now (plan .entry)) (at + 1) 0) (getD (now (plan .entry)) (at + 3) 0) (getD (now (plan .entry)) (at + 2) 0)) r (lent (now (rk .entry)) (now (rn .entry))) (lent (now (sk .exit)) (now (sn .exit))) H) ⌝ }
 {
     let w = get(rk, rn, index(plan, at, 1));

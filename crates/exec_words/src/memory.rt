@@ -2,11 +2,11 @@
 // a read gives junk and a write does nothing; the others ask that the words are lent, and make no test. Operands are read from a decoded
 // program's tables, and a tuple is written to the part of the heap that starts at the first unused word.
 ghost use mathlib.Core.Path.{_≡_};
-ghost use Prim.Native.Nat.{_+_, _*_, _<_, _≤_};
+ghost use Prim.Native.Nat.{_+_, _<_, _≤_};
 ghost use lib.ListN.{length, set as setAt, getD, replicate};
 ghost use Rattle.exec.specs.Machine.{at, put, puts, junkKind, junkWord, wordOf};
 ghost use Rattle.tables.specs.Tables.{cell, operandAt};
-ghost use Rattle.exec_words.specs.memory.Lent.{wordIs, lent, operandTable, tupleOf, Sourced};
+ghost use Rattle.exec_words.specs.memory.Lent.{wordIs, lent, operandTable, tupleOf, Sourced, Long, WordAt, OperandAt};
 
 // The kinds of words: an integer.
 pub const INT: u8 = 0;
@@ -155,7 +155,7 @@ fn put_operand(
     rn: &[u32],
     v: usize,
 )
-    requires { ⌜ (i < length (now kinds)) × (i < length (now numbers)) × (8 ≤ length (now rk)) × (8 ≤ length (now rn)) × (4 * v < length (now operands)) × (v < length (now bases)) × (getD (now operands) (4 * v) 0 ≡ 0 → getD (now bases) v 0 < 8) ⌝ }
+    requires { ⌜ WordAt i (now kinds) (now numbers) × Long 8 (now rk) (now rn) × OperandAt (now operands) (now bases) v ⌝ }
     ensures { λ _. ⌜ lent (now (kinds .exit)) (now (numbers .exit)) ≡ put (lent (now (kinds .entry)) (now (numbers .entry))) i (wordOf (lent (now (rk .entry)) (now (rn .entry))) (operandAt (operandTable (now (operands .entry)) (now (bases .entry))) v)) ⌝ }
 {
     let k = operands[4 * v];
@@ -190,7 +190,7 @@ fn write_tuple(
     v: u32,
     n: u32,
 )
-    requires { ⌜ (n < length (now kinds)) × (n < length (now numbers)) × (8 ≤ length (now rk)) × (8 ≤ length (now rn)) × Sourced (now operands) (now bases) v n ⌝ }
+    requires { ⌜ WordAt n (now kinds) (now numbers) × Long 8 (now rk) (now rn) × Sourced (now operands) (now bases) v n ⌝ }
     ensures { λ _. ⌜ lent (now (kinds .exit)) (now (numbers .exit)) ≡ puts (lent (now (kinds .entry)) (now (numbers .entry))) 0 (tupleOf (operandTable (now (operands .entry)) (now (bases .entry))) (lent (now (rk .entry)) (now (rn .entry))) v n) ⌝ }
 {
     let first = wide(v);
@@ -223,7 +223,7 @@ pub fn put_tuple(
     v: u32,
     n: u32,
 )
-    requires { ⌜ (used + n < length (now hk)) × (used + n < length (now hn)) × (8 ≤ length (now rk)) × (8 ≤ length (now rn)) × Sourced (now operands) (now bases) v n ⌝ }
+    requires { ⌜ WordAt (used + n) (now hk) (now hn) × Long 8 (now rk) (now rn) × Sourced (now operands) (now bases) v n ⌝ }
     ensures { λ _. ⌜ lent (now (hk .exit)) (now (hn .exit)) ≡ puts (lent (now (hk .entry)) (now (hn .entry))) used (tupleOf (operandTable (now (operands .entry)) (now (bases .entry))) (lent (now (rk .entry)) (now (rn .entry))) v n) ⌝ }
 {
     let a = wide(used);

@@ -127,7 +127,20 @@ by-length n true y z w ex ey ez ew = record { rows = omega arith; blocks = omega
 by-length n false true z w ex ey ez ew = record { rows = omega arith; blocks = omega arith; instrs = omega arith; parts = omega arith; operands = omega arith; args = omega arith; uses = omega arith; tops = omega arith; shared = omega arith; slots = omega arith; fits = ltb-false n 4423 ex }
 by-length n false false true w ex ey ez ew = record { rows = omega arith; blocks = omega arith; instrs = omega arith; parts = omega arith; operands = omega arith; args = omega arith; uses = omega arith; tops = omega arith; shared = omega arith; slots = omega arith; fits = ltb-false n 5162 ey }
 by-length n false false false true ex ey ez ew = record { rows = omega arith; blocks = omega arith; instrs = omega arith; parts = omega arith; operands = omega arith; args = omega arith; uses = omega arith; tops = omega arith; shared = omega arith; slots = omega arith; fits = ltb-false n 150900 ez }
-by-length n false false false false ex ey ez ew = record { rows = omega arith; blocks = omega arith; instrs = omega arith; parts = omega arith; operands = omega arith; args = omega arith; uses = omega arith; tops = omega arith; shared = omega arith; slots = omega arith; fits = ltb-false n 161694 ew }
+by-length n false false false false ex ey ez ew =
+    record {
+      rows = omega arith;
+      blocks = omega arith;
+      instrs = omega arith;
+      parts = omega arith;
+      operands = omega arith;
+      args = omega arith;
+      uses = omega arith;
+      tops = omega arith;
+      shared = omega arith;
+      slots = omega arith;
+      fits = ltb-false n 161694 ew;
+    }
 
 -- the sections stand one behind the other
 pub ordered : (n : ℕ) → Ordered (placesOf n) n

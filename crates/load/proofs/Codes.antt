@@ -124,7 +124,9 @@ module _ (τ : RowTable) (n : ℕ) (β ι : List ℕ) (ω : OperandTable) (ni : 
       let q = labels-from (suc b) (suc k) (λ j h. subst (λ (x : ℕ). CodeOk τ n (cell 2 β x 0)) (omega arith) (a (suc j) (omega arith))) l in
       rw (leb·suc-suc (suc l) (suc k), ← e) q
 
-pub holds-is : (τ : RowTable) (n : ℕ) (β ι : List ℕ) (ω : OperandTable) (ni nb : ℕ) (P : Program) → Clear (rowsFaults [] [] (rowsIn τ n)) → ((l : ℕ) → l < nb → CodeOk τ n (cell 2 β l 0)) → P .types ≡ typesOf (rowsIn τ n) → P .blocks ≡ blocksOf (typesOf (rowsIn τ n)) (blocksFrom β ι ω ni 0 nb) → Holds τ n β nb P
+pub holds-is : (τ : RowTable) (n : ℕ) (β ι : List ℕ) (ω : OperandTable) (ni nb : ℕ) (P : Program) → Clear (rowsFaults [] [] (rowsIn τ n))
+    → ((l : ℕ) → l < nb → CodeOk τ n (cell 2 β l 0)) → P .types ≡ typesOf (rowsIn τ n) → P .blocks ≡ blocksOf (typesOf (rowsIn τ n))
+    (blocksFrom β ι ω ni 0 nb) → Holds τ n β nb P
 holds-is τ n β ι ω ni nb P cl a e f = record {
   types = e;
   labels = λ Δ l.

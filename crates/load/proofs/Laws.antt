@@ -35,7 +35,7 @@ use Rattle.valid_context.specs.premises.Answers.{Holds}
 use Rattle.valid_context.proofs.premises.Grammar.{rows-small, instrs-small}
 use Rattle.load.specs.prepare.Prepared.{Prepared, Kept}
 use Rattle.load.specs.declared.Loaded.{Loaded}
-use Rattle.load.specs.Loaded.{Space, SpaceFor, SpaceIn, faulty, refusalOf, IsLoaded, LoadIs}
+use Rattle.load.specs.Loaded.{Space, SpaceFor, SmallRead, SpaceIn, faulty, refusalOf, IsLoaded, LoadIs}
 use Rattle.load.proofs.Codes.{CodeOk, all-codes, holds-is}
 
 -- a fault that is named
@@ -118,13 +118,20 @@ module _ (text : List ℕ) (σ : Store) (r : Read) (d : decode.Decoded text σ r
     rows-seen z = clear-split (rowsFaults [] [] (rowsIn τ (r .rows))) (entriesFaults (rowsIn τ (r .rows)) (r .blocks) (entriesIn (rowsIn τ (r .rows)) bs)) (all-clear z) .0
 
     codes : f .number ≡ 0 → (l : ℕ) → l < r .blocks → CodeOk τ (r .rows) (cell 2 (σ .blocks) l 0)
-    codes z = all-codes τ (r .rows) (σ .blocks) (σ .instrs) (operandsOf σ) (r .instrs) (r .blocks) (subst Clear (entries-rows (rowsIn τ (r .rows)) (rowsIn τ (r .rows)) (r .blocks) bs) (clear-split (rowsFaults [] [] (rowsIn τ (r .rows))) (entriesFaults (rowsIn τ (r .rows)) (r .blocks) (entriesIn (rowsIn τ (r .rows)) bs)) (all-clear z) .1))
+    codes z =
+        all-codes τ (r .rows) (σ .blocks) (σ .instrs) (operandsOf σ) (r .instrs) (r .blocks)
+        (subst Clear (entries-rows (rowsIn τ (r .rows)) (rowsIn τ (r .rows)) (r .blocks) bs)
+        (clear-split (rowsFaults [] [] (rowsIn τ (r .rows))) (entriesFaults (rowsIn τ (r .rows)) (r .blocks)
+        (entriesIn (rowsIn τ (r .rows)) bs)) (all-clear z) .1))
 
     pub rows-small-in : (x : ℕ) → x < r .rows → SmallRow (rowAt τ x)
     rows-small-in = rows-small text τ (r .rows) (d .rows)
 
     holds-in : f .number ≡ 0 → Holds τ (r .rows) (σ .blocks) (r .blocks) (programOf text)
-    holds-in z = holds-is τ (r .rows) (σ .blocks) (σ .instrs) (operandsOf σ) (r .instrs) (r .blocks) (programOf text) (rows-seen z) (codes z) (unfold programOf programFrom in ap typesOf (sym (d .rows))) (unfold programOf programFrom in ap₂ (λ rs ls. blocksOf (typesOf rs) ls) (sym (d .rows)) (sym (d .blocks)))
+    holds-in z =
+        holds-is τ (r .rows) (σ .blocks) (σ .instrs) (operandsOf σ) (r .instrs) (r .blocks) (programOf text) (rows-seen z) (codes z)
+        (unfold programOf programFrom in ap typesOf (sym (d .rows))) (unfold programOf programFrom in ap₂ (λ rs ls. blocksOf (typesOf rs)
+        ls) (sym (d .rows)) (sym (d .blocks)))
 
     -- ---- after preparing: only the rows' table has changed
     module _ (after uses tops : List ℕ) (p : Prepared (σ .rows) after (σ .parts) (r .rows) uses tops) (z : f .number ≡ 0) (space : SpaceFor (r .rows) (length after) (length uses) (length tops)) where
@@ -134,7 +141,22 @@ module _ (text : List ℕ) (σ : Store) (r : Read) (d : decode.Decoded text σ r
       holds-after : Holds (rowTable π) (r .rows) (σ .blocks) (r .blocks) (programOf text)
       holds-after = let h = holds-in z in record { types = h .types ∙ ap typesOf (sym (p .rows)); labels = h .labels }
 
-      pub all-loaded : (out : Loaded) → out ≡ record { fits = true; fault = 0; line = 0; rows = r .rows; blocks = r .blocks; instrs = r .instrs } → LoadIs text (record { rows = after; parts = σ .parts; operands = σ .operands; numbers = σ .numbers; args = σ .args; instrs = σ .instrs; blocks = σ .blocks }) uses tops out
+      pub all-loaded : (out : Loaded) → out ≡ record {
+        fits = true;
+        fault = 0;
+        line = 0;
+        rows = r .rows;
+        blocks = r .blocks;
+        instrs = r .instrs;
+      } → LoadIs text (record {
+        rows = after;
+        parts = σ .parts;
+        operands = σ .operands;
+        numbers = σ .numbers;
+        args = σ .args;
+        instrs = σ .instrs;
+        blocks = σ .blocks;
+      }) uses tops out
       all-loaded out o = subst (LoadIs text π uses tops) (sym o) (record {
         fault = two-none z;
         loaded = λ w. record {
@@ -162,16 +184,18 @@ module _ (text : List ℕ) (σ : Store) (r : Read) (d : decode.Decoded text σ r
       })
 
 -- ---- what `pass_two` asks
-pub few-ok : (text : List ℕ) (σ : Store) (r : Read) → decode.Decoded text σ r → lowestLine 0 (passOne text) ≡ none → (r .rows ≤ 65535) × (r .blocks ≤ 65535) × (r .instrs ≤ 65535) × Rising (σ .blocks) (r .blocks)
-few-ok text σ r d o =
-    let a = d .few-rows in
-    let b = d .few-blocks in
-    let c = d .few-instrs in
-    (omega arith, omega arith, omega arith, starts-rise text σ r d o)
+pub few-ok : (text : List ℕ) (σ : Store) (r : Read) → decode.Decoded text σ r → lowestLine 0 (passOne text) ≡ none → SmallRead r × Rising (σ .blocks) (r .blocks)
+few-ok text σ r d o = (record { rows = omega arith; blocks = omega arith; instrs = omega arith }, starts-rise text σ r d o)
 
 -- ---- in an image
-module _ (text : List ℕ) (p : Places) (l ns : List ℕ) (r : Read) (d : decode.Decoded text (storeIn p l ns) r) (one : lowestLine 0 (passOne text) ≡ none) (f : Found) (e : foundRefusal f ≡ lowestLine 0 (passTwo (rowsIn (rowTable (storeIn p l ns)) (r .rows)) (r .blocks) (entriesIn (rowsIn (rowTable (storeIn p l ns)) (r .rows)) (blocksFrom (blockSection p l) (instrSection p l) (operandsOf (storeIn p l ns)) (r .instrs) 0 (r .blocks))))) where
-  pub loaded-in : (l′ : List ℕ) → Prepared (rowSection p l) (rowSection p l′) (partSection p l) (r .rows) (useSection p l′) (topSection p l′) → Kept p l l′ → f .number ≡ 0 → SpaceFor (r .rows) (length (rowSection p l′)) (length (useSection p l′)) (length (topSection p l′)) → LoadIs text (storeIn p l′ ns) (useSection p l′) (topSection p l′) (record { fits = true; fault = 0; line = 0; rows = r .rows; blocks = r .blocks; instrs = r .instrs })
+module _ (text : List ℕ) (p : Places) (l ns : List ℕ) (r : Read) (d : decode.Decoded text (storeIn p l ns) r) (one : lowestLine 0
+    (passOne text) ≡ none) (f : Found) (e : foundRefusal f ≡ lowestLine 0 (passTwo (rowsIn (rowTable (storeIn p l ns)) (r .rows))
+    (r .blocks) (entriesIn (rowsIn (rowTable (storeIn p l ns)) (r .rows)) (blocksFrom (blockSection p l) (instrSection p l)
+    (operandsOf (storeIn p l ns)) (r .instrs) 0 (r .blocks))))) where
+  pub loaded-in : (l′ : List ℕ) → Prepared (rowSection p l) (rowSection p l′) (partSection p l) (r .rows) (useSection p l′)
+      (topSection p l′) → Kept p l l′ → f .number ≡ 0 → SpaceFor (r .rows) (length (rowSection p l′)) (length (useSection p l′))
+      (length (topSection p l′)) → LoadIs text (storeIn p l′ ns) (useSection p l′) (topSection p l′)
+      (record { fits = true; fault = 0; line = 0; rows = r .rows; blocks = r .blocks; instrs = r .instrs })
   loaded-in l′ q k z space =
       rw (k .parts, k .operands, k .args, k .instrs, k .blocks) (all-loaded text (storeIn p l ns) r d one f e (rowSection p l′) (useSection p l′) (topSection p l′) q z space (record { fits = true; fault = 0; line = 0; rows = r .rows; blocks = r .blocks; instrs = r .instrs }) refl)
 
@@ -191,7 +215,10 @@ space-at p l ns n o h s = record {
 }
 
 -- an image for every text has room for every text
-by-places : (p : Places) (l ns : List ℕ) → Ordered p (length l) → 4 * 514 ≤ p .blocks - p .rows → 2 * 65 ≤ p .instrs - p .blocks → 8 * 1025 ≤ p .parts - p .instrs → 17 * 513 ≤ p .operands - p .parts → 4 * 16400 ≤ p .args - p .operands → 32896 ≤ p .uses - p .args → 64 * 512 ≤ p .tops - p .uses → 512 ≤ p .shared - p .tops → 16400 ≤ length ns → Space (storeIn p l ns) (length (useSection p l)) (length (topSection p l))
+by-places : (p : Places) (l ns : List ℕ) → Ordered p (length l) → 4 * 514 ≤ p .blocks - p .rows → 2 * 65 ≤ p .instrs - p .blocks
+    → 8 * 1025 ≤ p .parts - p .instrs → 17 * 513 ≤ p .operands - p .parts → 4 * 16400 ≤ p .args - p .operands → 32896 ≤ p .uses - p .args
+    → 64 * 512 ≤ p .tops - p .uses → 512 ≤ p .shared - p .tops → 16400 ≤ length ns → Space (storeIn p l ns) (length (useSection p l))
+    (length (topSection p l))
 by-places p l ns o rows blocks instrs parts operands args uses tops numbers =
     let w = lengths p l o in
     record {

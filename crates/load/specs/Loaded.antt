@@ -18,6 +18,7 @@ use Rattle.image.specs.Sections.{useSection, topSection}
 use Rattle.image.specs.Layout.{placesOf}
 use Rattle.text_decode.specs.store.Store.{Store, rowTable, operandsOf, Room, stored}
 use Rattle.text_decode.specs.Decoded.{OperandsIn}
+use Rattle.text_decode.specs.declared.state.Read.{Read}
 use Rattle.valid_context.specs.premises.Bounds.{SmallRow, SmallInstr}
 use Rattle.valid_context.specs.premises.Answers.{Holds}
 use Rattle.load.specs.declared.Loaded.{Loaded}
@@ -27,6 +28,12 @@ pub record SpaceFor (n k u t : ℕ) : Type 0 where
   pub rows : 4 * n + 8 ≤ k
   pub uses : 64 * n ≤ u
   pub tops : n ≤ t
+
+-- what was read is as much as pass two can count
+pub record SmallRead (r : Read) : Type 0 where
+  pub rows : r .rows ≤ 65535
+  pub blocks : r .blocks ≤ 65535
+  pub instrs : r .instrs ≤ 65535
 
 -- room for every text: as much as document 01 allows
 pub record Space (σ : Store) (u t : ℕ) : Type 0 where

@@ -19,7 +19,7 @@ ghost use Rattle.image.specs.Sections.{Ordered, blockSection, instrSection};
 ghost use Rattle.types_pass_two.specs.refs.Refs.{Rising, refusalOf};
 ghost use Rattle.text_decode.specs.store.Store.{rowTable, operandsOf, storeIn, stored};
 ghost use Rattle.text_decode.specs.Decoded.{Fitting};
-ghost use Rattle.load.specs.Loaded.{SpaceFor, SpaceIn, usesIn, topsIn, unfitLoad, faulty, LoadIs};
+ghost use Rattle.load.specs.Loaded.{SpaceFor, SmallRead, SpaceIn, usesIn, topsIn, unfitLoad, faulty, LoadIs};
 
 // Whether the text fits the image; the fault of passes one and two and its line, 0 and 0 for none; then how many rows, blocks and
 // instructions there are.
@@ -74,7 +74,7 @@ fn has_space(p: Places, n: usize) -> bool
 
 // Pass two over the tables in the image.
 fn second_pass(image: &[u16], numbers: &[u32], p: Places, r: Read) -> Found
-    requires { ⌜ Ordered p (length (now image)) × (r .rows ≤ 65535) × (r .blocks ≤ 65535) × (r .instrs ≤ 65535) × Rising (blockSection p (now image)) (r .blocks) ⌝ }
+    requires { ⌜ Ordered p (length (now image)) × SmallRead r × Rising (blockSection p (now image)) (r .blocks) ⌝ }
     ensures { λ out. ⌜ refusalOf out ≡ lowestLine 0 (passTwo (rowsIn (rowTable (storeIn p (now (image .entry)) (now (numbers .entry)))) (r .rows)) (r .blocks) (entriesIn (rowsIn (rowTable (storeIn p (now (image .entry)) (now (numbers .entry)))) (r .rows)) (blocksFrom (blockSection p (now (image .entry))) (instrSection p (now (image .entry))) (operandsOf (storeIn p (now (image .entry)) (now (numbers .entry)))) (r .instrs) 0 (r .blocks)))) ⌝ }
 {
     let rows = p.rows;

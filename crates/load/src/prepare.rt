@@ -13,6 +13,7 @@ ghost use Rattle.tables.specs.Tables.{rowAt, rowsIn};
 ghost use Rattle.types_rows.specs.Read.{tab};
 ghost use Rattle.image.specs.Sections.{rowSection, partSection, useSection, topSection, Ordered};
 ghost use Rattle.valid_context.specs.premises.Bounds.{SmallRow};
+ghost use Rattle.load.specs.Loaded.{SpaceFor};
 ghost use Rattle.load.specs.prepare.Prepared.{Prepared, Kept};
 
 // Rows n and n + 1 get the kinds of `I` and `N`.
@@ -28,7 +29,7 @@ fn put_two(rows: &mut [u16], n: usize)
 
 // Puts the two rows behind the n of the text, counts the items of stack rows, and finds how rows use variables.
 pub(crate) fn prepare(image: &mut [u16], p: Places, n: usize)
-    requires { ⌜ Ordered p (length (now image)) × (n ≤ 512) × (4 * n + 8 ≤ p .blocks - p .rows) × (64 * n ≤ p .tops - p .uses) × (n ≤ p .shared - p .tops) ⌝ }
+    requires { ⌜ Ordered p (length (now image)) × (n ≤ 512) × SpaceFor n (p .blocks - p .rows) (p .tops - p .uses) (p .shared - p .tops) ⌝ }
     requires { ⌜ Clear (rowsFaults [] [] (rowsIn (tab (rowSection p (now image)) (partSection p (now image))) n)) × ((r : ℕ) → r < n → SmallRow (rowAt (tab (rowSection p (now image)) (partSection p (now image))) r)) ⌝ }
     ensures { λ _. ⌜ Prepared (rowSection p (now (image .entry))) (rowSection p (now (image .exit))) (partSection p (now (image .entry))) n (useSection p (now (image .exit))) (topSection p (now (image .exit))) × Kept p (now (image .entry)) (now (image .exit)) ⌝ }
 {

@@ -242,7 +242,9 @@ module _ (text : List ℕ) (at number place : ℕ) (u : Used) (σ : Store) (g : 
       pub at-fault : (f : ℕ) → f ≡ lineFault l place u → (f ≡ 0 → ⊥) → (r : Read) → r ≡ faultyRead f number → ReadIs text π r
       at-fault f w z r q = faulty-read f (entryOf (fieldsOf (take (e - at) (drop at text)))) (map parse (linesOf (drop (e + 1) text))) l here (kin (take (e - at) (drop at text)) u σ π l i) w z π r q
 
-      moved : (x : Entry) → entryOf (fieldsOf (take (e - at) (drop at text))) ≡ some x → lineFault l place u ≡ 0 → RoomFor u σ → AsLong π σ → Few (usedAfter u l) → Says (usedAfter u l) π (g .es ++ (x ∷ [])) → Starts (placeBehind l place) (usedAfter u l) (π .blocks) → Going text (e + 1) (number + 1) (placeBehind l place) (usedAfter u l) π
+      moved : (x : Entry) → entryOf (fieldsOf (take (e - at) (drop at text))) ≡ some x → lineFault l place u ≡ 0 → RoomFor u σ
+          → AsLong π σ → Few (usedAfter u l) → Says (usedAfter u l) π (g .es ++ (x ∷ [])) → Starts (placeBehind l place) (usedAfter u l)
+          (π .blocks) → Going text (e + 1) (number + 1) (placeBehind l place) (usedAfter u l) π
       unfolding said
       moved x w z room long few says starts = record {
         within = omega arith;
@@ -250,7 +252,10 @@ module _ (text : List ℕ) (at number place : ℕ) (u : Used) (σ : Store) (g : 
         counts = let c = g .counts in let b = end-from 10 text at e is in omega arith;
         few = few;
         carried = let c = g .carried in let d = i .carried in let k = args-after u l in let t = length-take (e - at) (drop at text) in let b = end-from 10 text at e is in omega arith;
-        faults = g .faults ∙ ap (λ (os : List (Option Entry)). lowestLine number (linesFaults (placeOf place) (countsOf u) os)) here ∙ fault-behind number place u l (entryOf (fieldsOf (take (e - at) (drop at text)))) (map parse (linesOf (drop (e + 1) text))) (kin (take (e - at) (drop at text)) u σ π l i) z;
+        faults =
+            g .faults ∙ ap (λ (os : List (Option Entry)). lowestLine number (linesFaults (placeOf place) (countsOf u) os)) here
+            ∙ fault-behind number place u l (entryOf (fieldsOf (take (e - at) (drop at text)))) (map parse (linesOf (drop (e + 1) text)))
+            (kin (take (e - at) (drop at text)) u σ π l i) z;
         es = g .es ++ (x ∷ []);
         entries = g .entries ∙ ap (λ (os : List (Option Entry)). g .es ++ said os) (here ∙ ap (λ (o : Option Entry). o ∷ map parse (linesOf (drop (e + 1) text))) w) ∙ sym (append-assoc (g .es) (x ∷ []) (said (map parse (linesOf (drop (e + 1) text)))));
         says = says;
@@ -296,7 +301,9 @@ module _ (text : List ℕ) (at number place : ℕ) (u : Used) (σ : Store) (g : 
             let b = end-from 10 text at e is in
             record { rows = g .few .rows; blocks = g .few .blocks; instrs = omega arith; operands = omega arith; args = omega arith }
 
-        say-still : Same u π σ → ((ρ : Store) → Same (usedAfter u (line.Instruction n m)) ρ π → some (instr (instrAt (ρ .instrs) (operandsOf ρ) (u .instrs))) ≡ entryOf (fieldsOf (take (e - at) (drop at text)))) → Says (usedAfter u (line.Instruction n m)) π (g .es ++ (instr (instrAt (π .instrs) (operandsOf π) (u .instrs)) ∷ []))
+        say-still : Same u π σ → ((ρ : Store) → Same (usedAfter u (line.Instruction n m)) ρ π
+            → some (instr (instrAt (ρ .instrs) (operandsOf ρ) (u .instrs))) ≡ entryOf (fieldsOf (take (e - at) (drop at text))))
+            → Says (usedAfter u (line.Instruction n m)) π (g .es ++ (instr (instrAt (π .instrs) (operandsOf π) (u .instrs)) ∷ []))
         say-still kept told =
             says-instr u σ π (g .es) (g .says) kept n m (instrAt (π .instrs) (operandsOf π) (u .instrs))
             (λ ρ s. ap (theInstr (instrAt (π .instrs) (operandsOf π) (u .instrs))) (told ρ s ∙ sym (told π (same-refl (usedAfter u (line.Instruction n m)) π))))

@@ -11,7 +11,8 @@ ghost use Rattle.text_lines.specs.Parts.{lineIn, fieldIn, InLine, StopAt};
 ghost use Rattle.text_fields.specs.numbers.Numbers.{ScanIs};
 ghost use Rattle.text_decode.specs.line.Fields.{fieldsFrom, plainField, mostOf, partNumber};
 ghost use Rattle.text_decode.specs.line.Forms.{formOf, fewest};
-ghost use Rattle.text_decode.specs.line.Answers.{noSlot, SlotIs, SlotsAre, PartsRead, withOperand, operandsIn, OperandRoom, OperandsRead, Carried, AtEnd, noEntry, PlainIs, RowIs, FormIs};
+ghost use Rattle.text_decode.specs.line.Answers.{noSlot, SlotIs, SlotsAre, PartsRead, withOperand, operandsIn, OperandRoom, OperandsRead, Carried, AtEnd, noEntry, PlainForm, PlainIs, RowIs, FormIs};
+ghost use Rattle.text_decode.specs.store.Store.{FieldRoom};
 use crate::store::Used;
 use image::Places;
 use text_fields::numbers::Number;
@@ -407,7 +408,7 @@ fn read_plain(
     v: usize,
     a: usize,
 ) -> Said
-    requires { ⌜ Ordered p (length (now image)) × (code < 34) × (code ≡ 3 → ⊥) × (code ≡ 5 → ⊥) × OperandRoom (v + 16) (a + 128) (length (operandSection p (now image))) (length (now numbers)) (length (argSection p (now image))) × StopAt (now rest) at ⌝ }
+    requires { ⌜ Ordered p (length (now image)) × PlainForm code × OperandRoom (v + 16) (a + 128) (length (operandSection p (now image))) (length (now numbers)) (length (argSection p (now image))) × StopAt (now rest) at ⌝ }
     ensures { λ r. ⌜ PlainIs code (fieldsFrom (lineIn (now (rest .entry))) (at + 1)) v a (operandsIn p (now (image .entry)) (now (numbers .entry))) (operandsIn p (now (image .exit)) (now (numbers .exit))) r × Carried (now (rest .entry)) (r .args) × AtEnd (now (rest .entry)) (r .ok) (r .next) × Outside (p .operands) (p .uses) (now (image .entry)) (now (image .exit)) ⌝ }
 {
     let f = form_at(code);
@@ -503,7 +504,7 @@ pub(crate) fn read_form(
     numbers: &mut [u32],
     u: Used,
 ) -> Said
-    requires { ⌜ Ordered p (length (now image)) × (code < 34) × (17 * u .rows + 17 ≤ length (partSection p (now image))) × (u .rows ≤ 512) × OperandRoom (u .operands + 16) (u .args + 128) (length (operandSection p (now image))) (length (now numbers)) (length (argSection p (now image))) × StopAt (now rest) at ⌝ }
+    requires { ⌜ FieldRoom p (now image) (now numbers) u × (code < 34) × (u .rows ≤ 512) × StopAt (now rest) at ⌝ }
     ensures { λ r. ⌜ FormIs code (fieldsFrom (lineIn (now (rest .entry))) (at + 1)) (17 * u .rows) (u .operands) (u .args) (partSection p (now (image .entry))) (partSection p (now (image .exit))) (operandsIn p (now (image .entry)) (now (numbers .entry))) (operandsIn p (now (image .exit)) (now (numbers .exit))) r × Carried (now (rest .entry)) (r .args) × AtEnd (now (rest .entry)) (r .ok) (r .next) × Outside (p .parts) (p .uses) (now (image .entry)) (now (image .exit)) ⌝ }
 {
     let from = p.parts;

@@ -6,11 +6,11 @@ ghost use mathlib.Core.List.{[], _∷_};
 ghost use Prim.Native.Nat.{_+_, _*_, _≤_, _<_};
 ghost use lib.ListN.{length};
 ghost use lib.Seq.{sets};
-ghost use Rattle.image.specs.Sections.{Ordered, Outside, rowSection, blockSection, instrSection, partSection, operandSection, argSection};
+ghost use Rattle.image.specs.Sections.{Ordered, Outside, rowSection, blockSection, instrSection, partSection};
 ghost use Rattle.text_lines.specs.Parts.{lineIn, InLine, StopAt};
 ghost use Rattle.text_decode.specs.line.Fields.{fieldsFrom};
-ghost use Rattle.text_decode.specs.line.Answers.{operandsIn, OperandRoom, Carried, AtEnd, FormIs};
-ghost use Rattle.text_decode.specs.store.Store.{storeIn, RoomFor, Few};
+ghost use Rattle.text_decode.specs.line.Answers.{operandsIn, Carried, AtEnd, FormIs};
+ghost use Rattle.text_decode.specs.store.Store.{storeIn, FieldRoom, EntryRoom, RoomFor, Few};
 ghost use Rattle.text_decode.specs.store.Lines.{noLine, LineIs, LineEnds, Stored};
 use crate::line::Said;
 use image::Places;
@@ -74,7 +74,7 @@ fn put_instr(instrs: &mut [u16], j: usize, code: u16, s: Said, v: u16)
 
 // Stores what the fields of a line say, at the first place that is not in use.
 fn put_line(code: usize, s: Said, image: &mut [u16], p: Places, u: Used) -> Line
-    requires { ⌜ Ordered p (length (now image)) × (code < 34) × (4 * (u .rows + 1) ≤ length (rowSection p (now image))) × (8 * (u .instrs + 1) ≤ length (instrSection p (now image))) × (2 * (u .blocks + 1) ≤ length (blockSection p (now image))) × Few u ⌝ }
+    requires { ⌜ EntryRoom p (now image) u × (code < 34) × Few u ⌝ }
     ensures { λ r. ⌜ Stored code s u (rowSection p (now (image .entry))) (instrSection p (now (image .entry))) (blockSection p (now (image .entry))) (rowSection p (now (image .exit))) (instrSection p (now (image .exit))) (blockSection p (now (image .exit))) r × Outside (p .rows) (p .parts) (now (image .entry)) (now (image .exit)) ⌝ }
 {
     let rows = p.rows;
@@ -112,7 +112,7 @@ fn read_rest(
     numbers: &mut [u32],
     u: Used,
 ) -> Said
-    requires { ⌜ Ordered p (length (now image)) × (code < 34) × StopAt (now text) f × (17 * (u .rows + 1) ≤ length (partSection p (now image))) × OperandRoom (u .operands + 16) (u .args + 128) (length (operandSection p (now image))) (length (now numbers)) (length (argSection p (now image))) × Few u ⌝ }
+    requires { ⌜ FieldRoom p (now image) (now numbers) u × (code < 34) × StopAt (now text) f × Few u ⌝ }
     ensures { λ r. ⌜ FormIs code (fieldsFrom (lineIn (now (text .entry))) (f + 1)) (17 * u .rows) (u .operands) (u .args) (partSection p (now (image .entry))) (partSection p (now (image .exit))) (operandsIn p (now (image .entry)) (now (numbers .entry))) (operandsIn p (now (image .exit)) (now (numbers .exit))) r × Carried (now (text .entry)) (r .args) × AtEnd (now (text .entry)) (r .ok) (f + r .next) × Outside (p .parts) (p .uses) (now (image .entry)) (now (image .exit)) ⌝ }
 {
     crate::line::read_form(&text[f..], 0, code, image, p, numbers, u)

@@ -132,7 +132,9 @@ unfolding each rowsIn
 each-is [] ts e = let q = Option·some-injective [] ts e in (ap length q, q)
 each-is (p ∷ ps) ts e = go (rowNumber p) (each rowNumber ps) refl refl e (each-is ps)
   where
-    go : (o : Option ℕ) (u : Option (List ℕ)) → rowNumber p ≡ o → each rowNumber ps ≡ u → bind o (λ x. bind u (λ xs. some (x ∷ xs))) ≡ some ts → ((ys : List ℕ) → each rowNumber ps ≡ some ys → (length ps ≡ length ys) × (rowsIn ps ≡ ys)) → (suc (length ps) ≡ length ts) × (orZero (rowNumber p) ∷ rowsIn ps ≡ ts)
+    go : (o : Option ℕ) (u : Option (List ℕ)) → rowNumber p ≡ o → each rowNumber ps ≡ u → bind o (λ x. bind u (λ xs. some (x ∷ xs))) ≡
+        some ts → ((ys : List ℕ) → each rowNumber ps ≡ some ys → (length ps ≡ length ys) × (rowsIn ps ≡ ys))
+        → (suc (length ps) ≡ length ts) × (orZero (rowNumber p) ∷ rowsIn ps ≡ ts)
     go none u a b h r = absurd (Option·none-ne-some ts h)
     go (some x) none a b h r = absurd (Option·none-ne-some ts h)
     go (some x) (some xs) a b h r =
@@ -268,7 +270,13 @@ module _ (l t : List ℕ) (e : ℕ) (is : e ≡ 0 + length (firstPart 58 (drop 0
       pub sides-base : 3 ≤ c .kind → carried (split 58 l) t ≡ none
       sides-base k = sides ∙ carried-base (take (e - 0) (drop 0 l)) t (split 58 (drop (e + 1) l)) (no-carrier (take (e - 0) (drop 0 l)) c ce k)
 
-      pub sides-all : c .kind < 3 → (n r : ℕ) → n ≡ orZero (rowCount 0 (split 58 (drop (e + 1) l))) → (n ≡ 0 → ⊥) → rowNumber t ≡ some r → (out : List ℕ) (at : ℕ) → OperandIs (carried (split 58 l) t) out at (record { kind = c .kind; number = c .number; count = n; row = r }) (sets out at (rowsIn (split 58 (drop (e + 1) l))))
+      pub sides-all : c .kind < 3 → (n r : ℕ) → n ≡ orZero (rowCount 0 (split 58 (drop (e + 1) l))) → (n ≡ 0 → ⊥) → rowNumber t ≡ some r
+          → (out : List ℕ) (at : ℕ) → OperandIs (carried (split 58 l) t) out at (record {
+            kind = c .kind;
+            number = c .number;
+            count = n;
+            row = r;
+          }) (sets out at (rowsIn (split 58 (drop (e + 1) l))))
       sides-all k n r ne nz re out at =
           let ps = split 58 (drop (e + 1) l) in
           let w = a-carrier (carrier (take (e - 0) (drop 0 l))) c ce k in

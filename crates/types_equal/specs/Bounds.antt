@@ -4,6 +4,9 @@ use mathlib.Core.List.{List}
 use lib.ListN.{getD}
 use Rattle.tables.specs.Tables.{RowTable}
 use Rattle.types_equal.specs.pending.Pending.{room}
+use Rattle.types_equal.specs.declared.stack_pairs.Context.{Context}
+use Rattle.types_equal.specs.declared.value_pairs.Bodies.{Bodies}
+use Rattle.types_equal.specs.declared.value_pairs.Span.{Span}
 
 -- the rows that the two sides and the arguments lead to are few
 pub record Tabled (τ : RowTable) (args : List ℕ) (m l r : ℕ) : Type 0 where
@@ -21,6 +24,31 @@ big (suc m) = 134217728
 -- room for the sums of a side: m arguments, raised by `by` past d, at row l
 abbrev pub Room : ℕ → ℕ → ℕ → ℕ → Type 0
 Room m by d l = by + d + 65536 * l + big m ≤ 2147483648
+
+-- room for the sums of both sides, at rows l and r
+pub record Rooms (k : Context) (l r : ℕ) : Type 0 where
+  pub left : Room (k .m) (k .by) (k .d) l
+  pub right : Room 0 (k .by2) (k .d2) r
+
+-- the same for the parts of rows l and r, under the letters of these rows
+pub record PartRooms (k : Context) (l r : ℕ) : Type 0 where
+  pub left : k .by + k .d + 65536 * l + big (k .m) ≤ 2147549184
+  pub right : k .by2 + k .d2 + 65536 * r ≤ 2147549184
+  pub left-row : 0 < l
+  pub right-row : 0 < r
+
+-- the stacks of two code rows l and r are lower rows, and their registers may stand in a table
+pub record BodiesIn (c : Bodies) (l r : ℕ) : Type 0 where
+  pub left-stack : c .x < l
+  pub left-file : c .p ≤ 65535
+  pub right-stack : c .y < r
+  pub right-file : c .q ≤ 65535
+
+-- the parts of two rows may stand in a table
+pub record SpanIn (s : Span) : Type 0 where
+  pub few : s .n ≤ 65535
+  pub left : s .p + s .n ≤ 131072
+  pub right : s .q + s .n ≤ 131072
 
 -- room for what is pending on both sides, in n words: at most a row's number of entries, and more for arguments
 abbrev pub Spare : ℕ → ℕ → ℕ → ℕ → Type 0

@@ -10,16 +10,16 @@ use types_rows::Val;
 ghost use mathlib.Core.Path.{_≡_};
 ghost use mathlib.Core.Bool.{true};
 ghost use mathlib.Core.List.{[], map};
-ghost use Prim.Native.Nat.{ℕ, _+_, _-_, _≤_, _<_};
+ghost use Prim.Native.Nat.{ℕ, _-_, _≤_};
 ghost use lib.ListN.{length, getD};
 ghost use Rattle.types.specs.Types.{junk, arg, aStack, Wf};
 ghost use Rattle.syntax.specs.Syntax.{value};
 ghost use Rattle.types.specs.Rows.{typeAt, typesOf, allBelow};
-ghost use Rattle.tables.specs.Tables.{lettersAt, rowsIn};
-ghost use Rattle.types_rows.specs.Read.{tab, meanS, codeOf, argsOf};
-ghost use Rattle.types_equal.specs.Bounds.{Spare, Tabled};
+ghost use Rattle.tables.specs.Tables.{rowsIn};
+ghost use Rattle.types_rows.specs.Read.{tab, codeOf, argsOf};
+ghost use Rattle.types_equal.specs.Bounds.{BodiesIn, Spare, Tabled};
 ghost use Rattle.types_equal.specs.stack_pairs.Fit.{sameStacks};
-ghost use Rattle.types_equal.specs.filling.Filling.{fillsTo, fillCodes, variableKind, Itself, Themselves};
+ghost use Rattle.types_equal.specs.filling.Filling.{fillsTo, fillCodes, variableKind, Itself, LeftCode, Themselves};
 
 // The kind of a row that is a variable of letter x.
 fn variable_kind(x: usize) -> usize
@@ -74,7 +74,7 @@ fn is_kept(
     p: usize,
     y: usize,
 ) -> bool
-    requires { ⌜ (p ≤ 65535) × (a ≤ 65535) × (a ≡ getD (now parts) (p + 8) 0) × (length (now args) ≤ a) × (closed ≡ true → Wf (lettersAt (now parts) p) aStack (meanS (tab (now rows) (now parts)) x)) ⌝ }
+    requires { ⌜ LeftCode (tab (now rows) (now parts)) closed p a x (length (now args)) ⌝ }
     ensures { λ out. ⌜ (out ≡ true → (b : ℕ) → true ≡ sameStacks (tab (now (rows .entry)) (now (parts .entry))) (argsOf (tab (now (rows .entry)) (now (parts .entry))) (now (args .entry)) (length (now (args .entry)))) 0 (a - length (now (args .entry))) x 0 b y) ⌝ }
 {
     if !closed {
@@ -97,7 +97,7 @@ fn eq_filled(
     c: Bodies,
     pending: &mut [u32],
 ) -> bool
-    requires { ⌜ Tabled (tab (now rows) (now parts)) (now args) (length (now args)) (c .x) (c .y) × (c .p ≤ 65535) × (a ≤ 65535) × (b ≤ 65535) × (a ≡ getD (now parts) (c .p + 8) 0) × (length (now args) ≤ a) × Spare (length (now args)) (c .x) (c .y) (length (now pending)) × (closed ≡ true → Wf (lettersAt (now parts) (c .p)) aStack (meanS (tab (now rows) (now parts)) (c .x))) ⌝ }
+    requires { ⌜ Tabled (tab (now rows) (now parts)) (now args) (length (now args)) (c .x) (c .y) × LeftCode (tab (now rows) (now parts)) closed (c .p) a (c .x) (length (now args)) × (b ≤ 65535) × Spare (length (now args)) (c .x) (c .y) (length (now pending)) ⌝ }
     ensures { λ out. ⌜ out ≡ sameStacks (tab (now (rows .entry)) (now (parts .entry))) (argsOf (tab (now (rows .entry)) (now (parts .entry))) (now (args .entry)) (length (now (args .entry)))) 0 (a - length (now (args .entry))) (c .x) 0 b (c .y) ⌝ }
 {
     if is_kept(rows, parts, args, closed, a, c.x, c.p, c.y) {
@@ -125,7 +125,7 @@ fn fill_code(
     c: Bodies,
     pending: &mut [u32],
 ) -> bool
-    requires { ⌜ Tabled (tab (now rows) (now parts)) (now args) (length (now args)) l r × (c .x < l) × (c .p ≤ 65535) × (c .y < r) × (c .q ≤ 65535) × Spare (length (now args)) l r (length (now pending)) × (closed ≡ true → Wf [] aStack (codeOf (tab (now rows) (now parts)) l (c .x) (c .p))) ⌝ }
+    requires { ⌜ Tabled (tab (now rows) (now parts)) (now args) (length (now args)) l r × BodiesIn c l r × Spare (length (now args)) l r (length (now pending)) × (closed ≡ true → Wf [] aStack (codeOf (tab (now rows) (now parts)) l (c .x) (c .p))) ⌝ }
     ensures { λ out. ⌜ out ≡ fillCodes (tab (now (rows .entry)) (now (parts .entry))) (now (args .entry)) l (c .x) (c .p) r (c .y) (c .q) ⌝ }
 {
     let m = args.len();

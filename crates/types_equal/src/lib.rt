@@ -17,14 +17,14 @@ use crate::value_pairs::Heads;
 use crate::value_pairs::Pair;
 use crate::value_pairs::Span;
 ghost use mathlib.Core.Path.{_≡_};
-ghost use Prim.Native.Nat.{_+_, _*_, _≤_, _<_};
+ghost use Prim.Native.Nat.{_+_, _≤_};
 ghost use lib.ListN.{length};
 ghost use Rattle.syntax.specs.Syntax.{value, stack};
 ghost use Rattle.types.specs.Equal.{same};
 ghost use Rattle.types.specs.Rows.{typeAt, typesOf};
 ghost use Rattle.tables.specs.Tables.{rowsIn};
 ghost use Rattle.types_rows.specs.Read.{tab, lower, argsOf};
-ghost use Rattle.types_equal.specs.Bounds.{Room, Spare, Tabled, big};
+ghost use Rattle.types_equal.specs.Bounds.{Rooms, PartRooms, BodiesIn, SpanIn, Spare, Tabled};
 ghost use Rattle.types_equal.specs.stack_pairs.Fit.{fitValues, fitCodes, fitParts, sameStacks};
 
 // Value row l in its context equals value row r in its own.
@@ -37,7 +37,7 @@ fn eq_value(
     r: usize,
     pending: &mut [u32],
 ) -> bool
-    requires { ⌜ Tabled (tab (now rows) (now parts)) (now args) (k .m) l r × Room (k .m) (k .by) (k .d) l × Room 0 (k .by2) (k .d2) r × Spare (k .m) l r (length (now pending)) ⌝ }
+    requires { ⌜ Tabled (tab (now rows) (now parts)) (now args) (k .m) l r × Rooms k l r × Spare (k .m) l r (length (now pending)) ⌝ }
     ensures { λ out. ⌜ out ≡ fitValues (tab (now (rows .entry)) (now (parts .entry))) (argsOf (tab (now (rows .entry)) (now (parts .entry))) (now (args .entry)) (k .m)) (k .by) (k .d) l (k .by2) (k .d2) r ⌝ }
 {
     if crate::stack_pairs::same_place(k, l, r) {
@@ -91,7 +91,7 @@ fn eq_code(
     c: Bodies,
     pending: &mut [u32],
 ) -> bool
-    requires { ⌜ Tabled (tab (now rows) (now parts)) (now args) (k .m) l r × Room (k .m) (k .by) (k .d) l × Room 0 (k .by2) (k .d2) r × (c .x < l) × (c .p ≤ 65535) × (c .y < r) × (c .q ≤ 65535) × Spare (k .m) l r (length (now pending)) ⌝ }
+    requires { ⌜ Tabled (tab (now rows) (now parts)) (now args) (k .m) l r × Rooms k l r × BodiesIn c l r × Spare (k .m) l r (length (now pending)) ⌝ }
     ensures { λ out. ⌜ out ≡ fitCodes (tab (now (rows .entry)) (now (parts .entry))) (argsOf (tab (now (rows .entry)) (now (parts .entry))) (now (args .entry)) (k .m)) (k .by) (k .d) l (c .x) (c .p) (k .by2) (k .d2) r (c .y) (c .q) ⌝ }
 {
     let a = types_rows::letter_count(parts, c.p);
@@ -129,7 +129,7 @@ pub(crate) fn eq_parts(
     s: Span,
     pending: &mut [u32],
 ) -> bool
-    requires { ⌜ Tabled (tab (now rows) (now parts)) (now args) (k .m) l r × (k .by + k .d + 65536 * l + big (k .m) ≤ 2147549184) × (k .by2 + k .d2 + 65536 * r ≤ 2147549184) × (0 < l) × (0 < r) × (s .n ≤ 65535) × (s .p + s .n ≤ 131072) × (s .q + s .n ≤ 131072) × Spare (k .m) l r (length (now pending)) ⌝ }
+    requires { ⌜ Tabled (tab (now rows) (now parts)) (now args) (k .m) l r × PartRooms k l r × SpanIn s × Spare (k .m) l r (length (now pending)) ⌝ }
     ensures { λ out. ⌜ out ≡ fitParts (tab (now (rows .entry)) (now (parts .entry))) (argsOf (tab (now (rows .entry)) (now (parts .entry))) (now (args .entry)) (k .m)) (k .by) (k .d) (s .file) l (s .p) (k .by2) (k .d2) r (s .q) (s .n) ⌝ }
 {
     // The loop's invariant speaks of locals, and of no parameter that is a struct.
@@ -169,7 +169,7 @@ pub(crate) fn eq_stack(
     r: usize,
     pending: &mut [u32],
 ) -> bool
-    requires { ⌜ Tabled (tab (now rows) (now parts)) (now args) (k .m) l r × Room (k .m) (k .by) (k .d) l × Room 0 (k .by2) (k .d2) r × Spare (k .m) l r (length (now pending)) ⌝ }
+    requires { ⌜ Tabled (tab (now rows) (now parts)) (now args) (k .m) l r × Rooms k l r × Spare (k .m) l r (length (now pending)) ⌝ }
     ensures { λ out. ⌜ out ≡ sameStacks (tab (now (rows .entry)) (now (parts .entry))) (argsOf (tab (now (rows .entry)) (now (parts .entry))) (now (args .entry)) (k .m)) (k .by) (k .d) l (k .by2) (k .d2) r ⌝ }
 {
     if crate::stack_pairs::same_stack(rows, args, k, l, r) {

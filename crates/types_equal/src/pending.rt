@@ -6,11 +6,11 @@
 use types_rows::Stk;
 ghost use mathlib.Core.Path.{_≡_};
 ghost use mathlib.Core.Bool.{not};
-ghost use mathlib.Core.List.{List, []};
+ghost use mathlib.Core.List.{List};
 ghost use Prim.Native.Nat.{ℕ, suc, _+_, _-_, _≤_, _<_};
 ghost use lib.ListN.{length, getD, set};
-ghost use Rattle.types_rows.specs.Read.{tab, argsOf, stackAt, placeS};
-ghost use Rattle.types_equal.specs.pending.Pending.{half, side, room, Pends, Givens, argForm, givenForm, FormOf, NextIs};
+ghost use Rattle.types_rows.specs.Read.{tab, argsOf};
+ghost use Rattle.types_equal.specs.pending.Pending.{half, side, room, Pends, Givens, Lent, argForm, FormOf, NextIs};
 
 // Entries from here on are rows of an argument.
 const GIVEN: usize = 32768;
@@ -140,7 +140,7 @@ pub(crate) fn next_item(
     right: bool,
     top: usize,
 ) -> Next
-    requires { ⌜ (by + d ≤ 1099511627776) × Givens (now args) m × (room m < length (now pending)) × (length (now pending) ≤ 32768) × Pends m (length (now pending) - suc (room m)) (side right (now pending)) top ⌝ }
+    requires { ⌜ (by + d ≤ 1099511627776) × Lent (now args) m (length (now pending)) × Pends m (length (now pending) - suc (room m)) (side right (now pending)) top ⌝ }
     ensures { λ out. ⌜ ((ps : List ℕ) → NextIs (tab (now (rows .entry)) ps) (argsOf (tab (now (rows .entry)) ps) (now (args .entry)) m) by d m (side right (now (pending .entry))) top (side right (now (pending .exit))) out) × (side (not right) (now (pending .exit)) ≡ side (not right) (now (pending .entry))) ⌝ }
 {
     let mut n = top;

@@ -7,11 +7,11 @@ use types_rows::Stk;
 ghost use mathlib.Core.Path.{_≡_};
 ghost use mathlib.Core.Bool.{true, false, cond};
 ghost use mathlib.Core.List.{List};
-ghost use Prim.Native.Nat.{ℕ, suc, _+_, _-_, _≤_, _<_};
+ghost use Prim.Native.Nat.{ℕ, _+_, _≤_};
 ghost use lib.Dec.{eqb};
 ghost use lib.ListN.{length};
 ghost use Rattle.types_rows.specs.Read.{tab, argsOf};
-ghost use Rattle.types_equal.specs.pending.Pending.{side, room, Pends, Givens};
+ghost use Rattle.types_equal.specs.pending.Pending.{side, Lent, PendsBoth};
 ghost use Rattle.types_equal.specs.declared.stack_pairs.Duo.the-variants.{Unlike, Onward};
 ghost use Rattle.types_equal.specs.stack_pairs.Items.{endWith, ownWith, givenWith, varWith, duoOf};
 ghost use Rattle.types_equal.specs.stack_pairs.Fit.{AtSame, sameStacks, DuoIs};
@@ -115,7 +115,7 @@ pub(crate) fn next_pair(
     i: usize,
     j: usize,
 ) -> Duo
-    requires { ⌜ (k .by + k .d ≤ 1099511627776) × (k .by2 + k .d2 ≤ 1099511627776) × Givens (now args) (k .m) × (room (k .m) < length (now pending)) × (length (now pending) ≤ 32768) × Pends (k .m) (length (now pending) - suc (room (k .m))) (side false (now pending)) i × Pends 0 (length (now pending) - 1) (side true (now pending)) j ⌝ }
+    requires { ⌜ (k .by + k .d ≤ 1099511627776) × (k .by2 + k .d2 ≤ 1099511627776) × Lent (now args) (k .m) (length (now pending)) × PendsBoth (k .m) (now pending) i j ⌝ }
     ensures { λ out. ⌜ ((ps : List ℕ) → DuoIs (tab (now (rows .entry)) ps) (argsOf (tab (now (rows .entry)) ps) (now (args .entry)) (k .m)) (k .m) (k .by) (k .d) (k .by2) (k .d2) (side false (now (pending .entry))) i (side true (now (pending .entry))) j (side false (now (pending .exit))) (side true (now (pending .exit))) out) ⌝ }
 {
     let a = crate::pending::next_item(

@@ -129,7 +129,10 @@ module _ (τ : RowTable) (n : ℕ) where
 
   seen-size : (r : ℕ) → faultsAt τ r ≡ [] → sizeOf (sizesOf (rowsIn τ r)) (rowAt τ r) ≤ 4096
   unfolding rowFaults
-  seen-size r e = ltb-false 4096 (sizeOf (sizesOf (rowsIn τ r)) (rowAt τ r)) (no-six (ltb 4096 (sizeOf (sizesOf (rowsIn τ r)) (rowAt τ r))) (given (not (allBelow (length (rowsIn τ r)) (map (λ (x : Ref). x .row) (rowRefs (rowAt τ r))))) 4) (given (not (allOfSort (rowsIn τ r) (rowRefs (rowAt τ r)))) 5) e)
+  seen-size r e =
+      ltb-false 4096 (sizeOf (sizesOf (rowsIn τ r)) (rowAt τ r)) (no-six (ltb 4096 (sizeOf (sizesOf (rowsIn τ r)) (rowAt τ r)))
+      (given (not (allBelow (length (rowsIn τ r)) (map (λ (x : Ref). x .row) (rowRefs (rowAt τ r))))) 4)
+      (given (not (allOfSort (rowsIn τ r) (rowRefs (rowAt τ r)))) 5) e)
 
   carry : {a b : List Row} {s t : List ℕ} (l : List Row) → a ≡ b → s ≡ t → Clear (rowsFaults a s l) → Clear (rowsFaults b t l)
   carry {a} {b} {s} {t} l e f c = subst (λ x. Clear (rowsFaults x t l)) e (subst (λ x. Clear (rowsFaults a x l)) f c)

@@ -6,11 +6,11 @@ use crate::Slot;
 use crate::Stk;
 use crate::Val;
 ghost use mathlib.Core.Path.{_≡_};
-ghost use Prim.Native.Nat.{_+_, _-_, _≤_, _<_};
+ghost use Prim.Native.Nat.{_-_, _≤_};
 ghost use Rattle.types_rows.specs.Read.{tab, valueAt, stackAt};
 ghost use Rattle.types_rows.specs.declared.Val.the-variants.{ValVar};
 ghost use Rattle.types_rows.specs.declared.Stk.the-variants.{StkVar};
-ghost use Rattle.types_rows.specs.size.Size.{sizeAt, slotRow, partsSize, underV, underS, Measured};
+ghost use Rattle.types_rows.specs.size.Size.{sizeAt, slotRow, partsSize, underV, underS, PartsAt, Measured};
 
 fn less(left: usize, s: usize) -> usize
     ensures { λ out. ⌜ out ≡ left - s ⌝ }
@@ -104,7 +104,7 @@ fn spend_parts(
     n: usize,
     left: usize,
 ) -> usize
-    requires { ⌜ (0 < h) × (h ≤ 65536) × (n ≤ 65535) × (p + n ≤ 131072) × Measured (tab (now rows) (now parts)) (now sizes) ⌝ }
+    requires { ⌜ PartsAt h p n × Measured (tab (now rows) (now parts)) (now sizes) ⌝ }
     ensures { λ out. ⌜ out ≡ left - partsSize (sizeAt (tab (now (rows .entry)) (now (parts .entry)))) (now (parts .entry)) file h p n ⌝ }
 {
     let mut rest = left;

@@ -3,12 +3,12 @@ use Prim.Native.Nat.{ℕ, zero, suc, _+_, _-_, _≤_, _<_}
 use native.Mathlib.Omega.{arith}
 use native.Mathlib.Nat.{le-refl}
 use mathlib.Core.Path.{_≡_, refl, ap, ap₂, sym, _∙_}
-use mathlib.Core.Bool.{Bool, true, false, cond, _&&_, true≢false}
+use mathlib.Core.Bool.{Bool, true, false, cond, true≢false}
 use mathlib.Core.Option.{Option, none, some}
 use mathlib.Core.List.{List, [], _∷_}
-use lib.Dec.{eqb, leb, ltb}
+use lib.Dec.{eqb, ltb}
 use lib.ListN.{length}
-use borrow.Author.Tests.{eq-eqb, lt-ltb, le-ltb, ltb-true, ltb-false, lt-leb, le-leb, leb-true}
+use borrow.Author.Tests.{eq-eqb, lt-ltb, le-ltb, ltb-true, ltb-false}
 use Rattle.syntax.specs.Syntax.{value, stack}
 use Rattle.syntax.specs.Fault.{Refusal}
 use Rattle.text.specs.PassOne.{Listing}
@@ -28,7 +28,7 @@ use Rattle.image.proofs.Laws.{before, large-shared}
 use Rattle.text_decode.specs.store.Store.{Store, rowTable, operandsOf, storeIn}
 use Rattle.load.specs.declared.Loaded.{Loaded}
 use Rattle.load.specs.Loaded.{IsLoaded}
-use Rattle.valid_share.specs.Shared.{Shared}
+use Rattle.valid_share.specs.Shared.{SharedFor, Shared}
 use Rattle.valid_verdict.specs.declared.finding.Finding.{Finding}
 use Rattle.valid_verdict.specs.finding.Found.{Refuses}
 use Rattle.valid_pass_three.specs.body.Tables.{Tables}
@@ -38,7 +38,7 @@ use Rattle.valid_verdict.proofs.finding.Laws.{refuses-none}
 use Rattle.valid_verdict.specs.Answers.{low, third, Answers}
 use Rattle.valid_verdict.specs.declared.Answer.{Answer}
 use Rattle.valid_verdict.specs.declared.Answer.the-variants.{Refused}
-use Rattle.valid_check.specs.Lent.{SharedFor, AnswersIn}
+use Rattle.valid_check.specs.Lent.{AnswersIn}
 
 -- ---- counts
 module _ (T : List Arg) (β ι : List ℕ) (ω : OperandTable) (ni nb : ℕ) where
@@ -173,7 +173,18 @@ module _ (p : Places) (l l′ : List ℕ) (o : Ordered p (length l)) (w : Outsid
 
   pub loaded-still : (text ns : List ℕ) (r : Loaded) → IsLoaded text (storeIn p l ns) (useSection p l) (topSection p l) r → IsLoaded text (storeIn p l′ ns) (useSection p l′) (topSection p l′) r
   loaded-still text ns r d =
-      rw (kept (p .rows) (p .blocks) (o .rows) (omega arith), kept (p .blocks) (p .instrs) (o .blocks) (omega arith), kept (p .instrs) (p .parts) (o .instrs) (omega arith), kept (p .parts) (p .operands) (o .parts) (omega arith), kept (p .operands) (p .args) (o .operands) (omega arith), kept (p .args) (p .uses) (o .args) (omega arith), kept (p .uses) (p .tops) (o .uses) (omega arith), kept (p .tops) (p .shared) (o .tops) (le-refl (p .shared))) d
+      rw (
+        kept (p .rows) (p .blocks) (o .rows) (omega arith),
+        kept (p .blocks) (p .instrs) (o .blocks) (omega arith),
+        kept (p .instrs)
+            (p .parts) (o .instrs) (omega arith),
+        kept (p .parts) (p .operands) (o .parts) (omega arith),
+        kept (p .operands) (p .args)
+            (o .operands) (omega arith),
+        kept (p .args) (p .uses) (o .args) (omega arith),
+        kept (p .uses) (p .tops) (o .uses) (omega arith),
+        kept (p .tops) (p .shared) (o .tops) (le-refl (p .shared)),
+      ) d
 
   pub shared-still : (n : ℕ) (τ : RowTable) → Shared (tab (rowSection p l) (partSection p l)) τ n → Shared (tab (rowSection p l′) (partSection p l′)) τ n
   shared-still n τ s = rw (kept (p .rows) (p .blocks) (o .rows) (omega arith), kept (p .parts) (p .operands) (o .parts) (omega arith)) s

@@ -3,7 +3,6 @@
 // changed. Nothing is asked.
 use crate::check_in;
 use valid_verdict::Answer;
-ghost use mathlib.Core.Path.{_≡_};
 ghost use Prim.Native.Nat.{ℕ};
 ghost use mathlib.Core.List.{List};
 ghost use lib.ListN.{length};

@@ -11,23 +11,22 @@ use valid_verdict::Answer;
 use valid_verdict::finding::Finding;
 ghost use mathlib.Core.Path.{_≡_};
 ghost use mathlib.Core.Bool.{true};
-ghost use Prim.Native.Nat.{ℕ, _≤_, _<_};
+ghost use Prim.Native.Nat.{ℕ, _≤_};
 ghost use lib.ListN.{length};
 ghost use Rattle.syntax.specs.Fault.{lowestLine};
 ghost use Rattle.types.specs.Rows.{typesOf};
-ghost use Rattle.tables.specs.Tables.{cell, rowsIn};
-ghost use Rattle.tables.proofs.Steps.{endOf};
-ghost use Rattle.image.specs.Sections.{Ordered, blockSection};
+ghost use Rattle.tables.specs.Tables.{rowsIn};
+ghost use Rattle.image.specs.Sections.{Ordered};
 ghost use Rattle.valid.specs.Program.{Program, blocksOf};
 ghost use Rattle.valid.specs.PassThree.{passThree};
-ghost use Rattle.valid_context.specs.premises.Bounds.{SmallInstr};
-ghost use Rattle.valid_typing.specs.Image.{rowTable, instrIn, HoldsAt};
-ghost use Rattle.valid_pass_three.specs.body.Tables.{TablesAt};
-ghost use Rattle.valid_pass_three.specs.Blocks.{blocksIn};
+ghost use Rattle.valid_typing.specs.Image.{rowTable, HoldsAt};
+ghost use Rattle.valid_pass_three.specs.body.Tables.{Tabled};
+ghost use Rattle.valid_pass_three.specs.Blocks.{blocksIn, BlocksWithin};
 ghost use Rattle.valid_verdict.specs.finding.Found.{Refuses};
 ghost use Rattle.text_decode.specs.Decoded.{Fitting};
 ghost use Rattle.valid_verdict.specs.Answers.{Answers};
-ghost use Rattle.valid_check.specs.Lent.{Roomy, SharedFor};
+ghost use Rattle.valid_share.specs.Shared.{SharedFor};
+ghost use Rattle.valid_check.specs.Lent.{Roomy};
 
 // Whether the text fits the image, and the answer if it does.
 pub struct Tried {
@@ -55,7 +54,7 @@ fn third_pass(
     work: &mut [u16],
     pending: &mut [u32],
 ) -> Finding
-    requires { ⌜ Ordered p (length (now image)) × TablesAt p (now image) (c .rows) × (0 < c .blocks → (i : ℕ) → i < c .instrs → SmallInstr (instrIn p (now image) (now numbers) i)) × (c .instrs ≤ 1024) × (c .blocks ≤ 64) × (0 < c .blocks → cell 2 (blockSection p (now image)) 0 1 ≡ 0) × ((b : ℕ) → b < c .blocks → (cell 2 (blockSection p (now image)) b 1 ≤ endOf (blockSection p (now image)) (c .instrs) (c .blocks) b) × (endOf (blockSection p (now image)) (c .instrs) (c .blocks) b ≤ c .instrs)) × (4096 ≤ length (now work)) × (1543 ≤ length (now pending)) ⌝ }
+    requires { ⌜ Tabled p (now image) (c .rows) × BlocksWithin p (now image) (now numbers) c × (4096 ≤ length (now work)) × (1543 ≤ length (now pending)) ⌝ }
     ensures { λ out. ⌜ ((P : Program) → HoldsAt p (now (image .entry)) c P → P .blocks ≡ blocksOf (typesOf (rowsIn (rowTable p (now (image .entry))) (c .rows))) (blocksIn p (now (image .entry)) (now (numbers .entry)) c) → Refuses out (lowestLine 0 (passThree P))) ⌝ }
 {
     let mut regs = [0u16; 8];

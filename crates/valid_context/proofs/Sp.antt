@@ -141,7 +141,9 @@ module _ (T : List Arg) where
   put-is sp zero i row h q = unfold replaced in refl
   put-is sp (suc d) zero row h q =
       let p : d < length sp = omega arith in
-      rw (suc-sub-suc, sub-zero, getD-set-same sp d row 0 p, sp-set sp d d row (omega arith), lt-ltb row firstVar q) (unfold replaced in item-by T (λ a. replaced a 0 (typeAt value T row) ≡ when (ltb (getD sp d 0) firstVar && true) (push (typeAt value T row) (spOf T sp d))) (getD sp d 0) (spOf T sp d) (λ e. rw e) (λ e. rw e))
+      rw (suc-sub-suc, sub-zero, getD-set-same sp d row 0 p, sp-set sp d d row (omega arith), lt-ltb row firstVar q) (unfold replaced in
+      item-by T (λ a. replaced a 0 (typeAt value T row) ≡ when (ltb (getD sp d 0) firstVar && true) (push (typeAt value T row)
+      (spOf T sp d))) (getD sp d 0) (spOf T sp d) (λ e. rw e) (λ e. rw e))
   put-is sp (suc d) (suc i) row h q = rw suc-sub-suc (go (areValues sp d (suc i)) refl (put-is sp d i row (omega arith) q))
     where
       l : List ℕ

@@ -1,19 +1,19 @@
 -- An instruction without a target has no item.
-use Prim.Native.Nat.{ℕ, zero, suc, _+_, _≤_, _<_}
+use Prim.Native.Nat.{ℕ, _≤_, _<_}
 use native.Mathlib.Omega.{arith}
-use mathlib.Core.Path.{_≡_, refl, ap, sym, _∙_, subst}
+use mathlib.Core.Path.{_≡_, refl, sym, subst}
 use mathlib.Core.Bool.{Bool, true, false, cond}
 use mathlib.Core.List.{List, []}
 use mathlib.Core.Logic.{_⊎_, inl, inr}
 use lib.Dec.{eqb}
 use borrow.Author.Tests.{eqb-true, eqb-false}
-use Rattle.syntax.specs.Syntax.{Kind, Instr}
+use Rattle.syntax.specs.Syntax.{Kind}
 use Rattle.syntax.specs.Fault.{itemsOf}
 use Rattle.tables.specs.Tables.{OperandTable, cell, instrFrom, instrAt}
-use Rattle.tables.proofs.Cases.{Each, _&_, instr-cases}
+use Rattle.tables.proofs.Cases.{_&_, instr-cases}
 use Rattle.valid.specs.Program.{Program}
 use Rattle.valid.specs.Rules.{Context}
-use Rattle.valid.specs.PassThree.{Judged, faultsOf, judge}
+use Rattle.valid.specs.PassThree.{faultsOf, judge}
 use Rattle.valid_context.specs.Told.{toldOf, answer}
 use Rattle.valid_context.specs.premises.Answers.{ItemIs, Answered}
 use Rattle.types.proofs.Equal.{none-true}
@@ -28,7 +28,10 @@ module _ (P : Program) (Δ : List Kind) (ω : OperandTable) where
   aimless : (a b c d v m k : ℕ) → (3 ≤ k → 9 ≤ k) → (k ≡ 21 → ⊥) → Aims P Δ (instrFrom ω k a b c d v m) ≡ false
   aimless a b c d v m k h n =
       instr-cases (λ k x. (3 ≤ k → 9 ≤ k) → (k ≡ 21 → ⊥) → Aims P Δ x ≡ false) ω a b c d v m
-      (tt & no & no & no & (λ h n. absurd (omega (arith, h (omega arith)))) & (λ h n. absurd (omega (arith, h (omega arith)))) & (λ h n. absurd (omega (arith, h (omega arith)))) & (λ h n. absurd (omega (arith, h (omega arith)))) & (λ h n. absurd (omega (arith, h (omega arith)))) & (λ h n. absurd (omega (arith, h (omega arith)))) & no & no & no & no & no & no & no & no & no & no & no & no & (λ h n. absurd (n refl)))
+      (tt & no & no & no & (λ h n. absurd (omega (arith, h (omega arith)))) & (λ h n. absurd (omega (arith, h (omega arith)))) &
+      (λ h n. absurd (omega (arith, h (omega arith)))) & (λ h n. absurd (omega (arith, h (omega arith)))) &
+      (λ h n. absurd (omega (arith, h (omega arith)))) & (λ h n. absurd (omega (arith, h (omega arith)))) & no & no & no & no & no & no &
+      no & no & no & no & no & no & (λ h n. absurd (n refl)))
       (λ k l. no) k h n
     where
       no : {A B : Type 0} → A → B → false ≡ false
@@ -36,7 +39,9 @@ module _ (P : Program) (Δ : List Kind) (ω : OperandTable) where
 
   pub plain : (ι : List ℕ) (j k f : ℕ) (Γ Γ′ : Context) → k ≡ cell 8 ι j 0 → (3 ≤ k → 9 ≤ k) → (k ≡ 21 → ⊥) → toldOf (judge P Δ Γ (instrAt ι ω j)) ≡ answer f Γ′ → Answered (judge P Δ Γ (instrAt ι ω j)) f Γ′ 100
   plain ι j k f Γ Γ′ ek h n e =
-      let z : Aims P Δ (instrAt ι ω j) ≡ false = unfold instrAt in subst (λ (x : ℕ). Aims P Δ (instrFrom ω x (cell 8 ι j 1) (cell 8 ι j 2) (cell 8 ι j 3) (cell 8 ι j 4) (cell 8 ι j 5) (cell 8 ι j 6)) ≡ false) ek (aimless (cell 8 ι j 1) (cell 8 ι j 2) (cell 8 ι j 3) (cell 8 ι j 4) (cell 8 ι j 5) (cell 8 ι j 6) k h n) in
+      let z : Aims P Δ (instrAt ι ω j) ≡ false = unfold instrAt in subst (λ (x : ℕ). Aims P Δ (instrFrom ω x (cell 8 ι j 1) (cell 8 ι j 2)
+      (cell 8 ι j 3) (cell 8 ι j 4) (cell 8 ι j 5) (cell 8 ι j 6)) ≡ false) ek (aimless (cell 8 ι j 1) (cell 8 ι j 2) (cell 8 ι j 3)
+      (cell 8 ι j 4) (cell 8 ι j 5) (cell 8 ι j 6) k h n) in
       record { told = e; named = none-named (itemsOf (faultsOf (judge P Δ Γ (instrAt ι ω j)))) (eqb f 10) (bare-judge P Δ Γ (instrAt ι ω j) z) }
 
 -- a code with operands and no target is that of arithmetic, `mov` or `malloc`

@@ -7,8 +7,8 @@ use mathlib.Core.List.{List}
 use lib.Dec.{eqb, ltb}
 use borrow.Author.Tests.{eqb-true, eqb-false, ltb-true, ltb-false}
 use Rattle.types.specs.Types.{Ty, nil, push, svar, gap, join, items}
-use Rattle.syntax.specs.Syntax.{stack, value}
-use Rattle.tables.specs.Tables.{RowTable, cell, rowFrom, rowAt}
+use Rattle.syntax.specs.Syntax.{stack}
+use Rattle.tables.specs.Tables.{cell, rowFrom, rowAt}
 use Rattle.types_rows.specs.Read.{tab, lower, stackWith, stackAt, buildS, meanV, meanS}
 use Rattle.types_rows.specs.declared.Stk.{Stk}
 use Rattle.types_rows.specs.declared.Stk.the-variants.{Nil, StkVar, StkFill, Push, Join}

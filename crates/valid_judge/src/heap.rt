@@ -18,8 +18,7 @@ ghost use Rattle.valid_context.specs.Told.{toldOf, answer};
 ghost use Rattle.valid_typing.specs.Typing.{typesIn, Ready};
 ghost use Rattle.valid_typing.proofs.Judging.{ifNone};
 ghost use Rattle.valid_judge.specs.heap.Forms.{held, InRegs};
-ghost use Rattle.image.specs.Sections.{Ordered};
-ghost use Rattle.valid_typing.specs.Image.{ReadyAt, ScopedAt, lettersIn};
+ghost use Rattle.valid_typing.specs.Image.{Prepared, lettersIn};
 ghost use Rattle.valid_judge.specs.Image.{InRegsAt};
 
 // The link of register r, among those of the n + 2 rows.
@@ -122,7 +121,7 @@ pub(crate) fn stop(
     w: BlockLetters,
     pending: &mut [u32],
 ) -> usize
-    requires { ⌜ Ordered p (length (now image)) × ReadyAt p (now image) n × ScopedAt p (now image) n × (1543 ≤ length (now pending)) ⌝ }
+    requires { ⌜ Prepared p (now image) n (now pending) ⌝ }
     ensures { λ out. ⌜ InRegsAt p (now (image .entry)) n (lettersIn p (now (image .entry)) w) (now (regs .entry)) (now (regs .entry)) out (halt t) ⌝ }
 {
     let shared = p.shared;

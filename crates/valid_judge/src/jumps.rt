@@ -7,15 +7,13 @@ use image::Places;
 use valid_typing::BlockLetters;
 use valid_typing::target::Fitted;
 ghost use Prim.Native.Nat.{_≤_};
-ghost use lib.ListN.{length};
 ghost use Rattle.syntax.specs.Syntax.{Branch, bop, jmp};
 ghost use Rattle.valid.specs.Program.{Program};
 ghost use Rattle.valid.specs.PassThree.{judge};
 ghost use Rattle.valid_context.specs.Context.{contextOf};
 ghost use Rattle.valid_context.specs.premises.Bounds.{Short};
 ghost use Rattle.valid_context.specs.premises.Answers.{Answered};
-ghost use Rattle.image.specs.Sections.{Ordered};
-ghost use Rattle.valid_typing.specs.Image.{typesAt, ReadyAt, ScopedAt, operandIn, HoldsAt, lettersIn};
+ghost use Rattle.valid_typing.specs.Image.{typesAt, Prepared, operandIn, HoldsAt, lettersIn};
 
 // A branch: the register that it tests, and its operand.
 pub struct Tested {
@@ -36,7 +34,7 @@ pub(crate) fn jump(
     d: usize,
     pending: &mut [u32],
 ) -> Fitted
-    requires { ⌜ Ordered p (length (now image)) × ReadyAt p (now image) (c .rows) × ScopedAt p (now image) (c .rows) × Short (operandIn p (now image) (now literals) v) × (v ≤ 131072) × (1543 ≤ length (now pending)) ⌝ }
+    requires { ⌜ Prepared p (now image) (c .rows) (now pending) × Short (operandIn p (now image) (now literals) v) × (v ≤ 131072) ⌝ }
     ensures { λ out. ⌜ ((P : Program) → HoldsAt p (now (image .entry)) c P → Answered (judge P (lettersIn p (now (image .entry)) w) (contextOf (typesAt p (now (image .entry)) (c .rows)) (now (regs .entry)) (now (sp .entry)) d) (jmp (operandIn p (now (image .entry)) (now (literals .entry)) v))) (out .fault) (contextOf (typesAt p (now (image .entry)) (c .rows)) (now (regs .entry)) (now (sp .entry)) d) (out .item)) ⌝ }
 {
     valid_typing::target::target(image, literals, p, c, v, w, regs, sp, d, pending)
@@ -55,7 +53,7 @@ pub(crate) fn branch(
     d: usize,
     pending: &mut [u32],
 ) -> Fitted
-    requires { ⌜ Ordered p (length (now image)) × ReadyAt p (now image) (c .rows) × ScopedAt p (now image) (c .rows) × Short (operandIn p (now image) (now literals) (x .operand)) × (x .operand ≤ 131072) × (1543 ≤ length (now pending)) ⌝ }
+    requires { ⌜ Prepared p (now image) (c .rows) (now pending) × Short (operandIn p (now image) (now literals) (x .operand)) × (x .operand ≤ 131072) ⌝ }
     ensures { λ out. ⌜ ((P : Program) (o : Branch) → HoldsAt p (now (image .entry)) c P → Answered (judge P (lettersIn p (now (image .entry)) w) (contextOf (typesAt p (now (image .entry)) (c .rows)) (now (regs .entry)) (now (sp .entry)) d) (bop o (x .register) (operandIn p (now (image .entry)) (now (literals .entry)) (x .operand)))) (out .fault) (contextOf (typesAt p (now (image .entry)) (c .rows)) (now (regs .entry)) (now (sp .entry)) d) (out .item)) ⌝ }
 {
     let shared = p.shared;

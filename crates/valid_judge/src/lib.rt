@@ -19,23 +19,19 @@ use image::Places;
 use valid_typing::BlockLetters;
 use valid_typing::target::Fitted;
 ghost use mathlib.Core.Path.{_≡_};
-ghost use Prim.Native.Nat.{ℕ, _≤_, _<_};
-ghost use mathlib.Core.Bool.{true, false};
-ghost use mathlib.Core.Logic.{_⊎_};
+ghost use Prim.Native.Nat.{_≤_};
 ghost use lib.ListN.{length};
-ghost use Rattle.types.specs.Types.{items};
-ghost use Rattle.tables.specs.Tables.{OperandTable, cell, rowAt, rowsIn, instrAt};
+ghost use Rattle.tables.specs.Tables.{OperandTable, rowsIn, instrAt};
 ghost use Rattle.types.specs.Rows.{typesOf};
 ghost use Rattle.valid.specs.Program.{Program};
 ghost use Rattle.valid.specs.PassThree.{judge};
-ghost use Rattle.types_rows.specs.Read.{meanS};
 ghost use Rattle.valid_context.specs.Context.{contextOf};
-ghost use Rattle.valid_context.specs.premises.Bounds.{SmallRow, SmallInstr};
+ghost use Rattle.valid_context.specs.premises.Bounds.{SmallInstr};
 ghost use Rattle.valid_context.specs.premises.Answers.{Answered};
-ghost use Rattle.valid_judge.specs.Codes.{OperandCode, TargetCode};
-ghost use Rattle.image.specs.Sections.{Ordered, instrSection};
-ghost use Rattle.valid_typing.specs.Image.{rowTable, typesAt, ReadyAt, ScopedAt, instrIn, HoldsAt, lettersIn};
-ghost use Rattle.valid_judge.specs.Image.{FlatAt};
+ghost use Rattle.valid_judge.specs.Codes.{OperandCode, TargetCode, OperandForm, PlainForm};
+ghost use Rattle.image.specs.Sections.{instrSection};
+ghost use Rattle.valid_typing.specs.Image.{rowTable, typesAt, Prepared, instrIn, HoldsAt, lettersIn};
+ghost use Rattle.valid_judge.specs.Image.{Flattens, SmallRows, Held};
 
 // An instruction: its place in the table, and its code.
 pub struct InstrForm {
@@ -95,7 +91,7 @@ fn operand_form(
     pending: &mut [u32],
     m: usize,
 ) -> Fitted
-    requires { ⌜ Ordered p (length (now image)) × ReadyAt p (now image) (c .rows) × ScopedAt p (now image) (c .rows) × SmallInstr (instrIn p (now image) (now literals) (x .at)) × (8 ≤ length (now regs)) × (1543 ≤ length (now pending)) × (x .code ≡ cell 8 (instrSection p (now image)) (x .at) 0) × ((x .code < 10) ⊎ ((x .code ≡ 12) ⊎ (x .code ≡ 21))) ⌝ }
+    requires { ⌜ Prepared p (now image) (c .rows) (now pending) × SmallInstr (instrIn p (now image) (now literals) (x .at)) × (8 ≤ length (now regs)) × OperandForm p (now image) x ⌝ }
     ensures { λ out. ⌜ ((P : Program) → HoldsAt p (now (image .entry)) c P → Answered (judge P (lettersIn p (now (image .entry)) w) (contextOf (typesAt p (now (image .entry)) (c .rows)) (now (regs .entry)) (now (sp .entry)) m) (instrIn p (now (image .entry)) (now (literals .entry)) (x .at))) (out .fault) (contextOf (typesAt p (now (image .entry)) (c .rows)) (now (regs .exit)) (now (sp .entry)) m) (out .item)) ⌝ }
 {
     if has_target(x.code) {
@@ -121,7 +117,7 @@ fn plain_form(
     m: usize,
     pending: &mut [u32],
 ) -> Judgement
-    requires { ⌜ Ordered p (length (now image)) × ReadyAt p (now image) n × ScopedAt p (now image) n × FlatAt p (now image) n × (8 ≤ length (now regs)) × (64 ≤ length (now sp)) × (4096 ≤ length (now work)) × (m ≤ 64) × (x .code ≡ cell 8 (instrSection p (now image)) (x .at) 0) × (10 ≤ x .code) × (x .code ≡ 12 → ⊥) × (x .code ≡ 21 → ⊥) × (1543 ≤ length (now pending)) ⌝ }
+    requires { ⌜ Prepared p (now image) n (now pending) × Flattens p (now image) n (now work) × Held (now regs) (now sp) m × PlainForm p (now image) x ⌝ }
     ensures { λ out. ⌜ ((P : Program) (ω : OperandTable) → P .types ≡ typesOf (rowsIn (rowTable p (now (image .entry))) n) → Answered (judge P (lettersIn p (now (image .entry)) w) (contextOf (typesAt p (now (image .entry)) n) (now (regs .entry)) (now (sp .entry)) m) (instrAt (instrSection p (now (image .entry))) ω (x .at))) (out .fault) (contextOf (typesAt p (now (image .entry)) n) (now (regs .exit)) (now (sp .exit)) (out .depth)) (out .item)) × (out .depth ≤ 64) ⌝ }
 {
     if x.code < 13 {
@@ -169,7 +165,7 @@ pub fn judge(
     work: &mut [u16],
     pending: &mut [u32],
 ) -> Judgement
-    requires { ⌜ Ordered p (length (now image)) × ReadyAt p (now image) (c .rows) × ScopedAt p (now image) (c .rows) × ((r : ℕ) → r < c .rows → SmallRow (rowAt (rowTable p (now image)) r)) × ((x : ℕ) → x ≤ c .rows → items (meanS (rowTable p (now image)) x) ≤ 4096) × SmallInstr (instrIn p (now image) (now literals) (y .instr)) × (8 ≤ length (now regs)) × (64 ≤ length (now sp)) × (4096 ≤ length (now work)) × (y .depth ≤ 64) × (1543 ≤ length (now pending)) ⌝ }
+    requires { ⌜ Prepared p (now image) (c .rows) (now pending) × SmallRows p (now image) (c .rows) (now work) × SmallInstr (instrIn p (now image) (now literals) (y .instr)) × Held (now regs) (now sp) (y .depth) ⌝ }
     ensures { λ out. ⌜ ((P : Program) → HoldsAt p (now (image .entry)) c P → Answered (judge P (lettersIn p (now (image .entry)) w) (contextOf (typesAt p (now (image .entry)) (c .rows)) (now (regs .entry)) (now (sp .entry)) (y .depth)) (instrIn p (now (image .entry)) (now (literals .entry)) (y .instr))) (out .fault) (contextOf (typesAt p (now (image .entry)) (c .rows)) (now (regs .exit)) (now (sp .exit)) (out .depth)) (out .item)) × (out .depth ≤ 64) ⌝ }
 {
     let from = p.instrs;

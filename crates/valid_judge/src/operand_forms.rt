@@ -9,17 +9,15 @@ use image::Places;
 use valid_typing::BlockLetters;
 use valid_typing::Listed;
 use valid_typing::target::Fitted;
-ghost use mathlib.Core.Path.{_≡_};
 ghost use Prim.Native.Nat.{_≤_};
 ghost use lib.ListN.{length};
-ghost use Rattle.tables.specs.Tables.{cell};
 ghost use Rattle.valid.specs.Program.{Program};
 ghost use Rattle.valid.specs.PassThree.{judge};
 ghost use Rattle.valid_context.specs.Context.{contextOf};
 ghost use Rattle.valid_context.specs.premises.Bounds.{SmallInstr};
 ghost use Rattle.valid_context.specs.premises.Answers.{Answered};
-ghost use Rattle.image.specs.Sections.{Ordered, instrSection};
-ghost use Rattle.valid_typing.specs.Image.{typesAt, ReadyAt, ScopedAt, instrIn, HoldsAt, lettersIn};
+ghost use Rattle.valid_typing.specs.Image.{typesAt, Prepared, instrIn, HoldsAt, lettersIn};
+ghost use Rattle.valid_judge.specs.Codes.{ValueForm, JumpForm};
 ghost use Rattle.valid_judge.specs.Image.{InFileAt};
 
 // add, sub, mul 0 to 2, mov 9, malloc 12
@@ -33,7 +31,7 @@ pub(crate) fn value_form(
     regs: &mut [u16],
     pending: &mut [u32],
 ) -> usize
-    requires { ⌜ Ordered p (length (now image)) × ReadyAt p (now image) (c .rows) × ScopedAt p (now image) (c .rows) × SmallInstr (instrIn p (now image) (now literals) (x .at)) × (8 ≤ length (now regs)) × (1543 ≤ length (now pending)) × (x .code ≡ cell 8 (instrSection p (now image)) (x .at) 0) × (3 ≤ x .code → 9 ≤ x .code) × (10 ≤ x .code → x .code ≡ 12) ⌝ }
+    requires { ⌜ Prepared p (now image) (c .rows) (now pending) × SmallInstr (instrIn p (now image) (now literals) (x .at)) × (8 ≤ length (now regs)) × ValueForm p (now image) x ⌝ }
     ensures { λ out. ⌜ InFileAt p (now (image .entry)) c (lettersIn p (now (image .entry)) w) (now (regs .entry)) (now (regs .exit)) out (instrIn p (now (image .entry)) (now (literals .entry)) (x .at)) ⌝ }
 {
     let from = p.instrs;
@@ -66,7 +64,7 @@ pub(crate) fn jump_form(
     m: usize,
     pending: &mut [u32],
 ) -> Fitted
-    requires { ⌜ Ordered p (length (now image)) × ReadyAt p (now image) (c .rows) × ScopedAt p (now image) (c .rows) × SmallInstr (instrIn p (now image) (now literals) (x .at)) × (1543 ≤ length (now pending)) × (x .code ≡ cell 8 (instrSection p (now image)) (x .at) 0) × (3 ≤ x .code) × (9 ≤ x .code → x .code ≡ 21) ⌝ }
+    requires { ⌜ Prepared p (now image) (c .rows) (now pending) × SmallInstr (instrIn p (now image) (now literals) (x .at)) × JumpForm p (now image) x ⌝ }
     ensures { λ out. ⌜ ((P : Program) → HoldsAt p (now (image .entry)) c P → Answered (judge P (lettersIn p (now (image .entry)) w) (contextOf (typesAt p (now (image .entry)) (c .rows)) (now (regs .entry)) (now (sp .entry)) m) (instrIn p (now (image .entry)) (now (literals .entry)) (x .at))) (out .fault) (contextOf (typesAt p (now (image .entry)) (c .rows)) (now (regs .entry)) (now (sp .entry)) m) (out .item)) ⌝ }
 {
     let from = p.instrs;

@@ -7,13 +7,13 @@ use crate::stack::Moved;
 use crate::through::PointerStore;
 use image::Places;
 use valid_typing::BlockLetters;
-ghost use mathlib.Core.Path.{_≡_};
 ghost use Prim.Native.Nat.{_≤_};
 ghost use lib.ListN.{length};
-ghost use Rattle.tables.specs.Tables.{OperandTable, cell, instrAt};
-ghost use Rattle.image.specs.Sections.{Ordered, instrSection};
-ghost use Rattle.valid_typing.specs.Image.{ReadyAt, ScopedAt, lettersIn};
-ghost use Rattle.valid_judge.specs.Image.{FlatAt, InRegsAt, InStackAt};
+ghost use Rattle.tables.specs.Tables.{OperandTable, instrAt};
+ghost use Rattle.image.specs.Sections.{instrSection};
+ghost use Rattle.valid_typing.specs.Image.{Prepared, lettersIn};
+ghost use Rattle.valid_judge.specs.Codes.{HeapForm, SpForm, ItemForm};
+ghost use Rattle.valid_judge.specs.Image.{Flattens, Held, HeldItems, InRegsAt, InStackAt};
 
 // ld 10, st 11, halt from 22 on
 pub(crate) fn heap_form(
@@ -25,7 +25,7 @@ pub(crate) fn heap_form(
     regs: &mut [u16],
     pending: &mut [u32],
 ) -> usize
-    requires { ⌜ Ordered p (length (now image)) × ReadyAt p (now image) n × ScopedAt p (now image) n × (8 ≤ length (now regs)) × (x .code ≡ cell 8 (instrSection p (now image)) (x .at) 0) × (12 ≤ x .code → 22 ≤ x .code) × (10 ≤ x .code) × (1543 ≤ length (now pending)) ⌝ }
+    requires { ⌜ Prepared p (now image) n (now pending) × (8 ≤ length (now regs)) × HeapForm p (now image) x ⌝ }
     ensures { λ out. ⌜ ((ω : OperandTable) → InRegsAt p (now (image .entry)) n (lettersIn p (now (image .entry)) w) (now (regs .entry)) (now (regs .exit)) out (instrAt (instrSection p (now (image .entry))) ω (x .at))) ⌝ }
 {
     let from = p.instrs;
@@ -60,7 +60,7 @@ pub(crate) fn sp_form(
     depth: usize,
     pending: &mut [u32],
 ) -> Moved
-    requires { ⌜ Ordered p (length (now image)) × ReadyAt p (now image) n × ScopedAt p (now image) n × (8 ≤ length (now regs)) × (64 ≤ length (now sp)) × (depth ≤ 64) × (x .code ≡ cell 8 (instrSection p (now image)) (x .at) 0) × (13 ≤ x .code) × (x .code ≤ 16) × (1543 ≤ length (now pending)) ⌝ }
+    requires { ⌜ Prepared p (now image) n (now pending) × Held (now regs) (now sp) depth × SpForm p (now image) x ⌝ }
     ensures { λ out. ⌜ ((ω : OperandTable) → InStackAt p (now (image .entry)) n (lettersIn p (now (image .entry)) w) (now (regs .entry)) (now (sp .entry)) depth (now (regs .exit)) (now (sp .exit)) (out .depth) (out .fault) (instrAt (instrSection p (now (image .entry))) ω (x .at))) × (out .depth ≤ 64) ⌝ }
 {
     let from = p.instrs;
@@ -98,7 +98,7 @@ pub(crate) fn item_form(
     m: usize,
     pending: &mut [u32],
 ) -> usize
-    requires { ⌜ Ordered p (length (now image)) × ReadyAt p (now image) n × ScopedAt p (now image) n × FlatAt p (now image) n × (8 ≤ length (now regs)) × (m ≤ length (now sp)) × (4096 ≤ length (now work)) × (x .code ≡ cell 8 (instrSection p (now image)) (x .at) 0) × (17 ≤ x .code) × (x .code ≤ 20) × (1543 ≤ length (now pending)) ⌝ }
+    requires { ⌜ Prepared p (now image) n (now pending) × Flattens p (now image) n (now work) × HeldItems (now regs) (now sp) m × ItemForm p (now image) x ⌝ }
     ensures { λ out. ⌜ ((ω : OperandTable) → InStackAt p (now (image .entry)) n (lettersIn p (now (image .entry)) w) (now (regs .entry)) (now (sp .entry)) m (now (regs .exit)) (now (sp .exit)) m out (instrAt (instrSection p (now (image .entry))) ω (x .at))) ⌝ }
 {
     let from = p.instrs;

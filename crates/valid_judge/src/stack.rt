@@ -20,8 +20,7 @@ ghost use Rattle.valid_context.specs.Context.{spOf, contextOf};
 ghost use Rattle.valid_context.specs.Told.{toldOf, answer};
 ghost use Rattle.valid_typing.specs.Typing.{typesIn, Ready};
 ghost use Rattle.valid_judge.specs.stack.Forms.{InStack};
-ghost use Rattle.image.specs.Sections.{Ordered};
-ghost use Rattle.valid_typing.specs.Image.{ReadyAt, ScopedAt, lettersIn};
+ghost use Rattle.valid_typing.specs.Image.{Prepared, lettersIn};
 ghost use Rattle.valid_judge.specs.Image.{InStackAt};
 
 // The least fault, 0 if there is none, and then how many items sp has.
@@ -73,7 +72,7 @@ pub(crate) fn get_sp(
     t: usize,
     pending: &mut [u32],
 ) -> usize
-    requires { ⌜ Ordered p (length (now image)) × ReadyAt p (now image) n × ScopedAt p (now image) n × (8 ≤ length (now regs)) × (1543 ≤ length (now pending)) ⌝ }
+    requires { ⌜ Prepared p (now image) n (now pending) × (8 ≤ length (now regs)) ⌝ }
     ensures { λ out. ⌜ InStackAt p (now (image .entry)) n (lettersIn p (now (image .entry)) w) (now (regs .entry)) (now (sp .entry)) depth (now (regs .exit)) (now (sp .entry)) depth out (getsp d t) ⌝ }
 {
     let shared = p.shared;

@@ -19,13 +19,12 @@ ghost use Rattle.valid.specs.PassThree.{itemAt, pointerAt, newTail};
 ghost use Rattle.types_rows.specs.Read.{tab, meanS};
 ghost use Rattle.valid_context.specs.Context.{linked, regsOf, spOf, spAbove, contextOf};
 ghost use Rattle.valid_context.specs.Told.{toldOf, answer};
-ghost use Rattle.valid_typing.specs.Typing.{typesIn, Ready, SmallVars, givenRow};
+ghost use Rattle.valid_typing.specs.Typing.{typesIn, Ready, LaidOut, givenRow};
 ghost use Rattle.valid_typing.proofs.Judging.{through};
 ghost use Rattle.valid_judge.specs.stack.Forms.{InStack};
 ghost use Rattle.valid_judge.specs.through.Forms.{Replaced, IsTail};
-ghost use Rattle.image.specs.Sections.{Ordered};
-ghost use Rattle.valid_typing.specs.Image.{ReadyAt, ScopedAt, lettersIn};
-ghost use Rattle.valid_judge.specs.Image.{FlatAt, InStackAt};
+ghost use Rattle.valid_typing.specs.Image.{Prepared, lettersIn};
+ghost use Rattle.valid_judge.specs.Image.{Flattens, HeldItems, InStackAt};
 
 // ssp d i s t: the pointer's register, the item, the register that is stored, and the row that is given.
 pub struct PointerStore {
@@ -79,7 +78,7 @@ fn new_tail(
     t: usize,
     pending: &mut [u32],
 ) -> usize
-    requires { ⌜ Ready (now rows) (now parts) n × (x ≤ n + 2) × (u ≤ n + 2) × (items (meanS (tab (now rows) (now parts)) x) ≤ length (now work)) × SmallVars (meanS (tab (now rows) (now parts)) x) × (1543 ≤ length (now pending)) ⌝ }
+    requires { ⌜ Ready (now rows) (now parts) n × LaidOut (now rows) (now parts) n x (now work) × (u ≤ n + 2) × (1543 ≤ length (now pending)) ⌝ }
     ensures { λ out. ⌜ ((P : Program) (Δ : List Kind) (Γ : Context) (s : ℕ) → P .types ≡ typesOf (rowsIn (tab (now (rows .entry)) (now (parts .entry))) n) → itemAt (Γ .regs) s ≡ linked (typesIn (now (rows .entry)) (now (parts .entry)) n) u → toldOf (newTail P Δ Γ (meanS (tab (now (rows .entry)) (now (parts .entry))) x) i s t) ≡ answer out (spOf (typesIn (now (rows .entry)) (now (parts .entry)) n) (now (work .exit)) (items (meanS (tab (now (rows .entry)) (now (parts .entry))) x)))) × (out ≡ 0 → Replaced (typesIn (now (rows .entry)) (now (parts .entry)) n) (meanS (tab (now (rows .entry)) (now (parts .entry))) x) i u (givenRow n t) (spOf (typesIn (now (rows .entry)) (now (parts .entry)) n) (now (work .exit)) (items (meanS (tab (now (rows .entry)) (now (parts .entry))) x)))) ⌝ }
 {
     let y = valid_typing::row_item(rows, parts, n, x, i);
@@ -117,7 +116,7 @@ fn pass_through(
     x: PointerStore,
     pending: &mut [u32],
 ) -> usize
-    requires { ⌜ Ready (now rows) (now parts) n × (b .row ≤ n + 2) × (u ≤ n + 2) × (items (meanS (tab (now rows) (now parts)) (b .row)) ≤ length (now work)) × SmallVars (meanS (tab (now rows) (now parts)) (b .row)) × (1543 ≤ length (now pending)) ⌝ }
+    requires { ⌜ Ready (now rows) (now parts) n × LaidOut (now rows) (now parts) n (b .row) (now work) × (u ≤ n + 2) × (1543 ≤ length (now pending)) ⌝ }
     ensures { λ out. ⌜ ((P : Program) (Δ : List Kind) (regs : List ℕ) (d s : ℕ) → P .types ≡ typesOf (rowsIn (tab (now (rows .entry)) (now (parts .entry))) n) → toldOf (pointerAt P Δ (regsOf (typesIn (now (rows .entry)) (now (parts .entry)) n) regs) d) ≡ answer (b .fault) (meanS (tab (now (rows .entry)) (now (parts .entry))) (b .row)) → itemAt (regsOf (typesIn (now (rows .entry)) (now (parts .entry)) n) regs) s ≡ linked (typesIn (now (rows .entry)) (now (parts .entry)) n) u → toldOf (through P Δ (contextOf (typesIn (now (rows .entry)) (now (parts .entry)) n) regs (now (sp .entry)) depth) d (x .item) s (x .row)) ≡ answer out (spAbove (typesIn (now (rows .entry)) (now (parts .entry)) n) (now (sp .entry)) (items (meanS (tab (now (rows .entry)) (now (parts .entry))) (b .row))) (depth - items (meanS (tab (now (rows .entry)) (now (parts .entry))) (b .row))), spOf (typesIn (now (rows .entry)) (now (parts .entry)) n) (now (work .exit)) (items (meanS (tab (now (rows .entry)) (now (parts .entry))) (b .row))))) × (out ≡ 0 → IsTail (typesIn (now (rows .entry)) (now (parts .entry)) n) (now (sp .entry)) depth (meanS (tab (now (rows .entry)) (now (parts .entry))) (b .row)) × Replaced (typesIn (now (rows .entry)) (now (parts .entry)) n) (meanS (tab (now (rows .entry)) (now (parts .entry))) (b .row)) (x .item) u (givenRow n (x .row)) (spOf (typesIn (now (rows .entry)) (now (parts .entry)) n) (now (work .exit)) (items (meanS (tab (now (rows .entry)) (now (parts .entry))) (b .row))))) ⌝ }
 {
     if b.fault != 0 {
@@ -146,7 +145,7 @@ pub(crate) fn store_through(
     w: BlockLetters,
     pending: &mut [u32],
 ) -> usize
-    requires { ⌜ Ordered p (length (now image)) × ReadyAt p (now image) n × ScopedAt p (now image) n × FlatAt p (now image) n × (8 ≤ length (now regs)) × (depth ≤ length (now sp)) × (4096 ≤ length (now work)) × (1543 ≤ length (now pending)) ⌝ }
+    requires { ⌜ Prepared p (now image) n (now pending) × Flattens p (now image) n (now work) × HeldItems (now regs) (now sp) depth ⌝ }
     ensures { λ out. ⌜ InStackAt p (now (image .entry)) n (lettersIn p (now (image .entry)) w) (now (regs .entry)) (now (sp .entry)) depth (now (regs .exit)) (now (sp .exit)) depth out (ssp (x .pointer) (x .item) (x .source) (x .row)) ⌝ }
 {
     let shared = p.shared;

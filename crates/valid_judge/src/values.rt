@@ -6,18 +6,17 @@ use image::Places;
 use valid_typing::BlockLetters;
 use valid_typing::Listed;
 ghost use mathlib.Core.Path.{_≡_};
-ghost use Prim.Native.Nat.{_+_, _≤_};
+ghost use Prim.Native.Nat.{_≤_};
 ghost use lib.ListN.{length};
 ghost use Rattle.syntax.specs.Syntax.{value, Arith, aop, mov, malloc};
 ghost use Rattle.types.specs.Types.{Ty};
 ghost use Rattle.types.specs.Rows.{typeAt};
 ghost use Rattle.valid.specs.PassThree.{Judged, _▹_, orFault, asInt};
 ghost use Rattle.valid_context.specs.Told.{toldOf, answer};
-ghost use Rattle.valid_context.specs.premises.Bounds.{Short, AllShort};
+ghost use Rattle.valid_context.specs.premises.Bounds.{Short};
 ghost use Rattle.valid_typing.specs.Typing.{typesIn, Ready};
-ghost use Rattle.image.specs.Sections.{Ordered};
-ghost use Rattle.valid_typing.specs.Image.{ReadyAt, ScopedAt, operandIn, listedIn, lettersIn};
-ghost use Rattle.valid_judge.specs.Image.{InFileAt};
+ghost use Rattle.valid_typing.specs.Image.{Prepared, operandIn, listedIn, lettersIn};
+ghost use Rattle.valid_judge.specs.Image.{ListedIn, InFileAt};
 
 // A premise has the least fault f, or gives the type of row t: that it is the integer type.
 fn int_fault(rows: &[u16], parts: &[u16], n: usize, f: usize, t: usize) -> usize
@@ -43,7 +42,7 @@ pub(crate) fn compute(
     d: usize,
     s: usize,
 ) -> usize
-    requires { ⌜ Ordered p (length (now image)) × ReadyAt p (now image) (c .rows) × ScopedAt p (now image) (c .rows) × Short (operandIn p (now image) (now literals) v) × (v ≤ 131072) × (8 ≤ length (now regs)) × (1543 ≤ length (now pending)) ⌝ }
+    requires { ⌜ Prepared p (now image) (c .rows) (now pending) × Short (operandIn p (now image) (now literals) v) × (v ≤ 131072) × (8 ≤ length (now regs)) ⌝ }
     ensures { λ out. ⌜ ((o : Arith) → InFileAt p (now (image .entry)) c (lettersIn p (now (image .entry)) w) (now (regs .entry)) (now (regs .exit)) out (aop o d s (operandIn p (now (image .entry)) (now (literals .entry)) v))) ⌝ }
 {
     let shared = p.shared;
@@ -73,7 +72,7 @@ pub(crate) fn move_to(
     pending: &mut [u32],
     d: usize,
 ) -> usize
-    requires { ⌜ Ordered p (length (now image)) × ReadyAt p (now image) (c .rows) × ScopedAt p (now image) (c .rows) × Short (operandIn p (now image) (now literals) v) × (v ≤ 131072) × (8 ≤ length (now regs)) × (1543 ≤ length (now pending)) ⌝ }
+    requires { ⌜ Prepared p (now image) (c .rows) (now pending) × Short (operandIn p (now image) (now literals) v) × (v ≤ 131072) × (8 ≤ length (now regs)) ⌝ }
     ensures { λ out. ⌜ InFileAt p (now (image .entry)) c (lettersIn p (now (image .entry)) w) (now (regs .entry)) (now (regs .exit)) out (mov d (operandIn p (now (image .entry)) (now (literals .entry)) v)) ⌝ }
 {
     let t = valid_typing::operands::operand(image, literals, p, c, v, w, regs, pending);
@@ -96,7 +95,7 @@ fn make_listed(
     d: usize,
     t: usize,
 ) -> usize
-    requires { ⌜ Ordered p (length (now image)) × ReadyAt p (now image) (c .rows) × ScopedAt p (now image) (c .rows) × AllShort (listedIn p (now image) (now literals) o) × (o .first + o .count ≤ 131072) × (o .count ≤ 16) × (8 ≤ length (now regs)) × (1543 ≤ length (now pending)) ⌝ }
+    requires { ⌜ Prepared p (now image) (c .rows) (now pending) × ListedIn p (now image) (now literals) o × (8 ≤ length (now regs)) ⌝ }
     ensures { λ out. ⌜ InFileAt p (now (image .entry)) c (lettersIn p (now (image .entry)) w) (now (regs .entry)) (now (regs .exit)) out (malloc d t (listedIn p (now (image .entry)) (now (literals .entry)) o)) ⌝ }
 {
     let shared = p.shared;
@@ -148,7 +147,7 @@ pub(crate) fn make_tuple(
     d: usize,
     t: usize,
 ) -> usize
-    requires { ⌜ Ordered p (length (now image)) × ReadyAt p (now image) (c .rows) × ScopedAt p (now image) (c .rows) × AllShort (listedIn p (now image) (now literals) o) × (o .first + o .count ≤ 131072) × (o .count ≤ 16) × (8 ≤ length (now regs)) × (1543 ≤ length (now pending)) ⌝ }
+    requires { ⌜ Prepared p (now image) (c .rows) (now pending) × ListedIn p (now image) (now literals) o × (8 ≤ length (now regs)) ⌝ }
     ensures { λ out. ⌜ InFileAt p (now (image .entry)) c (lettersIn p (now (image .entry)) w) (now (regs .entry)) (now (regs .exit)) out (malloc d t (listedIn p (now (image .entry)) (now (literals .entry)) o)) ⌝ }
 {
     let r = valid_typing::given_row(c.rows, t);

@@ -78,7 +78,10 @@ module _ (P : Program) (T : List Arg) (β ι : List ℕ) (ω : OperandTable) (ni
   blocks-more b h = ap (λ (l : List Listing). blocksOf T l) (blocks-step β ι ω ni nb b h)
 
   length-pass : (first : Bool) (b : ℕ) → length (blockPass P first (theBlock T β ι ω ni nb b)) ≡ suc (endOf β ni nb b - cell 2 β b 1)
-  length-pass first b = ap suc (length-body P (theBlock T β ι ω ni nb b .letters) (holds (atStart (theBlock T β ι ω ni nb b))) (theBlock T β ι ω ni nb b .body) ∙ ap length (body-of (typeAt value T (cell 2 β b 0)) (instrsFrom ι ω (cell 2 β b 1) (endOf β ni nb b - cell 2 β b 1))) ∙ length-instrs ι ω (cell 2 β b 1) (endOf β ni nb b - cell 2 β b 1))
+  length-pass first b =
+      ap suc (length-body P (theBlock T β ι ω ni nb b .letters) (holds (atStart (theBlock T β ι ω ni nb b))) (theBlock T β ι ω ni nb
+      b .body) ∙ ap length (body-of (typeAt value T (cell 2 β b 0)) (instrsFrom ι ω (cell 2 β b 1) (endOf β ni nb b - cell 2 β b 1)))
+      ∙ length-instrs ι ω (cell 2 β b 1) (endOf β ni nb b - cell 2 β b 1))
 
   end-start : (b : ℕ) → endOf β ni nb b ≡ startAt (b + 1)
   unfolding endOf
@@ -214,7 +217,11 @@ module _ (P : Program) (rows parts β ι : List ℕ) (ω : OperandTable) (ni n n
       subst (λ (f : Finding). Refuses f (lowestLine (n + b + cell 2 β b 1 + 1) (blockPass P (eqb b 0) (theBlock T β ι ω ni nb b)))) (sym (o ∙ ap (λ (y : ℕ). record { number = k; line = y; item = 100 }) the-line))
       (block-line P (eqb b 0) (theBlock T β ι ω ni nb b) (n + b + cell 2 β b 1 + 1) k (e ∙ ap (λ (B : Block). leastOf (blockFaults (eqb b 0) B)) the-block) z)
 
-  pub found-body : (k h x p en base : ℕ) (out : Finding) → k ≡ leastOf (blockFaults (eqb b 0) (blockOf (typeAt value T c) xs)) → k ≡ 0 → blockOf (typeAt value T c) xs ≡ blockAt (tab rows parts) h x p xs → en ≡ endOf β ni nb b → base ≡ n + b + 2 → Refuses out (lowestLine (base + s) (bodyFaults P (lettersAt parts p) (holds (atStart (blockAt (tab rows parts) h x p (instrsFrom ι ω s (en - s))))) (instrsFrom ι ω s (en - s)))) → Refuses out (lowestLine (n + b + cell 2 β b 1 + 1) (blockPass P (eqb b 0) (theBlock T β ι ω ni nb b)))
+  pub found-body : (k h x p en base : ℕ) (out : Finding) → k ≡ leastOf (blockFaults (eqb b 0) (blockOf (typeAt value T c) xs)) → k ≡ 0
+      → blockOf (typeAt value T c) xs ≡ blockAt (tab rows parts) h x p xs → en ≡ endOf β ni nb b → base ≡ n + b + 2
+      → Refuses out (lowestLine (base + s) (bodyFaults P (lettersAt parts p)
+      (holds (atStart (blockAt (tab rows parts) h x p (instrsFrom ι ω s (en - s))))) (instrsFrom ι ω s (en - s))))
+      → Refuses out (lowestLine (n + b + cell 2 β b 1 + 1) (blockPass P (eqb b 0) (theBlock T β ι ω ni nb b)))
   found-body k h x p en base out e z bl ee be r =
       let m : base + s ≡ suc (n + b + cell 2 β b 1 + 1) = omega (arith, be, ss) in
       block-body P (eqb b 0) (theBlock T β ι ω ni nb b) (n + b + cell 2 β b 1 + 1) k (e ∙ ap (λ (B : Block). leastOf (blockFaults (eqb b 0) B)) the-block) out z

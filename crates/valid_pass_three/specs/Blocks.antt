@@ -1,5 +1,6 @@
 -- The lines of a block, and block b of the tables.
-use Prim.Native.Nat.{ℕ, _-_}
+use Prim.Native.Nat.{ℕ, _-_, _≤_, _<_}
+use mathlib.Core.Path.{_≡_}
 use mathlib.Core.Bool.{Bool}
 use mathlib.Core.List.{List, _∷_}
 use Rattle.syntax.specs.Syntax.{value}
@@ -15,7 +16,8 @@ use Rattle.image.specs.Sections.{blockSection, instrSection}
 use Rattle.valid.specs.Program.{Block, Program, blockOf}
 use Rattle.valid.specs.Rules.{atStart}
 use Rattle.valid.specs.PassThree.{holds, bodyFaults, blockFaults}
-use Rattle.valid_typing.specs.Image.{rowTable, operandsIn}
+use Rattle.valid_context.specs.premises.Bounds.{SmallInstr}
+use Rattle.valid_typing.specs.Image.{rowTable, operandsIn, instrIn}
 
 -- a block's line, and its instructions' lines
 abbrev pub blockPass : Program → Bool → Block → Pass
@@ -32,3 +34,19 @@ blockIn p l literals c b = theBlock (typesOf (rowsIn (rowTable p l) (c .rows))) 
 -- its blocks
 abbrev pub blocksIn : Places → List ℕ → List ℕ → Counts → List Listing
 blocksIn p l literals c = blocksFrom (blockSection p l) (instrSection p l) (operandsIn p l literals) (c .instrs) 0 (c .blocks)
+
+-- the instructions that c counts have small numbers, and block b ends within them
+pub record BlockWithin (p : Places) (image literals : List ℕ) (c : Counts) (b : ℕ) : Type 0 where
+  pub small : (i : ℕ) → i < c .instrs → SmallInstr (instrIn p image literals i)
+  pub instrs : c .instrs ≤ 1024
+  pub number : b ≤ 64
+  pub end : endOf (blockSection p image) (c .instrs) (c .blocks) b ≤ c .instrs
+
+-- the same of each block, and they have the instructions one behind the other
+pub record BlocksWithin (p : Places) (image literals : List ℕ) (c : Counts) : Type 0 where
+  pub small : 0 < c .blocks → (i : ℕ) → i < c .instrs → SmallInstr (instrIn p image literals i)
+  pub instrs : c .instrs ≤ 1024
+  pub blocks : c .blocks ≤ 64
+  pub first : 0 < c .blocks → cell 2 (blockSection p image) 0 1 ≡ 0
+  pub ends : (b : ℕ) → b < c .blocks → (cell 2 (blockSection p image) b 1 ≤ endOf (blockSection p image) (c .instrs) (c .blocks) b)
+      × (endOf (blockSection p image) (c .instrs) (c .blocks) b ≤ c .instrs)

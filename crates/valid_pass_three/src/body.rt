@@ -12,24 +12,23 @@ use valid_verdict::finding::Finding;
 ghost use mathlib.Core.Path.{_≡_};
 ghost use mathlib.Core.Bool.{true};
 ghost use mathlib.Core.List.{List};
-ghost use Prim.Native.Nat.{ℕ, _+_, _-_, _≤_, _<_};
+ghost use Prim.Native.Nat.{ℕ, _+_, _-_, _≤_};
 ghost use lib.ListN.{length};
 ghost use Rattle.syntax.specs.Syntax.{stack};
 ghost use Rattle.syntax.specs.Fault.{lowestLine};
-ghost use Rattle.types.specs.Types.{Ty, items};
+ghost use Rattle.types.specs.Types.{Ty};
 ghost use Rattle.tables.specs.Tables.{lettersAt};
 ghost use Rattle.valid.specs.Program.{Program};
 ghost use Rattle.valid.specs.Rules.{atStart};
 ghost use Rattle.valid.specs.PassThree.{holds, bodyFaults};
-ghost use Rattle.image.specs.Sections.{Ordered, slotSection};
-ghost use Rattle.types_rows.specs.Read.{tab, meanV, meanS, partsOf, onSlot, OkSlot};
+ghost use Rattle.image.specs.Sections.{slotSection};
+ghost use Rattle.types_rows.specs.Read.{tab, meanV, partsOf, onSlot, OkSlot};
 ghost use Rattle.valid_context.specs.Context.{onLink, regsOf, contextOf};
-ghost use Rattle.valid_typing.specs.Typing.{typesIn, Ready};
-ghost use Rattle.valid_context.specs.premises.Bounds.{SmallInstr};
-ghost use Rattle.valid_typing.specs.Image.{rowTable, typesAt, instrIn, HoldsAt, lettersIn};
+ghost use Rattle.valid_typing.specs.Typing.{typesIn, Ready, RowParts};
+ghost use Rattle.valid_typing.specs.Image.{rowTable, typesAt, HoldsAt, lettersIn};
 ghost use Rattle.valid_scope.specs.entry.Entry.{blockAt};
 ghost use Rattle.valid_verdict.specs.finding.Found.{Refuses};
-ghost use Rattle.valid_pass_three.specs.body.Tables.{TablesAt, instrsIn};
+ghost use Rattle.valid_pass_three.specs.body.Tables.{Tabled, SmallInstrs, Arrays, CodeRow, instrsIn};
 
 // A block of a code row: the row's link, its stack's, where its registers start; its instructions from first to end - 1, of which
 // instruction i stands on line base + i.
@@ -63,7 +62,7 @@ fn link_of(n: usize, s: Slot) -> usize
 
 // The registers as the code row of link h says, whose registers start at p.
 fn enter(rows: &[u16], parts: &[u16], n: usize, h: usize, p: usize, regs: &mut [u16])
-    requires { ⌜ Ready (now rows) (now parts) n × (0 < h) × (h ≤ n + 2) × (p ≤ 65535) × (8 ≤ length (now regs)) ⌝ }
+    requires { ⌜ Ready (now rows) (now parts) n × RowParts n h p × (8 ≤ length (now regs)) ⌝ }
     ensures { λ _. ⌜ regsOf (typesIn (now (rows .entry)) (now (parts .entry)) n) (now (regs .exit)) ≡ partsOf (meanV (tab (now (rows .entry)) (now (parts .entry)))) (now (parts .entry)) true h p 8 ⌝ }
 {
     let mut i = 0;
@@ -88,7 +87,7 @@ fn body(
     work: &mut [u16],
     pending: &mut [u32],
 ) -> Finding
-    requires { ⌜ Ordered p (length (now image)) × TablesAt p (now image) (c .rows) × ((i : ℕ) → x .first ≤ i → i < x .end → SmallInstr (instrIn p (now image) (now literals) i)) × (x .end ≤ 65535) × (x .base ≤ 262144) × (8 ≤ length (now regs)) × (64 ≤ length (now sp)) × (4096 ≤ length (now work)) × (x .depth ≤ 64) × (1543 ≤ length (now pending)) ⌝ }
+    requires { ⌜ Tabled p (now image) (c .rows) × SmallInstrs p (now image) (now literals) (x .first) (x .end) (x .base) × Arrays (now regs) (now sp) (now work) (now pending) × (x .depth ≤ 64) ⌝ }
     ensures { λ out. ⌜ ((P : Program) → HoldsAt p (now (image .entry)) c P → Refuses out (lowestLine (x .base + x .first) (bodyFaults P (lettersIn p (now (image .entry)) w) (holds (contextOf (typesAt p (now (image .entry)) (c .rows)) (now (regs .entry)) (now (sp .entry)) (x .depth))) (instrsIn p (now (image .entry)) (now (literals .entry)) (x .first) (x .end - x .first))))) ⌝ }
 {
     // The loop's invariant speaks of locals, and of no parameter that is a struct.
@@ -125,8 +124,7 @@ pub(crate) fn code_block(
     work: &mut [u16],
     pending: &mut [u32],
 ) -> Finding
-    requires { ⌜ Ordered p (length (now image)) × TablesAt p (now image) (c .rows) × ((i : ℕ) → x .first ≤ i → i < x .end → SmallInstr (instrIn p (now image) (now literals) i)) × (x .end ≤ 65535) × (x .base ≤ 262144) × (8 ≤ length (now regs)) × (64 ≤ length (now sp)) × (4096 ≤ length (now work)) × (1543 ≤ length (now pending)) ⌝ }
-    requires { ⌜ (0 < x .link) × (x .link ≤ c .rows + 1) × (x .stack < x .link) × (x .start ≤ 65535) × (items (meanS (rowTable p (now image)) (x .stack)) ≤ 64) ⌝ }
+    requires { ⌜ Tabled p (now image) (c .rows) × SmallInstrs p (now image) (now literals) (x .first) (x .end) (x .base) × Arrays (now regs) (now sp) (now work) (now pending) × CodeRow p (now image) (c .rows) x ⌝ }
     ensures { λ out. ⌜ ((P : Program) → HoldsAt p (now (image .entry)) c P → Refuses out (lowestLine (x .base + x .first) (bodyFaults P (lettersAt (slotSection p (now (image .entry))) (x .start)) (holds (atStart (blockAt (rowTable p (now (image .entry))) (x .link) (x .stack) (x .start) (instrsIn p (now (image .entry)) (now (literals .entry)) (x .first) (x .end - x .first))))) (instrsIn p (now (image .entry)) (now (literals .entry)) (x .first) (x .end - x .first))))) ⌝ }
 {
     let shared = p.shared;

@@ -12,9 +12,8 @@ use valid_verdict::finding::Finding;
 use valid_verdict::finding::on_line;
 ghost use mathlib.Core.Path.{_≡_};
 ghost use mathlib.Core.List.{List};
-ghost use Prim.Native.Nat.{ℕ, _+_, _≤_, _<_};
+ghost use Prim.Native.Nat.{_+_, _≤_};
 ghost use lib.Dec.{eqb};
-ghost use lib.ListN.{length};
 ghost use Rattle.syntax.specs.Syntax.{value, Instr};
 ghost use Rattle.syntax.specs.Fault.{lowestLine};
 ghost use Rattle.syntax.proofs.Least.{leastOf};
@@ -23,12 +22,11 @@ ghost use Rattle.tables.specs.Tables.{cell, rowsIn};
 ghost use Rattle.tables.proofs.Steps.{endOf};
 ghost use Rattle.valid.specs.Program.{Program, blockOf, blocksOf};
 ghost use Rattle.valid.specs.PassThree.{blockFaults, passThree};
-ghost use Rattle.image.specs.Sections.{Ordered, blockSection};
-ghost use Rattle.valid_context.specs.premises.Bounds.{SmallInstr};
-ghost use Rattle.valid_typing.specs.Image.{rowTable, instrIn, HoldsAt};
+ghost use Rattle.image.specs.Sections.{blockSection};
+ghost use Rattle.valid_typing.specs.Image.{rowTable, HoldsAt};
 ghost use Rattle.valid_verdict.specs.finding.Found.{Refuses};
-ghost use Rattle.valid_pass_three.specs.body.Tables.{TablesAt};
-ghost use Rattle.valid_pass_three.specs.Blocks.{blockPass, blockIn, blocksIn};
+ghost use Rattle.valid_pass_three.specs.body.Tables.{Tabled, Arrays};
+ghost use Rattle.valid_pass_three.specs.Blocks.{blockPass, blockIn, blocksIn, BlockWithin, BlocksWithin};
 
 // Where block b of nb ends.
 fn block_end(blocks: &[u16], nb: usize, ni: usize, b: usize) -> usize
@@ -43,7 +41,7 @@ fn block_end(blocks: &[u16], nb: usize, ni: usize, b: usize) -> usize
 
 // The least fault of the line of a block with the row r, of n rows; 0 for none.
 fn line_fault(image: &[u16], p: Places, n: usize, r: usize, first: bool) -> usize
-    requires { ⌜ Ordered p (length (now image)) × TablesAt p (now image) n × (r ≤ 65535) ⌝ }
+    requires { ⌜ Tabled p (now image) n × (r ≤ 65535) ⌝ }
     ensures { λ out. ⌜ ((xs : List Instr) → out ≡ leastOf (blockFaults first (blockOf (typeAt value (typesOf (rowsIn (rowTable p (now (image .entry))) n)) r) xs))) ⌝ }
 {
     let uses = p.uses;
@@ -74,7 +72,7 @@ fn block(
     work: &mut [u16],
     pending: &mut [u32],
 ) -> Finding
-    requires { ⌜ Ordered p (length (now image)) × TablesAt p (now image) (c .rows) × ((i : ℕ) → i < c .instrs → SmallInstr (instrIn p (now image) (now literals) i)) × (c .instrs ≤ 1024) × (b ≤ 64) × (endOf (blockSection p (now image)) (c .instrs) (c .blocks) b ≤ c .instrs) × (8 ≤ length (now regs)) × (64 ≤ length (now sp)) × (4096 ≤ length (now work)) × (1543 ≤ length (now pending)) ⌝ }
+    requires { ⌜ Tabled p (now image) (c .rows) × BlockWithin p (now image) (now literals) c b × Arrays (now regs) (now sp) (now work) (now pending) ⌝ }
     ensures { λ out. ⌜ ((P : Program) → HoldsAt p (now (image .entry)) c P → Refuses out (lowestLine (c .rows + b + cell 2 (blockSection p (now (image .entry))) b 1 + 1) (blockPass P (eqb b 0) (blockIn p (now (image .entry)) (now (literals .entry)) c b)))) ⌝ }
 {
     let blocks = p.blocks;
@@ -119,7 +117,7 @@ pub fn pass_three(
     work: &mut [u16],
     pending: &mut [u32],
 ) -> Finding
-    requires { ⌜ Ordered p (length (now image)) × TablesAt p (now image) (c .rows) × (0 < c .blocks → (i : ℕ) → i < c .instrs → SmallInstr (instrIn p (now image) (now literals) i)) × (c .instrs ≤ 1024) × (c .blocks ≤ 64) × (0 < c .blocks → cell 2 (blockSection p (now image)) 0 1 ≡ 0) × ((b : ℕ) → b < c .blocks → (cell 2 (blockSection p (now image)) b 1 ≤ endOf (blockSection p (now image)) (c .instrs) (c .blocks) b) × (endOf (blockSection p (now image)) (c .instrs) (c .blocks) b ≤ c .instrs)) × (8 ≤ length (now regs)) × (64 ≤ length (now sp)) × (4096 ≤ length (now work)) × (1543 ≤ length (now pending)) ⌝ }
+    requires { ⌜ Tabled p (now image) (c .rows) × BlocksWithin p (now image) (now literals) c × Arrays (now regs) (now sp) (now work) (now pending) ⌝ }
     ensures { λ out. ⌜ ((P : Program) → HoldsAt p (now (image .entry)) c P → P .blocks ≡ blocksOf (typesOf (rowsIn (rowTable p (now (image .entry))) (c .rows))) (blocksIn p (now (image .entry)) (now (literals .entry)) c) → Refuses out (lowestLine 0 (passThree P))) ⌝ }
 {
     if c.blocks == 0 {

@@ -82,7 +82,9 @@ pub scoped-none : (τ : RowTable) (uses tops : List ℕ) → Scoped τ 0 uses to
 scoped-none τ uses tops = record { room = omega arith; free = λ x k l. absurd (not-suc-le-zero l); top = λ x l. absurd (not-suc-le-zero l) }
 
 -- one row more: its uses are there, found from the old ones, and its top is v
-pub scoped-more : (τ : RowTable) (r v m : ℕ) (b : Bool) (old uses tops : List ℕ) → Checked τ r → Scoped τ r old tops → b ≡ rowRespected old tops (rowAt τ r) → m ≡ topOf (λ k. freeIn k (rowType τ r)) 64 → v ≡ cond b m 255 → 64 * r + 64 ≤ length uses → r < length tops → Free τ (suc r) uses → Scoped τ (suc r) uses (set tops r v)
+pub scoped-more : (τ : RowTable) (r v m : ℕ) (b : Bool) (old uses tops : List ℕ) → Checked τ r → Scoped τ r old tops → b ≡ rowRespected
+    old tops (rowAt τ r) → m ≡ topOf (λ k. freeIn k (rowType τ r)) 64 → v ≡ cond b m 255 → 64 * r + 64 ≤ length uses → r < length tops
+    → Free τ (suc r) uses → Scoped τ (suc r) uses (set tops r v)
 scoped-more τ r v m b old uses tops c s p q e l h f = record { room = omega arith; free = f; top = below-suc (λ x. getD (set tops r v) x 0 ≡ topIn (rowType τ x)) r (λ x i. getD-set-other tops r x v 0 (λ e. omega arith) ∙ s .top x i) own }
   where
     agree : b ≡ respectedIn (rowType τ r)

@@ -63,7 +63,9 @@ module _ (r : ℕ) {a b e : ℕ} {l l′ : List ℕ} (ab : a ≤ b) (be : b ≤ 
       let o′ : Outside b e l′ (set l′ (b + r) v) = put-out b e l′ r v h in
       then (wider a b a e l l′ (omega arith) be (omega arith) o) (wider b e a e l′ (set l′ (b + r) v) ab (omega arith) (omega (arith, o .size)) o′)
 
-  pub row-scoped : {τ : RowTable} (m : ℕ) (x : Bool) → Checked τ r → Scoped τ r (part a b l) (part b e l) → x ≡ rowRespected (part a b l) (part b e l) (rowAt τ r) → m ≡ topOf (λ k. freeIn k (rowType τ r)) 64 → v ≡ cond x m 255 → Free τ (suc r) (part a b l′) → Scoped τ (suc r) (part a b (set l′ (b + r) v)) (part b e (set l′ (b + r) v))
+  pub row-scoped : {τ : RowTable} (m : ℕ) (x : Bool) → Checked τ r → Scoped τ r (part a b l) (part b e l) → x ≡ rowRespected (part a b l)
+      (part b e l) (rowAt τ r) → m ≡ topOf (λ k. freeIn k (rowType τ r)) 64 → v ≡ cond x m 255 → Free τ (suc r) (part a b l′)
+      → Scoped τ (suc r) (part a b (set l′ (b + r) v)) (part b e (set l′ (b + r) v))
   row-scoped {τ} m x z s q g w f =
       let hl : e ≤ length l′ = omega (arith, o .size) in
       let n : length (part a b l′) ≡ b - a = part-length a b l′ (omega arith) in

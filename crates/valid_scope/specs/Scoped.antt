@@ -1,6 +1,6 @@
 -- The tables of free variables: for each row 64 entries in `uses`, how each variable is free in it, and one in `tops`. Each row's entries
 -- are found from those of the rows that it names.
-use Prim.Native.Nat.{ℕ, _*_, _<_, _≤_}
+use Prim.Native.Nat.{ℕ, _+_, _-_, _*_, _<_, _≤_}
 use mathlib.Core.Path.{_≡_}
 use mathlib.Core.Bool.{true, cond}
 use mathlib.Core.List.{List, map}
@@ -9,6 +9,7 @@ use Rattle.syntax.specs.Syntax.{Row, rowI, rowN, rowE, rowV, rowX, rowP, rowU, 
 use Rattle.types.specs.Types.{Arg}
 use Rattle.types.specs.Rows.{meaning, typesOf, Ref, rowRefs, allBelow, allOfSort}
 use Rattle.tables.specs.Tables.{RowTable, rowAt, rowsIn}
+use Rattle.image.specs.declared.Places.{Places}
 use Rattle.valid_scope.specs.variables.Free.{topOf, freeIn, respectedIn}
 use Rattle.valid_scope.specs.variables.Uses.{useAt}
 
@@ -58,3 +59,15 @@ pub record Checked (τ : RowTable) (r : ℕ) : Type 0 where
   pub small : SmallVariable (rowAt τ r)
   pub lower : allBelow r (map (λ (x : Ref). x .row) (rowRefs (rowAt τ r))) ≡ true
   pub sorts : allOfSort (rowsIn τ r) (rowRefs (rowAt τ r)) ≡ true
+
+-- ---- what finding the entries of row r asks
+-- row r is next: passes one and two have seen it, and no variable from `bound` on is free in the rows before it
+pub record NextRow (τ : RowTable) (r bound : ℕ) : Type 0 where
+  pub checked : Checked τ r
+  pub few : bound ≤ 64
+  pub within : Within τ r bound
+
+-- the sections have room for the entries of row r
+pub record RowRoom (p : Places) (r : ℕ) : Type 0 where
+  pub uses : 64 * r + 64 ≤ p .tops - p .uses
+  pub tops : r < p .shared - p .tops

@@ -7,7 +7,7 @@ ghost use mathlib.Core.Path.{_≡_};
 ghost use mathlib.Core.Bool.{true, false, _&&_, not};
 ghost use mathlib.Core.List.{List, _++_};
 ghost use lib.ListN.{getD};
-ghost use Prim.Native.Nat.{ℕ, _+_, _≤_, _<_};
+ghost use Prim.Native.Nat.{ℕ, _≤_, _<_};
 ghost use Rattle.syntax.specs.Syntax.{value, Instr};
 ghost use Rattle.syntax.specs.Fault.{given};
 ghost use Rattle.syntax.proofs.Least.{leastOf};
@@ -20,7 +20,7 @@ ghost use Rattle.valid.specs.Program.{blockOf};
 ghost use Rattle.valid.specs.Rules.{ints};
 ghost use Rattle.valid.specs.PassThree.{isEntry, declared, blockFaults};
 ghost use Rattle.valid_scope.specs.Scoped.{Scoped};
-ghost use Rattle.valid_scope.specs.entry.Entry.{gaps, Declares, blockAt};
+ghost use Rattle.valid_scope.specs.entry.Entry.{gaps, Declares, CodeAt, blockAt};
 
 // What r1 is as the entry's: fit or not, and how many components it has.
 pub struct Samples {
@@ -119,7 +119,7 @@ fn first_register(rows: &[u16], parts: &[u16], h: usize, p: usize) -> Samples
 
 // The code row h with the stack x and its registers at p is fit as the entry.
 fn is_entry(rows: &[u16], parts: &[u16], h: usize, x: usize, p: usize) -> bool
-    requires { ⌜ (0 < h) × (h ≤ 65536) × (x < h) × (p ≤ 65535) × CountedTo (tab (now rows) (now parts)) x ⌝ }
+    requires { ⌜ CodeAt (tab (now rows) (now parts)) h x p ⌝ }
     ensures { λ out. ⌜ ((xs : List Instr) → out ≡ isEntry (blockAt (tab (now (rows .entry)) (now (parts .entry))) h x p xs)) ⌝ }
 {
     if types_rows::letter_count(parts, p) != 0 {
@@ -137,7 +137,7 @@ fn is_entry(rows: &[u16], parts: &[u16], h: usize, x: usize, p: usize) -> bool
 
 // Only block 0 must be fit as the entry.
 fn is_fit(rows: &[u16], parts: &[u16], h: usize, x: usize, p: usize, first: bool) -> bool
-    requires { ⌜ (0 < h) × (h ≤ 65536) × (x < h) × (p ≤ 65535) × CountedTo (tab (now rows) (now parts)) x ⌝ }
+    requires { ⌜ CodeAt (tab (now rows) (now parts)) h x p ⌝ }
     ensures { λ out. ⌜ ((xs : List Instr) → not out ≡ first && not (isEntry (blockAt (tab (now (rows .entry)) (now (parts .entry))) h x p xs))) ⌝ }
 {
     if first {

@@ -24,7 +24,7 @@ ghost use Rattle.types_rows.specs.Read.{tab};
 ghost use Rattle.image.specs.Sections.{rowSection, partSection, useSection, topSection, Ordered, Outside};
 ghost use Rattle.valid_scope.specs.variables.Free.{topOf, freeIn};
 ghost use Rattle.valid_scope.specs.variables.Uses.{rowUse, rowRespected};
-ghost use Rattle.valid_scope.specs.Scoped.{rowType, Free, Within, Cleared, Scoped, Checked};
+ghost use Rattle.valid_scope.specs.Scoped.{rowType, Free, Within, Cleared, Scoped, Checked, NextRow, RowRoom};
 
 fn narrow(x: usize) -> u16
     requires { ⌜ x ≤ 65535 ⌝ }
@@ -125,7 +125,7 @@ fn use_in(image: &[u16], p: Places, f: Form, k: usize) -> u16
 
 // Fills the uses of row r, none from `bound` on being free in the rows before it; answers one more than its highest free variable.
 fn fill_uses(image: &mut [u16], p: Places, r: usize, bound: usize) -> usize
-    requires { ⌜ Ordered p (length (now image)) × (64 * r + 64 ≤ p .tops - p .uses) × Checked (tab (rowSection p (now image)) (partSection p (now image))) r × Free (tab (rowSection p (now image)) (partSection p (now image))) r (useSection p (now image)) × (bound ≤ 64) × Within (tab (rowSection p (now image)) (partSection p (now image))) r bound ⌝ }
+    requires { ⌜ Ordered p (length (now image)) × (64 * r + 64 ≤ p .tops - p .uses) × NextRow (tab (rowSection p (now image)) (partSection p (now image))) r bound × Free (tab (rowSection p (now image)) (partSection p (now image))) r (useSection p (now image)) ⌝ }
     ensures { λ out. ⌜ (out ≡ topOf (λ k. freeIn k (rowType (tab (rowSection p (now (image .entry))) (partSection p (now (image .entry)))) r)) 64) × Free (tab (rowSection p (now (image .entry))) (partSection p (now (image .entry)))) (suc r) (useSection p (now (image .exit))) × Outside (p .uses) (p .tops) (now (image .entry)) (now (image .exit)) ⌝ }
 {
     let rows = p.rows;
@@ -167,7 +167,7 @@ fn mark(respected: bool, top: usize) -> u16
 
 // Fills the entries of row r, those of the rows before it being there; from bound to bound.
 fn find_uses(image: &mut [u16], p: Places, r: usize, bound: usize) -> usize
-    requires { ⌜ Ordered p (length (now image)) × (64 * r + 64 ≤ p .tops - p .uses) × (r < p .shared - p .tops) × Checked (tab (rowSection p (now image)) (partSection p (now image))) r × Scoped (tab (rowSection p (now image)) (partSection p (now image))) r (useSection p (now image)) (topSection p (now image)) × (bound ≤ 64) × Within (tab (rowSection p (now image)) (partSection p (now image))) r bound ⌝ }
+    requires { ⌜ Ordered p (length (now image)) × RowRoom p r × NextRow (tab (rowSection p (now image)) (partSection p (now image))) r bound × Scoped (tab (rowSection p (now image)) (partSection p (now image))) r (useSection p (now image)) (topSection p (now image)) ⌝ }
     ensures { λ out. ⌜ Scoped (tab (rowSection p (now (image .entry))) (partSection p (now (image .entry)))) (suc r) (useSection p (now (image .exit))) (topSection p (now (image .exit))) × (out ≤ 64) × Within (tab (rowSection p (now (image .entry))) (partSection p (now (image .entry)))) (suc r) out × Outside (p .uses) (p .shared) (now (image .entry)) (now (image .exit)) ⌝ }
 {
     let rows = p.rows;

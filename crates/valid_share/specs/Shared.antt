@@ -1,15 +1,16 @@
 -- The shared table: each row is that of the text with each reference replaced by a row of the same type.
-use Prim.Native.Nat.{ℕ, _+_, _≤_, _<_}
+use Prim.Native.Nat.{ℕ, _+_, _-_, _*_, _≤_, _<_}
 use mathlib.Core.Path.{_≡_}
 use mathlib.Core.Bool.{true}
 use mathlib.Core.Option.{Option, none, some}
 use mathlib.Core.List.{List, map}
-use lib.ListN.{getD}
+use lib.ListN.{length, getD}
 use Rattle.types.specs.Types.{junk, arg}
 use Rattle.syntax.specs.Syntax.{Kind, value, Row, rowI, rowN, rowE, rowV, rowX, rowP, rowU, rowK, rowA, rowC}
 use Rattle.types.specs.Rows.{typesOf, isValue, isCode, Ref, rowRefs, allBelow}
 use Rattle.tables.specs.Tables.{RowTable, cell, rowFrom, rowAt, rowsIn}
 use Rattle.types_rows.specs.Read.{mean, Counted}
+use Rattle.image.specs.declared.Places.{Places}
 use Rattle.valid_scope.specs.Scoped.{Scoped}
 use Rattle.valid_context.specs.premises.Bounds.{SmallRow}
 use Rattle.valid_share.specs.rename.Renamed.{firstOf}
@@ -43,6 +44,30 @@ Alike first ps k a b x y = renamed (firstOf first) (rowFrom ps k a b) ≡ rename
 -- each of the first n rows names lower rows only
 abbrev pub Lower : RowTable → ℕ → Type 0
 Lower τ n = (x : ℕ) → x < n → allBelow x (map (λ (r : Ref). r .row) (rowRefs (rowAt τ x))) ≡ true
+
+-- the numbers of two rows, a and b, x and y, are entries of a table
+pub record SmallForms (a b x y : ℕ) : Type 0 where
+  pub left-first : a ≤ 65535
+  pub left-second : b ≤ 65535
+  pub right-first : x ≤ 65535
+  pub right-second : y ≤ 65535
+
+-- row r of m rows is next: `first` names a row for each row before it, and it and they name lower rows only
+pub record RowsTo (τ : RowTable) (m : ℕ) (first : List ℕ) (r : ℕ) : Type 0 where
+  pub few : m ≤ 514
+  pub within : r < m
+  pub firsts : Firsts τ m first r
+  pub lower : Lower τ (r + 1)
+
+-- what is lent has room for the rows named for n rows, and for hashes and what a comparison keeps pending
+pub record WorkFor (n : ℕ) (first work : List ℕ) : Type 0 where
+  pub names : n ≤ length first
+  pub hashes : 2567 ≤ length work
+
+-- the sections of the new table have room for n rows and two more, and for the parts of n rows
+pub record SharedFor (n : ℕ) (p : Places) : Type 0 where
+  pub rows : 4 * n + 8 ≤ p .slots - p .shared
+  pub parts : 17 * n ≤ p .end - p .slots
 
 -- ---- what is promised: σ stands for the same types as τ, n rows and two more, and serves as well
 -- the new table σ of n rows stands for what τ does

@@ -10,7 +10,7 @@ pub mod row_hash;
 ghost use mathlib.Core.Path.{_≡_};
 ghost use mathlib.Core.Bool.{true};
 ghost use mathlib.Core.List.{[]};
-ghost use Prim.Native.Nat.{ℕ, _+_, _-_, _*_, _≤_, _<_};
+ghost use Prim.Native.Nat.{ℕ, _+_, _≤_, _<_};
 ghost use lib.ListN.{length, getD};
 ghost use Rattle.syntax.specs.Syntax.{value};
 ghost use Rattle.syntax.specs.Fault.{Clear};
@@ -21,7 +21,7 @@ ghost use Rattle.types_rows.specs.Read.{tab, Counted};
 ghost use Rattle.image.specs.Sections.{rowSection, partSection, sharedSection, slotSection, Ordered, Outside};
 ghost use Rattle.valid_context.specs.premises.Bounds.{SmallRow};
 ghost use Rattle.valid_share.specs.rename.Renamed.{newPart};
-ghost use Rattle.valid_share.specs.Shared.{Firsts, Alike, Lower, Shared};
+ghost use Rattle.valid_share.specs.Shared.{Firsts, Alike, Lower, SmallForms, RowsTo, WorkFor, SharedFor, Shared};
 use image::Places;
 
 // Rows c and r, of m rows, are of the same type.
@@ -53,7 +53,7 @@ fn alike_parts(
     y: usize,
     c: usize,
 ) -> bool
-    requires { ⌜ (a ≤ 65535) × (b ≤ 65535) × (x ≤ 65535) × (y ≤ 65535) × (c ≤ 65544) ⌝ }
+    requires { ⌜ SmallForms a b x y × (c ≤ 65544) ⌝ }
     ensures { λ out. ⌜ (out ≡ true → (j : ℕ) → j < c → newPart (now (first .entry)) (now (parts .entry)) k a b j ≡ newPart (now (first .entry)) (now (parts .entry)) k x y j) ⌝ }
 {
     let mut j = 0;
@@ -78,7 +78,7 @@ fn alike_forms(
     x: usize,
     y: usize,
 ) -> bool
-    requires { ⌜ (a ≤ 65535) × (b ≤ 65535) × (x ≤ 65535) × (y ≤ 65535) ⌝ }
+    requires { ⌜ SmallForms a b x y ⌝ }
     ensures { λ out. ⌜ (out ≡ true → Alike (now (first .entry)) (now (parts .entry)) k a b x y) ⌝ }
 {
     if k == 3 {
@@ -113,7 +113,7 @@ fn alike_forms(
 
 // Rows c and r, of m rows, name rows of the same types in the same form, as is seen from the rows that stand for those that they name.
 fn alike(rows: &[u16], parts: &[u16], m: usize, first: &[u16], c: usize, r: usize) -> bool
-    requires { ⌜ (m ≤ 514) × (c ≤ r) × (r < m) × Firsts (tab (now rows) (now parts)) m (now first) r × Lower (tab (now rows) (now parts)) (r + 1) ⌝ }
+    requires { ⌜ RowsTo (tab (now rows) (now parts)) m (now first) r × (c ≤ r) ⌝ }
     ensures { λ out. ⌜ (out ≡ true → getD (typesOf (rowsIn (tab (now (rows .entry)) (now (parts .entry))) m)) c (arg value junk) ≡ getD (typesOf (rowsIn (tab (now (rows .entry)) (now (parts .entry))) m)) r (arg value junk)) ⌝ }
 {
     let k = types_rows::entry(rows, c, 0);
@@ -141,7 +141,7 @@ fn stands_for(
     c: usize,
     r: usize,
 ) -> bool
-    requires { ⌜ (m ≤ 514) × Counted (tab (now rows) (now parts)) m × (c ≤ r) × (r < m) × Firsts (tab (now rows) (now parts)) m (now first) r × Lower (tab (now rows) (now parts)) (r + 1) × (2567 ≤ length (now work)) ⌝ }
+    requires { ⌜ RowsTo (tab (now rows) (now parts)) m (now first) r × Counted (tab (now rows) (now parts)) m × (c ≤ r) × (2567 ≤ length (now work)) ⌝ }
     ensures { λ out. ⌜ (out ≡ true → getD (typesOf (rowsIn (tab (now (rows .entry)) (now (parts .entry))) m)) c (arg value junk) ≡ getD (typesOf (rowsIn (tab (now (rows .entry)) (now (parts .entry))) m)) r (arg value junk)) ⌝ }
 {
     if crate::row_hash::get(work, 2 * c) != crate::row_hash::get(work, 2 * r) {
@@ -166,7 +166,7 @@ fn first_like(
     chains: &[u16],
     r: usize,
 ) -> usize
-    requires { ⌜ (m ≤ 514) × Counted (tab (now rows) (now parts)) m × (r < m) × Firsts (tab (now rows) (now parts)) m (now first) r × Lower (tab (now rows) (now parts)) (r + 1) × (2567 ≤ length (now work)) ⌝ }
+    requires { ⌜ RowsTo (tab (now rows) (now parts)) m (now first) r × Counted (tab (now rows) (now parts)) m × (2567 ≤ length (now work)) ⌝ }
     ensures { λ out. ⌜ (getD (typesOf (rowsIn (tab (now (rows .entry)) (now (parts .entry))) m)) out (arg value junk) ≡ getD (typesOf (rowsIn (tab (now (rows .entry)) (now (parts .entry))) m)) r (arg value junk)) × (out ≤ r) ⌝ }
 {
     let h = crate::row_hash::chain_of(work, r);
@@ -188,7 +188,7 @@ fn find_first(
     work: &mut [u32],
     chains: &mut [u16],
 )
-    requires { ⌜ (n ≤ 512) × Counted (tab (now rows) (now parts)) (n + 2) × (n ≤ length (now first)) × Lower (tab (now rows) (now parts)) n × (2567 ≤ length (now work)) ⌝ }
+    requires { ⌜ (n ≤ 512) × Counted (tab (now rows) (now parts)) (n + 2) × Lower (tab (now rows) (now parts)) n × WorkFor n (now first) (now work) ⌝ }
     ensures { λ _. ⌜ Firsts (tab (now (rows .entry)) (now (parts .entry))) (n + 2) (now (first .exit)) n ⌝ }
 {
     let mut r = 0;
@@ -204,7 +204,7 @@ fn find_first(
 // Rows n and n + 1 are `I` and `N`. `first` and `work` are written too: `work` holds the hashes, two a row, and from entry 1,024 on what a
 // comparison keeps pending.
 pub fn share(image: &mut [u16], p: Places, n: usize, first: &mut [u16], work: &mut [u32])
-    requires { ⌜ Ordered p (length (now image)) × (n ≤ 512) × (4 * n + 8 ≤ p .slots - p .shared) × (17 * n ≤ p .end - p .slots) × (n ≤ length (now first)) × (2567 ≤ length (now work)) ⌝ }
+    requires { ⌜ Ordered p (length (now image)) × (n ≤ 512) × SharedFor n p × WorkFor n (now first) (now work) ⌝ }
     requires { ⌜ Counted (tab (rowSection p (now image)) (partSection p (now image))) (n + 2) × (cell 4 (rowSection p (now image)) n 0 ≡ 0) × (cell 4 (rowSection p (now image)) (n + 1) 0 ≡ 1) ⌝ }
     requires { ⌜ Clear (rowsFaults [] [] (rowsIn (tab (rowSection p (now image)) (partSection p (now image))) n)) × ((r : ℕ) → r < n → SmallRow (rowAt (tab (rowSection p (now image)) (partSection p (now image))) r)) ⌝ }
     ensures { λ _. ⌜ Shared (tab (rowSection p (now (image .entry))) (partSection p (now (image .entry)))) (tab (sharedSection p (now (image .exit))) (slotSection p (now (image .exit)))) n × Outside (p .shared) (p .end) (now (image .entry)) (now (image .exit)) ⌝ }

@@ -9,7 +9,7 @@ ghost use lib.ListN.{length};
 ghost use lib.Seq.{sets};
 ghost use Rattle.tables.specs.Tables.{cell};
 ghost use Rattle.image.specs.Sections.{part, rowSection, partSection, sharedSection, slotSection, Ordered, Outside};
-ghost use Rattle.valid_share.specs.rename.Renamed.{firstOf, newA, newB, newSlot, newPart, NewEntries, partAt, FilledRows, FilledParts, FilledRow, HasParts, FilledIf};
+ghost use Rattle.valid_share.specs.rename.Renamed.{firstOf, newA, newB, newSlot, newPart, NewEntries, partAt, FilledRows, FilledParts, InOrder, FilledRow, HasParts, FilledIf};
 use image::Places;
 
 // The entries of a row.
@@ -169,7 +169,7 @@ fn fill_row(
     a: usize,
     b: usize,
 )
-    requires { ⌜ (parts ≤ operands) × (operands ≤ base) × (base + 17 ≤ length (now image)) × (a ≤ 65535) × (b ≤ 65535) ⌝ }
+    requires { ⌜ InOrder parts operands base (length (now image)) × (a ≤ 65535) × (b ≤ 65535) ⌝ }
     ensures { λ _. ⌜ FilledRow base 17 (newPart (now (first .entry)) (part parts operands (now (image .entry))) k a b) (now (image .entry)) (now (image .exit)) × Outside base (base + 17) (now (image .entry)) (now (image .exit)) ⌝ }
 {
     let mut j = 0;
@@ -191,7 +191,7 @@ fn fill_if(
     base: usize,
     r: usize,
 )
-    requires { ⌜ (rows ≤ blocks) × (blocks ≤ parts) × (parts ≤ operands) × (operands ≤ base) × (base + 17 ≤ length (now image)) × (r ≤ 512) ⌝ }
+    requires { ⌜ (rows ≤ blocks) × (blocks ≤ parts) × InOrder parts operands base (length (now image)) × (r ≤ 512) ⌝ }
     ensures { λ _. ⌜ FilledIf (cell 4 (part rows blocks (now (image .entry))) r 0) base 17 (partAt (now (first .entry)) (part rows blocks (now (image .entry))) (part parts operands (now (image .entry))) r) (now (image .entry)) (now (image .exit)) × Outside base (base + 17) (now (image .entry)) (now (image .exit)) ⌝ }
 {
     let k = types_rows::entry(&image[rows..blocks], r, 0);

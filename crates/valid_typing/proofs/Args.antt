@@ -3,31 +3,30 @@ use Prim.Native.Nat.{ℕ, zero, suc, _+_, _-_, _≤_, _<_}
 use native.Mathlib.Omega.{arith}
 use native.Mathlib.Nat.{add-zero, sub-zero}
 use mathlib.Core.Path.{_≡_, refl, ap, ap₂, sym, _∙_}
-use mathlib.Core.Bool.{Bool, true, false, _&&_, and-assoc, and-comm, and-true, not, cond}
-use mathlib.Core.Option.{Option, none, some}
-use mathlib.Core.List.{List, [], _∷_, _++_, map, map-append, reverse, reverseAux, reverse-cons, reverse-append}
-use lib.Dec.{leb, ltb, eqb, eqb·suc-zero}
+use mathlib.Core.Bool.{Bool, true, false, _&&_, and-true, not, cond}
+use mathlib.Core.Option.{none}
+use mathlib.Core.List.{List, [], _∷_, _++_, map, map-append, reverse, reverseAux, reverse-append}
+use lib.Dec.{ltb, eqb, eqb·suc-zero}
 use lib.ListN.{length, getD, take, drop, set, length-set, drop-of-length-le, length-map, List·getD-eq-default}
 use lib.Seq.{length-take-le, take-set-lt, drop-set-lt, drop-cons, getD-set-same}
-use borrow.Author.Tests.{lt-ltb, le-ltb, ltb-true, ltb-false, leb-true, leb-false, le-leb, lt-leb}
+use borrow.Author.Tests.{lt-ltb, le-ltb, ltb-true, ltb-false, le-leb, lt-leb}
 use Rattle.syntax.specs.Partial.{when}
 use Rattle.syntax.specs.Syntax.{Kind, value, stack}
-use Rattle.types.specs.Types.{Ty, junk, Arg, arg, kindOf, ofKind, aStack}
+use Rattle.types.specs.Types.{junk, Arg, arg, kindOf, ofKind, aStack}
 use Rattle.types.specs.Rows.{typeAt, typesOf, allBelow}
 use Rattle.types.specs.Equal.{sameLetters}
 use Rattle.types.proofs.Equal.{and-inv}
-use Rattle.tables.specs.Tables.{RowTable, cell, span, letterOf, lettersAt, rowsIn}
+use Rattle.tables.specs.Tables.{span, letterOf, lettersAt, rowsIn}
 use Rattle.tables.proofs.Steps.{span-step}
 use Rattle.valid.specs.Program.{Program, typeOf, argsOf}
 use Rattle.valid.specs.PassThree.{isFormed, formedArg, formedArgs, formed, lettersLeft}
 use Rattle.types_rows.specs.Read.{tab, meanV, meanS, valueAt, valueWith, buildV, isStackAt, argOf}
 use Rattle.types_rows.specs.declared.Val.the-variants.{ValVar, Junk}
-use Rattle.types_rows.proofs.Laws.{value-is, noArg}
+use Rattle.types_rows.proofs.Laws.{value-is}
 use Rattle.types_rows.proofs.Bridge.{arg-at, length-types}
 use Rattle.valid_context.specs.Told.{toldOf, answer}
 use Rattle.valid_typing.specs.Typing.{typesIn, Ready, givenRow, givenArg, argsIn, fitsLetter}
 use Rattle.valid_typing.proofs.Judging.{needs}
-use Rattle.valid_typing.proofs.Forms.{row-none}
 
 -- ---- given rows
 module _ (rows parts : List ℕ) (n : ℕ) where
@@ -276,7 +275,10 @@ module _ (rows parts : List ℕ) (n : ℕ) (args : List ℕ) (p k : ℕ) (below 
       let o : p + 9 + suc m ≡ suc (p + 9 + m) = omega arith in
       rw (← count, drop-map letterOf m (span parts (p + 9) k), drop-map letterOf (suc m) (span parts (p + 9) k), drop-span parts (p + 9) k m, drop-span parts (p + 9) k (suc m), q, o) (unfold span in refl)
 
-  fit-on : (j : ℕ) (b : Bool) → j < length args → length args ≤ k → b ≡ isStackAt rows (getD args j 0) → RestFit rows parts n args p k j → sameLetters (map kindOf (map (λ x. getD (typesIn rows parts n) x (arg value junk)) args)) (drop (k - length args) (lettersAt parts p)) ≡ fitsLetter b (getD parts (p + 9 + (k - length args + j)) 0) && sameLetters (kinds rows parts n args p k (suc j)) (letters rows parts n args p k (suc j))
+  fit-on : (j : ℕ) (b : Bool) → j < length args → length args ≤ k → b ≡ isStackAt rows (getD args j 0) → RestFit rows parts n args p k j
+      → sameLetters (map kindOf (map (λ x. getD (typesIn rows parts n) x (arg value junk)) args)) (drop (k - length args)
+      (lettersAt parts p)) ≡ fitsLetter b (getD parts (p + 9 + (k - length args + j)) 0) && sameLetters (kinds rows parts n args p k
+      (suc j)) (letters rows parts n args p k (suc j))
   fit-on j b l h e r =
       let f = below-at (n + 2) args j below l in
       let q : k - length args + suc j ≡ suc (k - length args + j) = omega arith in

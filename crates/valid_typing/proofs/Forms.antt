@@ -6,21 +6,18 @@ use mathlib.Core.Path.{_≡_, refl, ap, ap₂, sym, _∙_}
 use mathlib.Core.Bool.{Bool, true, false, cond}
 use mathlib.Core.Option.{Option, none, some, Option·none-ne-some}
 use mathlib.Core.List.{List, [], _∷_}
-use lib.Dec.{ltb}
 use lib.ListN.{getD}
 use types.Run.{OneOf, miss}
 use denote.Enum.Declared.{tagOf}
-use borrow.Author.Tests.{lt-ltb, le-ltb}
 use Rattle.syntax.specs.Partial.{when}
 use Rattle.syntax.specs.Syntax.{Kind, value, stack}
-use Rattle.types.specs.Types.{Ty, int, junk, var, tuple, pointer, code, nil, push, svar, gap, Arg}
-use Rattle.types.specs.Rows.{typeAt, typesOf}
+use Rattle.types.specs.Types.{Ty, int, junk, var, tuple, pointer, code, nil, Arg}
+use Rattle.types.specs.Rows.{typeAt}
 use Rattle.types.specs.Equal.{same}
 use Rattle.types.proofs.Equal.{same-refl}
-use Rattle.tables.specs.Tables.{RowTable, cell, rowsIn, lettersAt}
 use Rattle.valid.specs.Program.{Program}
-use Rattle.valid.specs.PassThree.{Judged, _▹_, orFault, known, integerAt, tupleAt, pointerAt, itemAt, asInt, asTuple, asPointer, CodeType, asCode}
-use Rattle.types_rows.specs.Read.{tab, lower, valueWith, valueAt, placeV, OkV, buildV, meanV, meanS, mean, partsOf}
+use Rattle.valid.specs.PassThree.{Judged, _▹_, orFault, known, integerAt, tupleAt, pointerAt, itemAt, asInt, asTuple, asPointer, asCode}
+use Rattle.types_rows.specs.Read.{tab, lower, valueWith, valueAt, placeV, OkV, buildV, meanV, meanS, partsOf}
 use Rattle.types_rows.specs.declared.Val.{Val}
 use Rattle.types_rows.specs.declared.Val.the-variants.{Int, Junk, ValVar, ValFill, Tuple, Pointer, Code}
 use Rattle.types_rows.proofs.Val.{the-type}

@@ -1,11 +1,10 @@
 -- The items among a premise's faults: only a target has any.
-use Prim.Native.Nat.{ℕ, zero, suc, min, _≤_}
+use Prim.Native.Nat.{ℕ}
 use native.Mathlib.Omega.{arith, min-cases}
 use mathlib.Core.Path.{_≡_, refl, ap, ap₂, sym, _∙_}
-use mathlib.Core.Bool.{Bool, true, false, cond}
+use mathlib.Core.Bool.{Bool, true, false}
 use mathlib.Core.Option.{Option, none, some}
-use mathlib.Core.List.{List, [], _∷_, _++_, List·Memᴰ, List·Memᴰ·head, List·Memᴰ·tail, List·Memᴰ·not-nil, Memᴰ·append-left, Memᴰ·append-right}
-use lib.ListN.{getD}
+use mathlib.Core.List.{List, [], _∷_, _++_, List·Memᴰ, List·Memᴰ·head, List·Memᴰ·not-nil, Memᴰ·append-left, Memᴰ·append-right}
 use Rattle.syntax.specs.Syntax.{Kind, value, stack, Base, reg, lit, lab, Operand, plain, inst, Instr, aop, bop, mov, ld, st, malloc, getsp, setsp, salloc, sfree, sld, sst, slp, ssp, jmp, halt}
 use Rattle.syntax.specs.Fault.{Fault, fault, unfit, numberOf, lowest, itemsOf}
 use Rattle.types.specs.Types.{Ty, Arg}
@@ -13,7 +12,7 @@ use Rattle.types.proofs.Equal.{none-true}
 use Rattle.valid.specs.Program.{Program}
 use Rattle.valid.specs.Rules.{Context}
 use Rattle.valid.specs.PassThree.{Judged, holds, fails, faultsOf, _▹_, _&_, orFault, need, formed, known, integerAt, tupleAt, pointerAt, assign, base, applied, operand, operands, newTail, judge}
-use Rattle.valid_context.specs.Told.{gives, lacks, toldOf, answer}
+use Rattle.valid_context.specs.Told.{lacks, toldOf, answer}
 use Rattle.valid_context.proofs.Told.{lowest-both, told-holds}
 
 abbrev pub itemsIn : {A : Type 0} → Judged A → List ℕ

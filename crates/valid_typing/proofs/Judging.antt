@@ -1,15 +1,15 @@
 -- The least fault of each instruction, by what its premises answer.
-use Prim.Native.Nat.{ℕ, zero, suc, _-_, _<_}
+use Prim.Native.Nat.{ℕ, zero, suc, _-_}
 use native.Mathlib.Omega.{arith}
 use mathlib.Core.Path.{_≡_, refl, ap, sym, _∙_}
 use mathlib.Core.Bool.{Bool, true, false, cond}
 use mathlib.Core.Option.{Option, none, some}
-use mathlib.Core.List.{List, [], _∷_, _++_}
+use mathlib.Core.List.{List}
 use lib.Dec.{leb}
-use Rattle.syntax.specs.Partial.{bind, when}
+use Rattle.syntax.specs.Partial.{when}
 use Rattle.syntax.specs.Syntax.{Kind, value, stack, Operand, Arith, Branch, aop, bop, mov, ld, st, malloc, getsp, setsp, salloc, sfree, sld, sst, slp, ssp, jmp, halt}
-use Rattle.syntax.specs.Fault.{Fault, fault, numberOf, lowest}
-use Rattle.types.specs.Types.{Ty, int, junk, tuple, pointer, join, items, Arg}
+use Rattle.syntax.specs.Fault.{fault, numberOf, lowest}
+use Rattle.types.specs.Types.{Ty, int, tuple, pointer, join, items, Arg}
 use Rattle.types.specs.Rows.{typeAt}
 use Rattle.types.specs.Equal.{same}
 use Rattle.types.proofs.Equal.{same-sound}
@@ -18,7 +18,7 @@ use Rattle.valid.specs.Rules.{junks, Context, withRegs, withSp}
 use Rattle.valid.specs.PassThree.{Judged, holds, fails, _▹_, _&_, orFault, need, itemAt, replaced, under, above, asInt, formed, known, integerAt, tupleAt, pointerAt, assign, operand, operands, targetOf, newTail, judge}
 use Rattle.valid_context.specs.Context.{linked}
 use Rattle.syntax.proofs.Least.{least}
-use Rattle.valid_context.specs.Told.{gives, lacks, toldOf, answer}
+use Rattle.valid_context.specs.Told.{toldOf, answer}
 use Rattle.valid_context.proofs.Told.{told-and, told-then, told-stop, told-some, told-none, told-need}
 use Rattle.valid_typing.specs.Typing.{componentAt}
 

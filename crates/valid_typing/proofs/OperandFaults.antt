@@ -1,24 +1,21 @@
 -- The least fault of an operand and of a target, by what their premises answer, and an item that does not fit.
-use Prim.Native.Nat.{ℕ, zero, suc, min, _-_, _<_}
+use Prim.Native.Nat.{ℕ, _-_}
 use native.Mathlib.Omega.{arith}
-use mathlib.Core.Path.{_≡_, refl, ap, sym, _∙_}
-use mathlib.Core.Bool.{Bool, true, false, cond}
-use mathlib.Core.Option.{Option, none, some}
-use mathlib.Core.List.{List, [], _∷_, _++_, List·Memᴰ, List·Memᴰ·head, List·Memᴰ·tail}
-use lib.ListN.{getElem?, getD}
-use Rattle.syntax.specs.Syntax.{Kind, value, stack, Base, reg, lit, lab, Operand, plain, inst}
-use Rattle.syntax.specs.Fault.{Fault, fault, unfit, numberOf, lowest, itemsOf}
+use mathlib.Core.Path.{_≡_, refl}
+use mathlib.Core.Bool.{Bool, cond}
+use mathlib.Core.Option.{none, some}
+use mathlib.Core.List.{List, []}
+use Rattle.syntax.specs.Syntax.{Kind, value, stack, Base, reg, lit, inst}
+use Rattle.syntax.specs.Fault.{Fault, numberOf}
 use Rattle.types.specs.Types.{Ty, int, Arg, filled}
 use Rattle.types.specs.Rows.{typeAt}
-use Rattle.types.specs.Equal.{same}
 use Rattle.valid.specs.Program.{Program, typeOf, argsOf}
-use Rattle.valid.specs.Rules.{Context}
-use Rattle.valid.specs.PassThree.{Judged, holds, fails, faultsOf, _▹_, _&_, orFault, need, noneOf, itemAt, asInt, CodeType, asCode, formedArgs, formed, known, labelType, base, lettersLeft, isFilled, applied, operand, operands, unfits, noneLeft, targetOf}
+use Rattle.valid.specs.PassThree.{Judged, _▹_, orFault, need, itemAt, CodeType, asCode, formedArgs, formed, base, lettersLeft, isFilled, applied, operand}
 use Rattle.valid_context.specs.Context.{linked}
 use Rattle.syntax.proofs.Least.{least}
-use Rattle.valid_context.specs.Told.{gives, lacks, toldOf, answer}
-use Rattle.valid_context.proofs.Told.{told-and, told-then, told-stop, told-some, told-none, told-need}
-use Rattle.valid_typing.proofs.Judging.{ifNone, told-when, told-link, told-map, told-next, needs, stops, known-told}
+use Rattle.valid_context.specs.Told.{toldOf, answer}
+use Rattle.valid_context.proofs.Told.{told-and, told-stop, told-some, told-none, told-need}
+use Rattle.valid_typing.proofs.Judging.{ifNone, told-map, told-next, needs, stops, known-told}
 
 module _ (P : Program) (Δ : List Kind) (g : Ty stack) where
   -- ---- bases

@@ -1,23 +1,21 @@
 -- Laws of a stack row that is seen at once to have the items of sp.
-use Prim.Native.Nat.{ℕ, zero, suc, _+_, _-_, _≤_, _<_}
+use Prim.Native.Nat.{ℕ, suc, _-_, _≤_, _<_}
 use native.Mathlib.Omega.{arith}
-use mathlib.Core.Path.{_≡_, refl, ap, ap₂, sym, _∙_}
-use mathlib.Core.Bool.{Bool, true, false, _&&_, cond}
+use mathlib.Core.Path.{_≡_, refl, ap, sym, _∙_}
+use mathlib.Core.Bool.{Bool, true, _&&_}
 use mathlib.Core.List.{List}
-use lib.Dec.{ltb}
 use lib.ListN.{getD}
 use borrow.Author.Tests.{lt-ltb, le-ltb}
-use Rattle.syntax.specs.Syntax.{value, stack}
-use Rattle.types.specs.Types.{Ty, nil, push, svar, Arg}
+use Rattle.syntax.specs.Syntax.{value}
+use Rattle.types.specs.Types.{nil, push, svar, Arg}
 use Rattle.types.specs.Rows.{typeAt}
 use Rattle.types.specs.Equal.{same}
 use Rattle.types.proofs.Equal.{same-refl}
-use Rattle.tables.specs.Tables.{RowTable}
 use Rattle.types_rows.specs.Read.{tab, stackAt, placeS, buildS, meanV, meanS}
 use Rattle.types_rows.specs.declared.Stk.{Stk}
 use Rattle.types_rows.specs.declared.Stk.the-variants.{Nil, StkVar, Push}
 use Rattle.types_rows.proofs.Laws.{stack-is, plain-stack}
-use Rattle.valid_context.specs.Context.{firstVar, onItem, spOf}
+use Rattle.valid_context.specs.Context.{firstVar, spOf}
 
 pub variable-last : (T : List Arg) (sp : List ℕ) (i k e : ℕ) → i ≡ 1 → e ≡ getD sp 0 0 → 1024 ≤ e → e - 1024 ≡ k → spOf T sp i ≡ svar k nil
 unfolding spOf

@@ -4,18 +4,18 @@ use native.Mathlib.Omega.{arith}
 use native.Mathlib.Nat.{add-zero, sub-zero}
 use mathlib.Core.Path.{_≡_, refl, ap, ap₂, sym, _∙_}
 use mathlib.Core.Bool.{Bool, true, false, _&&_, cond}
-use mathlib.Core.Option.{Option, none, some}
-use mathlib.Core.List.{List, [], _∷_}
+use mathlib.Core.Option.{none, some}
+use mathlib.Core.List.{List, []}
 use lib.Dec.{ltb, eqb}
 use lib.ListN.{length, getD, set}
 use lib.Seq.{getD-set-same}
 use borrow.Author.Tests.{lt-ltb, le-ltb, le-leb, lt-leb}
 use Rattle.syntax.specs.Partial.{when}
 use Rattle.syntax.specs.Syntax.{Kind, value, stack}
-use Rattle.types.specs.Types.{Ty, int, junk, var, tuple, pointer, code, nil, push, svar, gap, join, items, variable, below, Act, walk, Arg}
+use Rattle.types.specs.Types.{Ty, int, junk, var, tuple, pointer, code, nil, push, svar, gap, join, items, variable, below, walk, Arg}
 use Rattle.types.specs.Rows.{typeAt}
 use Rattle.types.specs.Equal.{same}
-use Rattle.types.proofs.Equal.{same-sound, same-refl, same-false}
+use Rattle.types.proofs.Equal.{same-false}
 use Rattle.types.proofs.Filling.{below-lt, below-ge, Side, lo, hi, side, join-assoc, join-nil}
 use Rattle.tables.specs.Tables.{RowTable}
 use Rattle.valid.specs.PassThree.{itemAt, above}

@@ -1,20 +1,20 @@
 -- The least fault of a target, by what its premises answer, and an item that does not fit.
-use Prim.Native.Nat.{ℕ, zero, suc, _-_}
+use Prim.Native.Nat.{ℕ, suc, _-_}
 use native.Mathlib.Omega.{arith}
 use mathlib.Core.Path.{_≡_, refl, ap, sym, _∙_}
 use mathlib.Core.Bool.{Bool, true, false, cond}
-use mathlib.Core.Option.{Option, none, some}
+use mathlib.Core.Option.{none, some}
 use mathlib.Core.List.{List, [], _∷_, _++_, List·Memᴰ, List·Memᴰ·head}
 use lib.ListN.{getD}
-use Rattle.syntax.specs.Syntax.{Kind, value, stack, Operand, jmp, bop, Branch}
+use Rattle.syntax.specs.Syntax.{Kind, value, stack, Operand}
 use Rattle.syntax.specs.Fault.{Fault, fault, unfit, numberOf, lowest, itemsOf}
 use Rattle.types.specs.Types.{Ty, nil, push, svar, gap}
 use Rattle.types.specs.Equal.{same}
 use Rattle.valid.specs.Program.{Program}
 use Rattle.valid.specs.Rules.{Context}
-use Rattle.valid.specs.PassThree.{Judged, holds, fails, faultsOf, _▹_, _&_, orFault, need, noneOf, CodeType, asCode, operand, unfits, noneLeft, targetOf, integerAt, judge}
+use Rattle.valid.specs.PassThree.{Judged, holds, faultsOf, _▹_, _&_, orFault, need, noneOf, CodeType, asCode, operand, unfits, noneLeft, targetOf}
 use Rattle.syntax.proofs.Least.{least}
-use Rattle.valid_context.specs.Told.{gives, lacks, toldOf, answer}
+use Rattle.valid_context.specs.Told.{lacks, toldOf, answer}
 use Rattle.valid_context.proofs.Told.{told-and, told-stop, told-some, told-none, told-need}
 use Rattle.valid_typing.specs.target.Fits.{firstItem}
 use Rattle.valid_typing.proofs.Judging.{told-map, told-next, needs, stops}

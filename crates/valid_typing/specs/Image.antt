@@ -1,13 +1,14 @@
 -- What pass three reads, in one image: its tables are the image's sections, the rows' as the checker shares them.
-use Prim.Native.Nat.{ℕ}
+use Prim.Native.Nat.{ℕ, _+_, _≤_}
 use mathlib.Core.List.{List, map}
+use lib.ListN.{length}
 use Rattle.syntax.specs.Syntax.{Kind, Operand, Instr}
 use Rattle.types.specs.Types.{Arg}
 use Rattle.tables.specs.Tables.{RowTable, OperandTable, span, letterOf, operandAt, operandsAt, instrAt}
 use Rattle.valid.specs.Program.{Program}
 use Rattle.image.specs.declared.Places.{Places}
 use Rattle.image.specs.declared.Counts.{Counts}
-use Rattle.image.specs.Sections.{blockSection, instrSection, operandSection, argSection, useSection, topSection, sharedSection, slotSection}
+use Rattle.image.specs.Sections.{Ordered, blockSection, instrSection, operandSection, argSection, useSection, topSection, sharedSection, slotSection}
 use Rattle.types_rows.specs.Read.{tab}
 use Rattle.valid_scope.specs.Scoped.{Scoped}
 use Rattle.valid_context.specs.premises.Answers.{Holds}
@@ -31,6 +32,13 @@ ReadyAt p l n = Ready (sharedSection p l) (slotSection p l) n
 abbrev pub ScopedAt : Places → List ℕ → ℕ → Type 0
 ScopedAt p l n = Scoped (rowTable p l) n (useSection p l) (topSection p l)
 
+-- the sections in order, their n rows and the rows' uses of variables, with room for what a comparison keeps pending
+pub record Prepared (p : Places) (image : List ℕ) (n : ℕ) (pending : List ℕ) : Type 0 where
+  pub ordered : Ordered p (length image)
+  pub ready : ReadyAt p image n
+  pub scoped : ScopedAt p image n
+  pub room : 1543 ≤ length pending
+
 -- the operands, with the literals
 abbrev pub operandsIn : Places → List ℕ → List ℕ → OperandTable
 operandsIn p l literals = operandTable (operandSection p l) literals (argSection p l)
@@ -41,6 +49,11 @@ operandIn p l literals v = operandAt (operandsIn p l literals) v
 
 abbrev pub listedIn : Places → List ℕ → List ℕ → Listed → List Operand
 listedIn p l literals o = operandsAt (operandsIn p l literals) (o .first) (o .count)
+
+-- operands that are listed stand within the table, and are as few as a row's parts
+pub record ListedWithin (o : Listed) : Type 0 where
+  pub last : o .first + o .count ≤ 131072
+  pub few : o .count ≤ 65535
 
 -- instruction i
 abbrev pub instrIn : Places → List ℕ → List ℕ → ℕ → Instr

@@ -1,12 +1,12 @@
 -- What the functions of this crate read, and how their answers are stated.
-use Prim.Native.Nat.{ℕ, zero, suc, _+_, _-_, _≤_}
+use Prim.Native.Nat.{ℕ, zero, suc, _+_, _-_, _≤_, _<_}
 use mathlib.Core.Path.{_≡_}
 use mathlib.Core.Bool.{Bool, true, false, cond}
 use mathlib.Core.List.{List, map, reverse}
 use lib.Dec.{ltb, eqb}
 use lib.ListN.{length, getD, take}
 use Rattle.syntax.specs.Syntax.{Kind, value, stack}
-use Rattle.types.specs.Types.{Ty, junk, nil, push, svar, gap, Arg, arg}
+use Rattle.types.specs.Types.{Ty, junk, nil, push, svar, gap, Arg, arg, items}
 use Rattle.types.specs.Rows.{typeAt, typesOf}
 use Rattle.types.specs.Equal.{same}
 use Rattle.tables.specs.Tables.{cell, rowsIn, lettersAt}
@@ -27,6 +27,12 @@ pub record Ready (rows parts : List ℕ) (n : ℕ) : Type 0 where
   pub int-row : cell 4 rows n 0 ≡ 0
   pub junk-row : cell 4 rows (n + 1) 0 ≡ 1
   pub counted : Counted (tab rows parts) (n + 2)
+
+-- the row of link h is one of the n + 2, and its parts start at p
+pub record RowParts (n h p : ℕ) : Type 0 where
+  pub some : 0 < h
+  pub row : h ≤ n + 2
+  pub start : p ≤ 65535
 
 -- `ld` and `st`: component i of the tuple in register r
 abbrev pub componentAt : Program → List Kind → Ty stack → ℕ → ℕ → Judged (Ty value)
@@ -60,6 +66,12 @@ SmallVars nil = Unit
 SmallVars (push t a) = SmallVars a
 SmallVars (svar k a) = (k ≤ 60000) × SmallVars a
 SmallVars (gap a) = SmallVars a
+
+-- the stack row of link x is one of the n + 2, and sp has room for its items
+pub record LaidOut (rows parts : List ℕ) (n x : ℕ) (sp : List ℕ) : Type 0 where
+  pub row : x ≤ n + 2
+  pub room : items (meanS (tab rows parts) x) ≤ length sp
+  pub vars : SmallVars (meanS (tab rows parts) x)
 
 -- a variable's number fits an entry of sp
 abbrev pub SmallItem : Item → Type 0

@@ -8,20 +8,19 @@ use image::Places;
 use types_rows::Val;
 ghost use mathlib.Core.Path.{_≡_};
 ghost use mathlib.Core.Bool.{false};
-ghost use Prim.Native.Nat.{_+_, _≤_, _<_};
+ghost use Prim.Native.Nat.{_+_, _≤_};
 ghost use lib.ListN.{length};
 ghost use Rattle.syntax.specs.Syntax.{value};
 ghost use Rattle.types.specs.Types.{tuple};
 ghost use Rattle.types.specs.Rows.{typeAt};
 ghost use Rattle.types.specs.Equal.{same};
 ghost use Rattle.valid.specs.Program.{Program};
-ghost use Rattle.image.specs.Sections.{Ordered};
 ghost use Rattle.types_rows.specs.Read.{tab, partsOf, meanV};
 ghost use Rattle.valid_context.specs.Context.{regsOf};
 ghost use Rattle.valid_context.specs.Told.{toldOf, answer};
 ghost use Rattle.valid_context.specs.premises.Bounds.{AllShort};
-ghost use Rattle.valid_typing.specs.Typing.{typesIn, Ready};
-ghost use Rattle.valid_typing.specs.Image.{typesAt, ReadyAt, ScopedAt, listedIn, HoldsAt, lettersIn};
+ghost use Rattle.valid_typing.specs.Typing.{typesIn, Ready, RowParts};
+ghost use Rattle.valid_typing.specs.Image.{typesAt, Prepared, listedIn, HoldsAt, lettersIn};
 ghost use Rattle.valid_typing.specs.components.Components.{typesFrom, components};
 
 // The types of the operands o under the letters w; their rows are put into `found`.
@@ -36,7 +35,7 @@ pub fn operand_list(
     pending: &mut [u32],
     found: &mut [u16],
 ) -> usize
-    requires { ⌜ Ordered p (length (now image)) × ReadyAt p (now image) (c .rows) × ScopedAt p (now image) (c .rows) × AllShort (listedIn p (now image) (now literals) o) × (o .first + o .count ≤ 131072) × (1543 ≤ length (now pending)) × (o .count ≤ length (now found)) ⌝ }
+    requires { ⌜ Prepared p (now image) (c .rows) (now pending) × AllShort (listedIn p (now image) (now literals) o) × (o .first + o .count ≤ 131072) × (o .count ≤ length (now found)) ⌝ }
     ensures { λ out. ⌜ ((P : Program) → HoldsAt p (now (image .entry)) c P → toldOf (components P (lettersIn p (now (image .entry)) w) (regsOf (typesAt p (now (image .entry)) (c .rows)) (now (regs .entry))) (listedIn p (now (image .entry)) (now (literals .entry)) o)) ≡ answer out (typesFrom (typesAt p (now (image .entry)) (c .rows)) (now (found .exit)) 0 (o .count))) ⌝ }
 {
     // The loop's invariant speaks of locals, and of no parameter that is a struct.
@@ -66,7 +65,7 @@ fn same_parts(
     found: &[u16],
     pending: &mut [u32],
 ) -> bool
-    requires { ⌜ Ready (now rows) (now parts) n × (0 < h) × (h ≤ n + 2) × (p ≤ 65535) × (c ≤ 65535) × (1543 ≤ length (now pending)) ⌝ }
+    requires { ⌜ Ready (now rows) (now parts) n × RowParts n h p × (c ≤ 65535) × (1543 ≤ length (now pending)) ⌝ }
     ensures { λ out. ⌜ out ≡ same (partsOf (meanV (tab (now (rows .entry)) (now (parts .entry)))) (now (parts .entry)) false h p c) (typesFrom (typesIn (now (rows .entry)) (now (parts .entry)) n) (now (found .entry)) 0 c) ⌝ }
 {
     let mut i = 0;

@@ -34,7 +34,7 @@ ghost use Rattle.types_rows.specs.Read.{tab, meanV, meanS};
 ghost use Rattle.valid_context.specs.Context.{regsOf, spOf, spAbove, linked};
 ghost use Rattle.image.specs.Sections.{Ordered, argSection, sharedSection, slotSection};
 ghost use Rattle.valid_context.specs.Told.{toldOf, answer};
-ghost use Rattle.valid_typing.specs.Typing.{typesIn, Ready, componentAt, codeIn, itemIs, LowItem, LinkIs, SmallVars, SmallItem, EntryIs, givenRow, givenArg, argsIn, fitsLetter, lettersLess};
+ghost use Rattle.valid_typing.specs.Typing.{typesIn, Ready, componentAt, codeIn, itemIs, LowItem, LinkIs, LaidOut, SmallItem, EntryIs, givenRow, givenArg, argsIn, fitsLetter, lettersLess};
 ghost use Rattle.valid_typing.specs.Image.{rowTable, ScopedAt, lettersIn};
 
 // What a premise answers: its least fault, or 0 and a row.
@@ -398,7 +398,7 @@ fn entry_of(n: usize, it: Item) -> u16
 
 // The items of the stack row of link x are put into sp.
 pub fn flatten(rows: &[u16], parts: &[u16], n: usize, sp: &mut [u16], x: usize)
-    requires { ⌜ Ready (now rows) (now parts) n × (x ≤ n + 2) × (items (meanS (tab (now rows) (now parts)) x) ≤ length (now sp)) × SmallVars (meanS (tab (now rows) (now parts)) x) ⌝ }
+    requires { ⌜ Ready (now rows) (now parts) n × LaidOut (now rows) (now parts) n x (now sp) ⌝ }
     ensures { λ _. ⌜ spOf (typesIn (now (rows .entry)) (now (parts .entry)) n) (now (sp .exit)) (items (meanS (tab (now (rows .entry)) (now (parts .entry))) x)) ≡ meanS (tab (now (rows .entry)) (now (parts .entry))) x ⌝ }
 {
     let m = types_rows::item_count(rows, x);

@@ -24,7 +24,7 @@ ghost use Rattle.valid_context.specs.Context.{regsOf};
 ghost use Rattle.valid_context.specs.Told.{toldOf, answer};
 ghost use Rattle.valid_context.specs.premises.Bounds.{Short};
 ghost use Rattle.valid_typing.specs.Typing.{givenRow};
-ghost use Rattle.valid_typing.specs.Image.{typesAt, ReadyAt, ScopedAt, operandIn, HoldsAt, lettersIn};
+ghost use Rattle.valid_typing.specs.Image.{typesAt, ScopedAt, Prepared, operandIn, HoldsAt, lettersIn};
 
 // A base with arguments: its kind and number, where its arguments start in the table and how many, and the resulting row.
 pub struct BaseArgs {
@@ -70,7 +70,7 @@ fn fill_fault(
     args: &[u16],
     pending: &mut [u32],
 ) -> usize
-    requires { ⌜ Ordered p (length (now image)) × ReadyAt p (now image) (c .rows) × (o .number ≤ 4294967295) × (allBelow (c .rows + 2) (now args) ≡ true) × ScopedAt p (now image) (c .rows) × (1543 ≤ length (now pending)) ⌝ }
+    requires { ⌜ Prepared p (now image) (c .rows) (now pending) × (o .number ≤ 4294967295) × (allBelow (c .rows + 2) (now args) ≡ true) ⌝ }
     ensures { λ out. ⌜ ((P : Program) (Δ : List Kind) (f : Fault) → HoldsAt p (now (image .entry)) c P → numberOf f ≡ 10 → toldOf (applied P Δ f (regsOf (typesAt p (now (image .entry)) (c .rows)) (now (regs .entry))) (baseOf (o .kind) (o .number)) (map (λ (x : ℕ). getD (typesAt p (now (image .entry)) (c .rows)) x (arg value junk)) (now (args .entry))) (o .row)) ≡ answer out tt) ⌝ }
 {
     let shared = p.shared;
@@ -108,7 +108,7 @@ fn instance(
     w: BlockLetters,
     pending: &mut [u32],
 ) -> usize
-    requires { ⌜ Ordered p (length (now image)) × ReadyAt p (now image) (c .rows) × ScopedAt p (now image) (c .rows) × (o .number ≤ 4294967295) × (o .count ≤ 8) × (o .first ≤ 1048576) × (1543 ≤ length (now pending)) ⌝ }
+    requires { ⌜ Prepared p (now image) (c .rows) (now pending) × (o .number ≤ 4294967295) × (o .count ≤ 8) × (o .first ≤ 1048576) ⌝ }
     ensures { λ out. ⌜ ((P : Program) (f : Fault) → HoldsAt p (now (image .entry)) c P → numberOf f ≡ 10 → toldOf (operand P (lettersIn p (now (image .entry)) w) f (regsOf (typesAt p (now (image .entry)) (c .rows)) (now (regs .entry))) (inst (baseOf (o .kind) (o .number)) (span (argSection p (now (image .entry))) (o .first) (o .count)) (o .row))) ≡ answer out (typeAt value (typesAt p (now (image .entry)) (c .rows)) (givenRow (c .rows) (o .row)))) ⌝ }
 {
     let args = p.args;
@@ -136,7 +136,7 @@ pub fn operand(
     regs: &[u16],
     pending: &mut [u32],
 ) -> Typed
-    requires { ⌜ Ordered p (length (now image)) × ReadyAt p (now image) (c .rows) × ScopedAt p (now image) (c .rows) × Short (operandIn p (now image) (now literals) v) × (v ≤ 131072) × (1543 ≤ length (now pending)) ⌝ }
+    requires { ⌜ Prepared p (now image) (c .rows) (now pending) × Short (operandIn p (now image) (now literals) v) × (v ≤ 131072) ⌝ }
     ensures { λ out. ⌜ ((P : Program) (f : Fault) → HoldsAt p (now (image .entry)) c P → numberOf f ≡ 10 → toldOf (operand P (lettersIn p (now (image .entry)) w) f (regsOf (typesAt p (now (image .entry)) (c .rows)) (now (regs .entry))) (operandIn p (now (image .entry)) (now (literals .entry)) v)) ≡ answer (out .fault) (typeAt value (typesAt p (now (image .entry)) (c .rows)) (out .row))) × (out .row ≤ c .rows + 1) ⌝ }
 {
     let operands = p.operands;

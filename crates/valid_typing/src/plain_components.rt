@@ -7,7 +7,7 @@ use image::Places;
 use types_rows::Val;
 ghost use mathlib.Core.Path.{_≡_};
 ghost use mathlib.Core.Bool.{true, false};
-ghost use Prim.Native.Nat.{ℕ, _+_, _≤_, _<_};
+ghost use Prim.Native.Nat.{ℕ, _+_, _≤_};
 ghost use mathlib.Core.List.{List};
 ghost use lib.ListN.{length};
 ghost use Rattle.syntax.specs.Syntax.{Kind, value};
@@ -20,9 +20,9 @@ ghost use Rattle.types_rows.specs.Read.{partsOf, meanV};
 ghost use Rattle.image.specs.Sections.{Ordered, operandSection, slotSection};
 ghost use Rattle.valid_context.specs.Context.{regsOf};
 ghost use Rattle.valid_context.specs.Told.{toldOf, answer};
-ghost use Rattle.valid_typing.specs.Typing.{typesIn, Ready};
+ghost use Rattle.valid_typing.specs.Typing.{typesIn, Ready, RowParts};
 ghost use Rattle.valid_typing.specs.operands.Operands.{operandTable};
-ghost use Rattle.valid_typing.specs.Image.{rowTable, typesAt, ReadyAt, HoldsAt};
+ghost use Rattle.valid_typing.specs.Image.{rowTable, typesAt, ReadyAt, ListedWithin, HoldsAt};
 ghost use Rattle.valid_typing.specs.components.Components.{components};
 ghost use Rattle.valid_typing.specs.plain_components.Makes.{Makes};
 
@@ -88,7 +88,7 @@ fn plain_parts(
     h: usize,
     at: usize,
 ) -> bool
-    requires { ⌜ Ordered p (length (now image)) × ReadyAt p (now image) (c .rows) × (o .first + o .count ≤ 131072) × (0 < h) × (h ≤ c .rows + 2) × (at ≤ 65535) × (o .count ≤ 65535) ⌝ }
+    requires { ⌜ Ordered p (length (now image)) × ReadyAt p (now image) (c .rows) × RowParts (c .rows) h at × ListedWithin o ⌝ }
     ensures { λ out. ⌜ (out ≡ true → (P : Program) (Δ : List Kind) (args : List ℕ) → HoldsAt p (now (image .entry)) c P → toldOf (components P Δ (regsOf (typesAt p (now (image .entry)) (c .rows)) (now (regs .entry))) (operandsAt (operandTable (operandSection p (now (image .entry))) (now (literals .entry)) args) (o .first) (o .count))) ≡ answer 0 (partsOf (meanV (rowTable p (now (image .entry)))) (slotSection p (now (image .entry))) false h at (o .count))) ⌝ }
 {
     // The loop's invariant speaks of locals, and of no parameter that is a struct.

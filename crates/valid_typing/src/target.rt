@@ -15,14 +15,13 @@ ghost use Rattle.syntax.specs.Fault.{unfit};
 ghost use Rattle.types.specs.Rows.{typeAt};
 ghost use Rattle.valid.specs.Program.{Program};
 ghost use Rattle.valid.specs.PassThree.{operand, unfits, targetOf};
-ghost use Rattle.image.specs.Sections.{Ordered};
 ghost use Rattle.types_rows.specs.Read.{tab, slotAt, partsOf, meanV};
 ghost use Rattle.valid_context.specs.Context.{regsOf, contextOf};
 ghost use Rattle.valid_context.specs.Told.{toldOf, answer};
 ghost use Rattle.valid_context.specs.premises.Bounds.{Short};
 ghost use Rattle.valid_context.specs.premises.Answers.{Answered};
 ghost use Rattle.valid_typing.specs.Typing.{typesIn, Ready};
-ghost use Rattle.valid_typing.specs.Image.{typesAt, ReadyAt, ScopedAt, operandIn, HoldsAt, lettersIn};
+ghost use Rattle.valid_typing.specs.Image.{typesAt, Prepared, operandIn, HoldsAt, lettersIn};
 ghost use Rattle.valid_typing.specs.target.Fits.{slotFits, firstItem};
 
 // The least fault of a target, 0 for none, and for fault 10 an item that does not fit, else 100.
@@ -144,7 +143,7 @@ pub fn target(
     d: usize,
     pending: &mut [u32],
 ) -> Fitted
-    requires { ⌜ Ordered p (length (now image)) × ReadyAt p (now image) (c .rows) × ScopedAt p (now image) (c .rows) × Short (operandIn p (now image) (now literals) v) × (v ≤ 131072) × (1543 ≤ length (now pending)) ⌝ }
+    requires { ⌜ Prepared p (now image) (c .rows) (now pending) × Short (operandIn p (now image) (now literals) v) × (v ≤ 131072) ⌝ }
     ensures { λ out. ⌜ ((P : Program) → HoldsAt p (now (image .entry)) c P → Answered (targetOf P (lettersIn p (now (image .entry)) w) (contextOf (typesAt p (now (image .entry)) (c .rows)) (now (regs .entry)) (now (sp .entry)) d) (operandIn p (now (image .entry)) (now (literals .entry)) v)) (out .fault) tt (out .item)) ⌝ }
 {
     let r = crate::operands::operand(image, literals, p, c, v, w, regs, pending);

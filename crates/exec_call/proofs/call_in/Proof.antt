@@ -1,4 +1,4 @@
-use mathlib.Core.Path.{_≡_, ap, sym, subst, _∙_}
+use mathlib.Core.Path.{_≡_, sym, subst}
 use mathlib.Core.Bool.{true}
 use mathlib.Core.List.{List}
 use Prim.Native.Nat.{ℕ}
@@ -8,14 +8,9 @@ use borrow.Author.Tests.{not-false}
 use Rattle.image.specs.declared.Places.{Places}
 use Rattle.image.specs.Sections.{Ordered}
 use Rattle.image.proofs.Laws.{ordered}
-use Rattle.text_decode.specs.store.Store.{storeIn, stored}
-use Rattle.exec.specs.Machine.{State}
-use Rattle.exec.specs.Run as spec
-use Rattle.exec_machine.specs.Step.{stateOf}
-use Rattle.exec_outcome.specs.declared.Outcome.{Outcome}
-use Rattle.exec_outcome.specs.Answers.{outcomeIs}
+use Rattle.text_decode.specs.store.Store.{storeIn}
 use Rattle.exec_ready.specs.Ready.{ReadyIs}
-use Rattle.exec_call.specs.Tries.{called, PlanFits}
+use Rattle.exec_call.specs.Tries.{PlanFits}
 use Rattle.exec_call.proofs.Laws.{tried, unfit, unbarred, refused, ran, instrs-long}
 use borrow.Author.Needs.{needs}
 use Rattle.exec_call.proofs.call_in.Statement.{statement}
@@ -41,12 +36,6 @@ module _ (m : tie.After-make-ready) where
   abbrev numbers : List ℕ
   numbers = m .make-ready .last .1 .1 .0
 
-  abbrev state : State
-  state = let a = start-of m .args in stateOf (a .rk .now) (a .rn .now) (a .sk .now) (a .sn .now) (a .hk .now) (a .hn .now) (a .place)
-
-  abbrev asked : spec.Outcome
-  asked = let a = start-of m .args in called (a .first) (a .text .now) (a .samples .now) (a .budget) state
-
 -- ---- where nothing bars the program
 module _ (p : tie.After-lay-out) where
   fitted : ready-from p .make-ready .result .fits ≡ true
@@ -58,26 +47,26 @@ module _ (p : tie.After-lay-out) where
   in-order : Ordered (p .lay-out .result) (length (image (ready-from p)))
   in-order = subst (λ (q : Places). Ordered q (length (image (ready-from p)))) (sym (p .lay-out .ensures)) (ordered (length (image (ready-from p))))
 
-  answered : ReadyIs (text (ready-from p)) (storeIn (p .lay-out .result) (image (ready-from p)) (numbers (ready-from p)) .instrs) (storeIn (p .lay-out .result) (image (ready-from p)) (numbers (ready-from p)) .operands) (numbers (ready-from p)) (storeIn (p .lay-out .result) (image (ready-from p)) (numbers (ready-from p)) .blocks) (ready-from p .make-ready .result)
+  answered : ReadyIs (text (ready-from p)) (storeIn (p .lay-out .result) (image (ready-from p)) (numbers (ready-from p)) .instrs)
+      (storeIn (p .lay-out .result) (image (ready-from p)) (numbers (ready-from p)) .operands) (numbers (ready-from p))
+      (storeIn (p .lay-out .result) (image (ready-from p)) (numbers (ready-from p)) .blocks) (ready-from p .make-ready .result)
   answered =
-      subst (λ (q : Places). ReadyIs (text (ready-from p)) (storeIn q (image (ready-from p)) (numbers (ready-from p)) .instrs) (storeIn q (image (ready-from p)) (numbers (ready-from p)) .operands) (numbers (ready-from p)) (storeIn q (image (ready-from p)) (numbers (ready-from p)) .blocks) (ready-from p .make-ready .result)) (sym (p .lay-out .ensures))
+      subst (λ (q : Places). ReadyIs (text (ready-from p)) (storeIn q (image (ready-from p)) (numbers (ready-from p)) .instrs)
+      (storeIn q (image (ready-from p)) (numbers (ready-from p)) .operands) (numbers (ready-from p)) (storeIn q (image (ready-from p))
+      (numbers (ready-from p)) .blocks) (ready-from p .make-ready .result)) (sym (p .lay-out .ensures))
       (ready-from p .make-ready .ensures .answered fitted)
 
 returns : tie.Need-returns
 returns c =
     let m : tie.After-make-ready = search in
-    let f : tie.After-refuse = search in
-    let a = start-of m .args in
-    unfit (outcomeIs (f .refuse .result) (a .rk .now) (a .rn .now) (a .sk .now) (a .sn .now) (a .hk .now) (a .hn .now)) (asked m) (state m) (m .make-ready .result .fits) (m .make-ready .ensures .enough) (search)
+    unfit (m .make-ready .ensures .enough) (search)
 
 returns-2 : tie.Need-returns-2
 returns-2 c =
     let m : tie.After-make-ready = search in
     let f : tie.After-refuse2 = search in
     let e = m .make-ready .ensures .answered (not-false (m .make-ready .result .fits) (search)) in
-    let a = start-of m .args in
-    let l = stored (image m) (numbers m) in
-    tried (outcomeIs (f .refuse2 .result) (a .rk .now) (a .rn .now) (a .sk .now) (a .sn .now) (a .hk .now) (a .hn .now)) (asked m) (state m) (state m) (ap (λ (o : Outcome). outcomeIs o (a .rk .now) (a .rn .now) (a .sk .now) (a .sn .now) (a .hk .now) (a .hn .now)) (f .refuse2 .ensures) ∙ refused (text m) (l .instrs) (l .operands) (numbers m) (l .blocks) (m .make-ready .result) e (a .budget) (state m) (a .first) (a .samples .now) (search))
+    tried (rw (f .refuse2 .ensures) (refused e (search)))
 
 run-in-requires : tie.Need-run-in-requires
 run-in-requires c κs =
@@ -86,22 +75,15 @@ run-in-requires c κs =
     let e = answered p in
     let z = unfaulted p in
     let s = e .startable z in
-    let l = storeIn (p .lay-out .result) (image m) (numbers m) in
     let k : PlanFits (length (image m)) (length (start-of m .args .plan .now)) = rw (m .make-ready .kept .1 .0) (start-of m .pre) in
     let n = instrs-long (p .lay-out .result) (image m) (numbers m) (p .lay-out .ensures) in
-    (in-order p, s .few, s .fit, omega (arith, s .room, n, k), unbarred (text m) (l .instrs) (l .operands) (numbers m) (l .blocks) (m .make-ready .result) e z)
+    (in-order p, s .few, record { fit = s .fit; room = omega (arith, s .room, n, k); unbarred = unbarred e z })
 
 returns-3 : tie.Need-returns-3
 returns-3 c =
     let t : tie.After-run-in = search in
     let p = places-of t in
-    let m = ready-from p in
-    let e = answered p in
-    let z = unfaulted p in
-    let a = start-of m .args in
-    let l = storeIn (p .lay-out .result) (image m) (numbers m) in
-    let w = t .run-in .last in
-    tried (outcomeIs (t .run-in .result) (w .1 .1 .1 .1 .1 .1 .1 .1 .0) (w .1 .1 .1 .1 .1 .1 .1 .1 .1 .0) (w .1 .1 .1 .1 .1 .1 .1 .1 .1 .1 .0) (w .1 .1 .1 .1 .1 .1 .1 .1 .1 .1 .1 .0) (w .1 .1 .1 .1 .1 .1 .1 .1 .1 .1 .1 .1 .0) (w .1 .1 .1 .1 .1 .1 .1 .1 .1 .1 .1 .1 .1 .0)) (asked m) (stateOf (w .1 .1 .1 .1 .1 .1 .1 .1 .0) (w .1 .1 .1 .1 .1 .1 .1 .1 .1 .0) (w .1 .1 .1 .1 .1 .1 .1 .1 .1 .1 .0) (w .1 .1 .1 .1 .1 .1 .1 .1 .1 .1 .1 .0) (w .1 .1 .1 .1 .1 .1 .1 .1 .1 .1 .1 .1 .0) (w .1 .1 .1 .1 .1 .1 .1 .1 .1 .1 .1 .1 .1 .0) (a .place)) (state m) (ran (text m) (l .instrs) (l .operands) (numbers m) (l .blocks) (m .make-ready .result) e (a .budget) (state m) (a .first) (a .samples .now) z (outcomeIs (t .run-in .result) (w .1 .1 .1 .1 .1 .1 .1 .1 .0) (w .1 .1 .1 .1 .1 .1 .1 .1 .1 .0) (w .1 .1 .1 .1 .1 .1 .1 .1 .1 .1 .0) (w .1 .1 .1 .1 .1 .1 .1 .1 .1 .1 .1 .0) (w .1 .1 .1 .1 .1 .1 .1 .1 .1 .1 .1 .1 .0) (w .1 .1 .1 .1 .1 .1 .1 .1 .1 .1 .1 .1 .1 .0)) (t .run-in .ensures))
+    tried (ran (answered p) (unfaulted p) (t .run-in .ensures))
 
 pub call-in-spec : {M : Type 1} → statement M
 call-in-spec =

@@ -1,9 +1,6 @@
-use mathlib.Core.Path.{_≡_, ap, sym, _∙_}
-use mathlib.Core.Bool.{Bool, true, false}
-use Rattle.text.specs.Samples.{samplesOf}
+use mathlib.Core.Path.{_≡_, sym, _∙_}
+use mathlib.Core.Bool.{true, false, true≢false}
 use Rattle.image.specs.Sections.{part}
-use Rattle.exec_machine.specs.Step.{stateOf}
-use Rattle.exec_call.specs.Tries.{ranOn}
 use borrow.Author.Needs.{needs}
 use Rattle.exec_call.proofs.run_in.Statement.{statement}
 use Rattle.exec_call.proofs.run_in.Tie as tie
@@ -24,35 +21,32 @@ start-ready-requires : tie.Need-start-ready-requires
 unfolding part
 start-ready-requires c κs =
     let s : tie.Start = search in
-    (s .pre .1, s .pre .2, s .pre .3, s .pre .4)
+    (s .pre .1, s .pre .2)
 
 returns : tie.Need-returns
 unfolding part
 returns c =
     let t : tie.After-start-ready = search in
-    let a = from-start t .args in
-    λ args P rep w. t .start-ready .ensures args P rep w ∙ sym (ap (λ (b : Bool). ranOn b P (samplesOf (a .samples .now)) (a .budget) (stateOf (a .rk .now) (a .rn .now) (a .sk .now) (a .sn .now) (a .hk .now) (a .hn .now) (a .place))) (first-is t))
+    λ args P rep w. record { started = λ e. t .start-ready .ensures args P rep w; continued = λ e. absurd (true≢false (sym (first-is t) ∙ e)) }
 
 resume-ready-requires : tie.Need-resume-ready-requires
 unfolding part
 resume-ready-requires c κs =
     let s : tie.Start = search in
-    (s .pre .2, s .pre .3, s .pre .4)
+    s .pre .2
 
 returns-2 : tie.Need-returns-2
 unfolding part
 returns-2 c =
     let t : tie.After-resume-ready = search in
-    let a = from-resume t .args in
-    λ args P rep w. t .resume-ready .ensures args P rep ∙ sym (ap (λ (b : Bool). ranOn b P (samplesOf (a .samples .now)) (a .budget) (stateOf (a .rk .now) (a .rn .now) (a .sk .now) (a .sn .now) (a .hk .now) (a .hn .now) (a .place))) (later-is t))
+    λ args P rep w. record { started = λ e. absurd (true≢false (sym e ∙ later-is t)); continued = λ e. t .resume-ready .ensures args P rep }
 
 pub run-in-spec : {M : Type 1} → statement M
 run-in-spec =
-    tie.close
-    (tie.spec
+    tie.close (tie.spec (λ c. search needs) (λ c. search needs) (λ c. search needs) (λ c. search needs) (λ c. search needs)
     (λ c. search needs) (λ c. search needs) (λ c. search needs) (λ c. search needs) (λ c. search needs) (λ c. search needs)
+    (λ c. search needs) start-ready-requires (λ c. search) (λ c. search) (λ c. search) (λ c. search) (λ c. search) (λ c. search)
+    (λ c. search) returns (λ c. search needs) (λ c. search needs) (λ c. search needs) (λ c. search needs) (λ c. search needs)
     (λ c. search needs) (λ c. search needs) (λ c. search needs) (λ c. search needs) (λ c. search needs) (λ c. search needs)
-    start-ready-requires (λ c. search) (λ c. search) (λ c. search) (λ c. search) (λ c. search) (λ c. search) (λ c. search) returns
-    (λ c. search needs) (λ c. search needs) (λ c. search needs) (λ c. search needs) (λ c. search needs) (λ c. search needs)
-    (λ c. search needs) (λ c. search needs) (λ c. search needs) (λ c. search needs) (λ c. search needs) (λ c. search needs)
-    resume-ready-requires (λ c. search) (λ c. search) (λ c. search) (λ c. search) (λ c. search) (λ c. search) (λ c. search) returns-2)
+    (λ c. search needs) resume-ready-requires (λ c. search) (λ c. search) (λ c. search) (λ c. search) (λ c. search) (λ c. search)
+    (λ c. search) returns-2)

@@ -20,9 +20,12 @@ run-from-requires : tie.Need-run-from-requires
 run-from-requires c κs =
     let g : tie.After-good-form = search in
     let s = start-of-good-form g in
-    let e = resumes-enough _ _ _ _ _ _ _ _ (s .pre .2) (search) (g .good-form .ensures) (search) in
-    let l = resumes-place _ _ _ _ _ _ _ _ (s .pre .2) (search) (g .good-form .ensures) (search) in
-    (search, search, e .0, e .1, e .2, e .3, e .4, e .5, l .0, l .1, l .2, resumes-safe _ _ _ _ _ _ _ _ (search) (search) (search) (search))
+    let u = s .pre .unbarred in (
+      search,
+      resumes-enough _ _ _ _ _ _ _ _ u (search) (g .good-form .ensures) (search),
+      resumes-place _ _ _ _ _ _ _ _ u (search) (g .good-form .ensures) (search),
+      resumes-safe _ _ _ _ _ _ _ _ u (search) (g .good-form .ensures) (search),
+    )
 
 returns-2 : tie.Need-returns-2
 returns-2 c =

@@ -42,7 +42,9 @@ returns c =
     let y : tie.Then1 = search in
     let r : tie.After-read-samples = search in
     let s : tie.Start = search in
-    λ args P rep w. ap (λ (o : Outcome). outcomeIs o (s .args .rk .now) (s .args .rn .now) (s .args .sk .now) (s .args .sn .now) (s .args .hk .now) (s .args .hn .now)) (c .refuse .ensures) ∙ sym (starts-15 _ (samplesOf _) (r .read-samples .last .1 .1 .0) (r .read-samples .result) (r .read-samples .ensures) P w (s .args .m) _ (y .if1 .taken))
+    λ args P rep w. ap (λ (o : Outcome). outcomeIs o (s .args .rk .now) (s .args .rn .now) (s .args .sk .now) (s .args .sn .now)
+    (s .args .hk .now) (s .args .hn .now)) (c .refuse .ensures) ∙ sym (starts-15 _ (samplesOf _) (r .read-samples .last .1 .1 .0)
+    (r .read-samples .result) (r .read-samples .ensures) P w (s .args .m) _ (y .if1 .taken))
 
 returns-2 : tie.Need-returns-2
 returns-2 c =
@@ -51,7 +53,9 @@ returns-2 c =
     let r : tie.After-read-samples = search in
     let l2 : tie.After-long-enough-arg2 = search in
     let s = start-of-long-enough-arg2 l2 in
-    λ args P rep w. ap (λ (o : Outcome). outcomeIs o (s .args .rk .now) (s .args .rn .now) (s .args .sk .now) (s .args .sn .now) (s .args .hk .now) (s .args .hn .now)) (c .refuse2 .ensures) ∙ sym (starts-16 _ (samplesOf _) (r .read-samples .last .1 .1 .0) (r .read-samples .result) (r .read-samples .ensures) P w (s .args .m) _ (n .if1 .left) _ (l .long-enough .ensures) (search))
+    λ args P rep w. ap (λ (o : Outcome). outcomeIs o (s .args .rk .now) (s .args .rn .now) (s .args .sk .now) (s .args .sn .now)
+    (s .args .hk .now) (s .args .hn .now)) (c .refuse2 .ensures) ∙ sym (starts-16 _ (samplesOf _) (r .read-samples .last .1 .1 .0)
+    (r .read-samples .result) (r .read-samples .ensures) P w (s .args .m) _ (n .if1 .left) _ (l .long-enough .ensures) (search))
 
 slice-aggregate-set-start : tie.Need-slice-aggregate-set-start
 slice-aggregate-set-start c =
@@ -74,7 +78,7 @@ set-start-requires c κs =
     let p : (s .args .want) ≤ 16 = s .pre .0 in
     let q = taken-length (r .read-samples .last .1 .1 .0) (s .args .want) (omega arith) in
     let e = starts-enough (s .args .rk .now) (s .args .rn .now) (s .args .sk .now) (s .args .sn .now) (s .args .hk .now) (s .args .hn .now) (s .args .place) (l .long-enough .result) (l .long-enough .ensures) (n .if2 .left) in
-    (omega arith, e .0, e .1)
+    (omega arith, e .registers .kinds, e .registers .numbers)
 
 run-from-requires : tie.Need-run-from-requires
 run-from-requires c κs =
@@ -90,8 +94,15 @@ run-from-requires c κs =
     let e = starts-enough (s2 .args .rk .now) (s2 .args .rn .now) (s2 .args .sk .now) (s2 .args .sn .now) (s2 .args .hk .now) (s2 .args .hn .now) (s2 .args .place) (l2 .long-enough .result) (l2 .long-enough .ensures) (n .if2 .left) in
     let i = s3 .set-start .ensures (s2 .args .sk .now) (s2 .args .sn .now) (s2 .args .place) in
     let l = starts-place _ _ _ _ _ _ _ _ (s3 .set-start .result) (s2 .args .count) i (omega arith) in
-    let s = s3 .set-start .kept .1 in
-    (s2 .pre .1, s2 .pre .2, omega (arith, s .0, e .0), omega (arith, s .1 .0, e .1), e .2, e .3, omega (arith, s .1 .1 .0, e .4), omega (arith, s .1 .1 .1 .0, e .5), l .0, l .1, l .2, starts-safe (tables (s2 .args .instrs .now) (s2 .args .operands .now) (s2 .args .bases .now) (s2 .args .blocks .now) (s2 .args .count) (s2 .args .labels)) (s2 .pre .3) _ (omega arith) (stateOf (s2 .args .rk .now) (s2 .args .rn .now) (s2 .args .sk .now) (s2 .args .sn .now) (s2 .args .hk .now) (s2 .args .hn .now) (s2 .args .place)) (l2 .long-enough .result) (l2 .long-enough .ensures) (n .if2 .left) i)
+    let s = s3 .set-start .kept .1 in (
+      record { fit = s2 .pre .1 .fit; room = s2 .pre .1 .room },
+      omega (arith, s, e),
+      l,
+      starts-safe (tables (s2 .args .instrs .now)
+          (s2 .args .operands .now) (s2 .args .bases .now) (s2 .args .blocks .now) (s2 .args .count) (s2 .args .labels)) (s2 .pre .1 .unbarred)
+          _ (omega arith) (stateOf (s2 .args .rk .now) (s2 .args .rn .now) (s2 .args .sk .now) (s2 .args .sn .now) (s2 .args .hk .now)
+          (s2 .args .hn .now) (s2 .args .place)) (l2 .long-enough .result) (l2 .long-enough .ensures) (n .if2 .left) i,
+    )
 
 returns-3 : tie.Need-returns-3
 returns-3 c =

@@ -2,11 +2,5 @@ use Rattle.exec_outcome.proofs.Laws.{under-cap, over-cap}
 use Rattle.exec_outcome.proofs.capped.Statement.{statement}
 use Rattle.exec_outcome.proofs.capped.Tie as tie
 
-returns : tie.Need-returns
-returns c = under-cap _ (search)
-
-returns-2 : tie.Need-returns-2
-returns-2 c = over-cap _ (search)
-
 pub capped-spec : {M : Type 1} → statement M
-capped-spec = tie.close (tie.spec returns returns-2)
+capped-spec = tie.close (tie.spec (λ c. under-cap _ (search)) (λ c. over-cap _ (search)))

@@ -1,8 +1,7 @@
 use mathlib.Core.Path.{ap, _∙_}
 use mathlib.Core.List.{List}
-use Prim.Native.Nat.{ℕ, _*_, _<_}
-use native.Mathlib.Omega.{arith}
-use Rattle.exec_plan.specs.Plan.{putRow}
+use Prim.Native.Nat.{ℕ, _*_}
+use Rattle.exec_plan.specs.Plan.{putRow, Choices}
 use Rattle.exec_plan.proofs.Laws.{row-is}
 use borrow.Author.Needs.{needs}
 use Rattle.exec_plan.proofs.make_row.Statement.{statement}
@@ -68,33 +67,21 @@ start-of-entry5 x = search
 abbrev wide-of-constant-kind : tie.After-constant-kind → tie.After-wide
 wide-of-constant-kind x = search
 
+-- what a column may have
+choices : (c : tie.After-constant-kind) → Choices (entry2-of-constant-kind c .entry2 .result) (entry3-of-constant-kind c .entry3 .result)
+    (entry4-of-constant-kind c .entry4 .result) (entry8-of-constant-kind c .entry8 .result) (entry5-of-constant-kind c .entry5 .result)
+    (branch-kind-of-constant-kind c .branch-kind .result) (c .constant-kind .result)
+choices c = search needs
+
 choose-requires-2 : tie.Need-choose-requires-2
 choose-requires-2 c κs =
-    let c2 : tie.After-constant-kind = search in
-    let b : tie.After-branch-kind = search in
-    let k : tie.After-kind-of = search in
-    let e6 : tie.After-entry5 = search in
-    let e4 : tie.After-entry4 = search in
-    let e3 : tie.After-entry3 = search in
-    let e2 : tie.After-entry2 = search in
-    let e : tie.After-entry = search in
-    let o : b .branch-kind .result < 65536 = omega (arith, b .branch-kind .ensures, e .entry .ensures .1) in
-    let q : c2 .constant-kind .result < 65536 = omega (arith, c2 .constant-kind .ensures, k .kind-of .ensures .1) in
-    (e2 .entry2 .ensures .1, e3 .entry3 .ensures .1, e4 .entry4 .ensures .1, search, e6 .entry5 .ensures .1, o, q)
+    let k : tie.After-constant-kind = search in
+    choices k
 
 choose-requires-3 : tie.Need-choose-requires-3
 choose-requires-3 c κs =
-    let c2 : tie.After-constant-kind = search in
-    let b : tie.After-branch-kind = search in
-    let k : tie.After-kind-of = search in
-    let e6 : tie.After-entry5 = search in
-    let e4 : tie.After-entry4 = search in
-    let e3 : tie.After-entry3 = search in
-    let e2 : tie.After-entry2 = search in
-    let e : tie.After-entry = search in
-    let o : b .branch-kind .result < 65536 = omega (arith, b .branch-kind .ensures, e .entry .ensures .1) in
-    let q : c2 .constant-kind .result < 65536 = omega (arith, c2 .constant-kind .ensures, k .kind-of .ensures .1) in
-    (e2 .entry2 .ensures .1, e3 .entry3 .ensures .1, e4 .entry4 .ensures .1, search, e6 .entry5 .ensures .1, o, q)
+    let k : tie.After-constant-kind = search in
+    choices k
 
 last-requires : tie.Need-last-requires
 last-requires c κs =
@@ -162,7 +149,14 @@ returns c =
     let e2 = entry2-of-constant-kind (constant-kind-of-goal3 g3) in
     let e = entry-of-constant-kind (constant-kind-of-goal3 g3) in
     let s = start-of-constant-kind (constant-kind-of-goal3 g3) in
-    λ m. (p .put-row) .ensures ∙ ap (λ (vs : List ℕ). putRow (s .args .plan .now) (8 * (s .args .j)) vs) (row-is (s .args .instrs .now) (s .args .operands .now) (s .args .bases .now) (s .args .blocks .now) _ _ (e .entry .ensures .0) (e2 .entry2 .ensures .0) (e3 .entry3 .ensures .0) (e4 .entry4 .ensures .0) (e5 .entry5 .ensures .0) (e6 .entry6 .ensures .0) (e7 .entry7 .ensures .0) (k .kind-of .ensures .0) (n .number-at .ensures) (w .wide .ensures .0) (e8 .entry8 .ensures .0) (b .branch-kind .ensures) (c2 .constant-kind .ensures) m (c3 .column .ensures) (c4 .choose .ensures .0) (c5 .column2 .ensures) (c6 .choose2 .ensures .0) (c7 .column3 .ensures) (c8 .choose3 .ensures .0) (f .form .ensures .0) (c9 .checked .ensures .0) (c10 .class .ensures) (n2 .narrow .ensures) (n3 .narrow2 .ensures) (n4 .narrow3 .ensures) (l .last .ensures) (g .goal .ensures) (f2 .fifth .ensures) (g2 .goal2 .ensures) (g3 .goal3 .ensures))
+    λ m. (p .put-row) .ensures ∙ ap (λ (vs : List ℕ). putRow (s .args .plan .now) (8 * (s .args .j)) vs) (row-is (s .args .instrs .now)
+    (s .args .operands .now) (s .args .bases .now) (s .args .blocks .now) _ _ (e .entry .ensures .0) (e2 .entry2 .ensures .0)
+    (e3 .entry3 .ensures .0) (e4 .entry4 .ensures .0) (e5 .entry5 .ensures .0) (e6 .entry6 .ensures .0) (e7 .entry7 .ensures .0)
+    (k .kind-of .ensures .0) (n .number-at .ensures) (w .wide .ensures .0) (e8 .entry8 .ensures .0) (b .branch-kind .ensures)
+    (c2 .constant-kind .ensures) m (c3 .column .ensures) (c4 .choose .ensures .0) (c5 .column2 .ensures) (c6 .choose2 .ensures .0)
+    (c7 .column3 .ensures) (c8 .choose3 .ensures .0) (f .form .ensures .0) (c9 .checked .ensures .0) (c10 .class .ensures)
+    (n2 .narrow .ensures) (n3 .narrow2 .ensures) (n4 .narrow3 .ensures) (l .last .ensures) (g .goal .ensures) (f2 .fifth .ensures)
+    (g2 .goal2 .ensures) (g3 .goal3 .ensures))
 
 pub make-row-spec : {M : Type 1} → statement M
 make-row-spec =

@@ -14,9 +14,6 @@ Inv-loop instrs operands bases blocks count labels plan₀ j₀ plan j = (j ≤ 
 abbrev μ-loop : tie.MeasureT-loop
 μ-loop instrs operands bases blocks count labels plan₀ j₀ plan j = count - j
 
-loop-holds : tie.Need-loop-holds Inv-loop μ-loop
-loop-holds c = (search needs, refl, no-rows _ _)
-
 loop-again : tie.Need-loop-again Inv-loop μ-loop
 loop-again c =
     let m : tie.After-make-row Inv-loop μ-loop = search in
@@ -30,5 +27,5 @@ returns c =
 
 pub predecode-spec : {M : Type 1} → statement M
 predecode-spec =
-    tie.close (tie.spec Inv-loop μ-loop loop-holds (λ c κs. search needs) (λ c. search needs) (λ c. search needs) loop-again
-    (λ c. search needs) (λ c κs. search needs) (λ c. search needs) returns)
+    tie.close (tie.spec Inv-loop μ-loop (λ c. (search needs, refl, no-rows _ _)) (λ c κs. search needs) (λ c. search needs)
+    (λ c. search needs) loop-again (λ c. search needs) (λ c κs. search needs) (λ c. search needs) returns)

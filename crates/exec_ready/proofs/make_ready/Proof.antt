@@ -88,7 +88,9 @@ returns-3 c =
     let u : tie.After-barred2 = search in
     let p = places-of f in
     let l = loaded p in
-    fits (ap (λ (x : Ready). x .fits) (u .barred2 .ensures)) (bars-first (text l) (storeIn (at p) (image l) (numbers l)) (useSection (at p) (image l)) (topSection (at p) (image l)) (l .load .result) (answer p) (no-fault p) (f .first-fault .result) (f .first-fault .ensures) (u .barred2 .result) _ _ _ _ _ refl (search) (u .barred2 .ensures))
+    fits (ap (λ (x : Ready). x .fits) (u .barred2 .ensures)) (bars-first (text l) (storeIn (at p) (image l) (numbers l))
+    (useSection (at p) (image l)) (topSection (at p) (image l)) (l .load .result) (answer p) (no-fault p) (f .first-fault .result)
+    (f .first-fault .ensures) (u .barred2 .result) _ _ _ _ _ refl (search) (u .barred2 .ensures))
 
 samples-wanted-requires : tie.Need-samples-wanted-requires
 samples-wanted-requires c κs =
@@ -102,7 +104,18 @@ returns-4 c =
     let z : f .first-fault .result ≡ 0 = search in
     let p = places-of f in
     let l = loaded p in
-    fits refl (subst (λ (q : Places). ReadyIs (text l) (storeIn q (image l) (numbers l) .instrs) (storeIn q (image l) (numbers l) .operands) (numbers l) (storeIn q (image l) (numbers l) .blocks) (record { fits = true; fault = 0; line = 0; blocks = l .load .result .blocks; instrs = l .load .result .instrs; samples = s .samples-wanted .result })) (p .lay-out .ensures) (may-start (text l) (storeIn (at p) (image l) (numbers l)) (useSection (at p) (image l)) (topSection (at p) (image l)) (l .load .result) (answer p) (no-fault p) (f .first-fault .result) (f .first-fault .ensures) (s .samples-wanted .result) (getD (blockSection (at p) (image l)) 0 0) z refl (s .samples-wanted .ensures) _ refl))
+    fits refl (subst (λ (q : Places). ReadyIs (text l) (storeIn q (image l) (numbers l) .instrs) (storeIn q (image l)
+    (numbers l) .operands) (numbers l) (storeIn q (image l) (numbers l) .blocks) (record {
+      fits = true;
+      fault = 0;
+      line = 0;
+      blocks = l .load .result .blocks;
+      instrs = l .load .result .instrs;
+      samples = s .samples-wanted .result;
+    })) (p .lay-out .ensures)
+    (may-start (text l) (storeIn (at p) (image l) (numbers l)) (useSection (at p) (image l)) (topSection (at p) (image l))
+    (l .load .result) (answer p) (no-fault p) (f .first-fault .result) (f .first-fault .ensures) (s .samples-wanted .result)
+    (getD (blockSection (at p) (image l)) 0 0) z refl (s .samples-wanted .ensures) _ refl))
 
 pub make-ready-spec : {M : Type 1} → statement M
 make-ready-spec =

@@ -4,7 +4,7 @@ use Rattle.exec_run.proofs.run.Tie as tie
 
 run-rows-requires : tie.Need-run-rows-requires
 run-rows-requires c κs =
-    (search, search, omega arith, search, search, search, search, search, search, search, search, search, search)
+    (record { plan = search; fit = search; room = omega arith }, search, search, search)
 
 pub run-spec : {M : Type 1} → statement M
 run-spec =

@@ -39,7 +39,10 @@ module _ (xs : List ℕ) (m : Memory) where
         ∙ sym (ap (λ (t : List ℕ). puts m (i + 1) (map integer t)) (drop-cons xs i 0 h))
         ∙ inv
 
-pub start-is : (xs rk rn rk′ rn′ hk hn hk′ hn′ : List ℕ) (r : Place) → lent rk′ rn′ ≡ puts (lent rk rn) 0 (handle 0 ∷ junkWord ∷ junkWord ∷ junkWord ∷ junkWord ∷ junkWord ∷ junkWord ∷ junkWord ∷ []) → lent hk′ hn′ ≡ puts (lent hk hn) 0 (integer (length xs) ∷ map integer xs) → r .depth ≡ 0 → r .used ≡ length xs + 1 → r .position ≡ 0 → (sk sn : List ℕ) (p : Place) → stateOf rk′ rn′ sk sn hk′ hn′ r ≡ initial xs (stateOf rk rn sk sn hk hn p)
+pub start-is : (xs rk rn rk′ rn′ hk hn hk′ hn′ : List ℕ) (r : Place) → lent rk′ rn′ ≡ puts (lent rk rn) 0
+    (handle 0 ∷ junkWord ∷ junkWord ∷ junkWord ∷ junkWord ∷ junkWord ∷ junkWord ∷ junkWord ∷ []) → lent hk′ hn′ ≡ puts (lent hk hn) 0
+    (integer (length xs) ∷ map integer xs) → r .depth ≡ 0 → r .used ≡ length xs + 1 → r .position ≡ 0 → (sk sn : List ℕ) (p : Place)
+    → stateOf rk′ rn′ sk sn hk′ hn′ r ≡ initial xs (stateOf rk rn sk sn hk hn p)
 unfolding initial
 start-is xs rk rn rk′ rn′ hk hn hk′ hn′ r eR eH ed eu ep sk sn p =
     let u : r .used ≡ suc (length xs) = omega arith in

@@ -1,15 +1,15 @@
 -- Where the words of a tuple stand whose handle a register holds.
-use Prim.Native.Nat.{ℕ, _+_, _<_, _≤_}
+use Prim.Native.Nat.{ℕ, _+_, _<_}
 use native.Mathlib.Omega.{arith}
 use mathlib.Core.Path.{_≡_, ap, sym, _∙_}
 use mathlib.Core.List.{List}
 use lib.ListN.{length}
 use Rattle.exec.specs.Machine.{Word, Memory, at}
 use Rattle.exec_words.specs.declared.memory.Word.{Word as Pair}
-use Rattle.exec_words.specs.memory.Lent.{wordIs, lent}
+use Rattle.exec_words.specs.memory.Lent.{wordIs, lent, Long}
 use Rattle.exec_step.specs.moved.Stepped.{Inside}
 
-module _ (R : Memory) (hk hn : List ℕ) (inside : Inside R (lent hk hn)) (lk : 2048 ≤ length hk) (ln : 2048 ≤ length hn) (r : ℕ) (low : r < 8) (w : Pair) (e : wordIs w ≡ at R r) (k : w .kind ≡ 2) (a : ℕ) (ea : a ≡ w .number) where
+module _ (R : Memory) (hk hn : List ℕ) (inside : Inside R (lent hk hn)) (long : Long 2048 hk hn) (r : ℕ) (low : r < 8) (w : Pair) (e : wordIs w ≡ at R r) (k : w .kind ≡ 2) (a : ℕ) (ea : a ≡ w .number) where
   number-is : at R r .number ≡ a
   number-is = ap (λ (x : Word). x .number) (sym e) ∙ sym ea
 

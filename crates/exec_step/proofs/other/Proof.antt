@@ -1,30 +1,23 @@
-use Prim.Native.Nat.{ℕ, _+_, _-_, _≤_}
+use Prim.Native.Nat.{ℕ, _+_, _≤_}
 use native.Mathlib.Omega.{arith}
 use mathlib.Core.Path.{_≡_, refl, ap}
 use lib.ListN.{getD}
 use Rattle.exec.specs.Machine.{Word}
 use Rattle.exec_words.specs.arith.Codes.{arithOf}
-use Rattle.exec_words.specs.memory.Lent.{lent, operandTable}
-use Rattle.exec_machine.specs.declared.Stop.the-variants.{Halted}
 use Rattle.exec_machine.specs.Step.{pair, Register}
 use Rattle.exec_plan.specs.Plan.{readsOperand, planned}
 use Rattle.exec_step.specs.Rows.{formOf}
-use Rattle.exec_step.proofs.Forms.{reads, other-form, from-24, by-turn, by-does, by-assign, by-end, by-past}
+use Rattle.exec_step.proofs.Forms.{reads, none-of, other-form, by-turn, by-does, by-assign, by-end, by-past}
 use borrow.Author.Needs.{needs}
 use Rattle.exec_step.proofs.other.Statement.{statement}
 use Rattle.exec_step.proofs.other.Tie as tie
 
-abbrev start-of-reckon2 : tie.After-reckon2 → tie.Start
-start-of-reckon2 x = search
+abbrev start-of : tie.After-read → tie.Start
+start-of r = search
 
-abbrev start-of-slice-known7 : tie.After-slice-known7 → tie.Start
-start-of-slice-known7 x = search
-
-abbrev start-of-slice-known9 : tie.After-slice-known9 → tie.Start
-start-of-slice-known9 x = search
-
-abbrev start-of-sn : tie.After-sn → tie.Start
-start-of-sn x = search
+-- the form, in column 5
+form-is : (r : tie.After-read) {k : ℕ} → r .read .result ≡ k → formOf (start-of r .args .plan .now) (start-of r .args .at) ≡ k
+form-is r q = other-form (start-of r .pre .1) (start-of r .pre .3) (r .read .ensures) q
 
 register-requires : tie.Need-register-requires
 unfolding readsOperand
@@ -32,7 +25,7 @@ register-requires c κs =
     let m : tie.At-match-keys6 = search in
     let r : tie.After-read = search in
     let s : tie.Start = search in
-    (search, search, search, s .pre .7 .operand (reads 20 refl (other-form (s .args .plan .now) (s .args .at) (s .pre .10) (r .read .ensures) 20 (m .match .keys6))))
+    (search, search, s .pre .1 .operand (reads 20 refl (form-is r (m .match .keys6))))
 
 branch-register-requires : tie.Need-branch-register-requires
 unfolding readsOperand
@@ -40,7 +33,7 @@ branch-register-requires c κs =
     let m : tie.At-match-keys7 = search in
     let r : tie.After-read = search in
     let s : tie.Start = search in
-    (search, search, search, search, search, search, s .pre .7 .operand (reads 21 refl (other-form (s .args .plan .now) (s .args .at) (s .pre .10) (r .read .ensures) 21 (m .match .keys7))))
+    (search, search, s .pre .1 .operand (reads 21 refl (form-is r (m .match .keys7))))
 
 returns : tie.Need-returns
 unfolding planned arithOf
@@ -49,10 +42,7 @@ returns c =
     let l : tie.After-literal = search in
     let m : tie.At-match-keys1 = search in
     let r : tie.After-read = search in
-    let s3 : tie.After-slice-known7 = search in
-    let s2 = start-of-slice-known7 s3 in
-    let ef : formOf (s2 .args .plan .now) (s2 .args .at) ≡ 15 = (other-form (s2 .args .plan .now) (s2 .args .at) (s2 .pre .10) (r .read .ensures) 15 (m .match .keys1)) in
-    by-does (operandTable _ _) (s2 .args .blocks .now) _ _ _ (s2 .args .h) (s2 .args .u) (s2 .args .more) (lent _ _) (lent _ _) (lent _ _) 15 ef (r2 .reckon .result) (lent _ _) (lent _ _) (lent _ _) (omega arith) (λ s g. (r2 .reckon) .ensures (operandTable _ _) _ (lent _ _) (lent _ _) (l .literal .ensures _))
+    by-does (form-is r (m .match .keys1)) (omega arith) (λ s g. r2 .reckon .ensures _ _ _ _ (l .literal .ensures _))
 
 returns-2 : tie.Need-returns-2
 unfolding planned
@@ -61,19 +51,17 @@ returns-2 c =
     let h2 : tie.After-height = search in
     let m : tie.At-match-keys2 = search in
     let r : tie.After-read = search in
-    let s3 : tie.After-slice-known9 = search in
-    let s2 = start-of-slice-known9 s3 in
-    let ef : formOf (s2 .args .plan .now) (s2 .args .at) ≡ 16 = (other-form (s2 .args .plan .now) (s2 .args .at) (s2 .pre .10) (r .read .ensures) 16 (m .match .keys2)) in
-    by-assign _ _ _ _ _ _ _ _ _ _ _ 16 ef _ (omega arith) _ _ (s2 .pre .8) (s2 .pre .9) (λ s p g. ap (λ (v : Word). Register (getD (s2 .args .plan .now) (s2 .args .at + 1) 0) (pair v) p) (h2 .height .ensures)) (a2 .assign .ensures .0) (a2 .assign .ensures .1)
+    let s2 = start-of r in
+    by-assign (form-is r (m .match .keys2)) (omega arith) (s2 .pre .0 .depth) (s2 .pre .0 .used)
+    (λ s p g. ap (λ (v : Word). Register (getD (s2 .args .plan .now) (s2 .args .at + 1) 0) (pair v) p) (h2 .height .ensures))
+    (a2 .assign .ensures .0) (a2 .assign .ensures .1)
 
 returns-3 : tie.Need-returns-3
 unfolding planned
 returns-3 c =
     let m : tie.At-match-keys3 = search in
     let r : tie.After-read = search in
-    let s2 : tie.Start = search in
-    let ef : formOf (s2 .args .plan .now) (s2 .args .at) ≡ 17 = (other-form (s2 .args .plan .now) (s2 .args .at) (s2 .pre .10) (r .read .ensures) 17 (m .match .keys3)) in
-    by-does (operandTable _ _) (s2 .args .blocks .now) _ _ _ (s2 .args .h) (s2 .args .u) (s2 .args .more) (lent _ _) (lent _ _) (lent _ _) 17 ef (c .cut .result) (lent _ _) (lent _ _) (lent _ _) (omega arith) (λ s g. (c .cut) .ensures (operandTable _ _) (lent _ _) (lent _ _))
+    by-does (form-is r (m .match .keys3)) (omega arith) (λ s g. c .cut .ensures _ _ _)
 
 returns-4 : tie.Need-returns-4
 unfolding planned
@@ -81,19 +69,14 @@ returns-4 c =
     let p : tie.After-push = search in
     let m : tie.At-match-keys4 = search in
     let r : tie.After-read = search in
-    let s3 : tie.After-sn = search in
-    let s2 = start-of-sn s3 in
-    let ef : formOf (s2 .args .plan .now) (s2 .args .at) ≡ 18 = (other-form (s2 .args .plan .now) (s2 .args .at) (s2 .pre .10) (r .read .ensures) 18 (m .match .keys4)) in
-    by-does (operandTable _ _) (s2 .args .blocks .now) _ _ _ (s2 .args .h) (s2 .args .u) (s2 .args .more) (lent _ _) (lent _ _) (lent _ _) 18 ef (p .push .result) (lent _ _) (lent _ _) (lent _ _) (omega arith) (λ s g. (p .push) .ensures (operandTable _ _) (lent _ _) (lent _ _))
+    by-does (form-is r (m .match .keys4)) (omega arith) (λ s g. p .push .ensures _ _ _)
 
 returns-5 : tie.Need-returns-5
 unfolding planned
 returns-5 c =
     let m : tie.At-match-keys5 = search in
     let r : tie.After-read = search in
-    let s2 : tie.Start = search in
-    let ef : formOf (s2 .args .plan .now) (s2 .args .at) ≡ 19 = (other-form (s2 .args .plan .now) (s2 .args .at) (s2 .pre .10) (r .read .ensures) 19 (m .match .keys5)) in
-    by-does (operandTable _ _) (s2 .args .blocks .now) _ _ _ (s2 .args .h) (s2 .args .u) (s2 .args .more) (lent _ _) (lent _ _) (lent _ _) 19 ef (c .pop .result) (lent _ _) (lent _ _) (lent _ _) (omega arith) (λ s g. (c .pop) .ensures (operandTable _ _) (lent _ _) (lent _ _) (lent _ _))
+    by-does (form-is r (m .match .keys5)) (omega arith) (λ s g. c .pop .ensures _ _ _ _)
 
 returns-6 : tie.Need-returns-6
 unfolding planned arithOf
@@ -102,44 +85,37 @@ returns-6 c =
     let r3 : tie.After-register = search in
     let m : tie.At-match-keys6 = search in
     let r : tie.After-read = search in
-    let s2 = start-of-reckon2 r2 in
-    let ef : formOf (s2 .args .plan .now) (s2 .args .at) ≡ 20 = (other-form (s2 .args .plan .now) (s2 .args .at) (s2 .pre .10) (r .read .ensures) 20 (m .match .keys6)) in
-    by-does (operandTable _ _) (s2 .args .blocks .now) _ _ _ (s2 .args .h) (s2 .args .u) (s2 .args .more) (lent _ _) (lent _ _) (lent _ _) 20 ef (r2 .reckon2 .result) (lent _ _) (lent _ _) (lent _ _) (omega arith) (λ s g. (r2 .reckon2) .ensures (operandTable _ _) _ (lent _ _) (lent _ _) (r3 .register .ensures))
+    by-does (form-is r (m .match .keys6)) (omega arith) (λ s g. r2 .reckon2 .ensures _ _ _ _ (r3 .register .ensures))
 
 returns-7 : tie.Need-returns-7
 unfolding planned
 returns-7 c =
     let m2 : tie.At-match-keys7 = search in
     let r : tie.After-read = search in
-    let s2 : tie.Start = search in
-    let ef : formOf (s2 .args .plan .now) (s2 .args .at) ≡ 21 = (other-form (s2 .args .plan .now) (s2 .args .at) (s2 .pre .10) (r .read .ensures) 21 (m2 .match .keys7)) in
-    by-turn (operandTable _ _) (s2 .args .blocks .now) _ _ _ (s2 .args .h) (s2 .args .u) (s2 .args .more) (lent _ _) (lent _ _) (lent _ _) 21 ef (c .branch-register .result) (lent _ _) (lent _ _) (lent _ _) (λ m s j p g starts goals et lp. (c .branch-register) .ensures (operandTable _ _) (lent _ _) (lent _ _) m j p starts et (lp (omega arith)))
+    by-turn (form-is r (m2 .match .keys7)) (λ m s j p g starts goals et lp. c .branch-register .ensures _ _ _ m j p starts et
+    (lp (omega arith)))
 
 returns-8 : tie.Need-returns-8
 unfolding planned
 returns-8 c =
     let m : tie.At-match-keys8 = search in
     let r : tie.After-read = search in
-    let s2 : tie.Start = search in
-    let ef : formOf (s2 .args .plan .now) (s2 .args .at) ≡ 22 = (other-form (s2 .args .plan .now) (s2 .args .at) (s2 .pre .10) (r .read .ensures) 22 (m .match .keys8)) in
-    by-does (operandTable _ _) (s2 .args .blocks .now) _ _ _ (s2 .args .h) (s2 .args .u) (s2 .args .more) (lent _ _) (lent _ _) (lent _ _) 22 ef (c .branch-nowhere .result) (lent _ _) (lent _ _) (lent _ _) (omega arith) (λ s g. (c .branch-nowhere) .ensures (operandTable _ _) (lent _ _) (lent _ _))
+    by-does (form-is r (m .match .keys8)) (omega arith) (λ s g. c .branch-nowhere .ensures _ _ _)
 
 returns-9 : tie.Need-returns-9
 unfolding planned
 returns-9 c =
     let r : tie.After-read = search in
-    let s2 : tie.Start = search in
-    let ef : formOf (s2 .args .plan .now) (s2 .args .at) ≡ 23 = (other-form (s2 .args .plan .now) (s2 .args .at) (s2 .pre .10) (r .read .ensures) 23 (c .match .keys9)) in
-    by-end _ _ _ _ _ _ _ (s2 .args .more) _ _ _ 23 ef _ Halted refl (λ s p g. refl)
+    by-end (form-is r (c .match .keys9)) refl (λ s p g. refl)
 
 returns-10 : tie.Need-returns-10
 returns-10 c =
     let m : tie.At-match-rest = search in
     let r : tie.After-read = search in
-    let s : tie.Start = search in
+    let s = start-of r in
     let f : ℕ = r .read .result in
-    let lf : 15 ≤ f = omega (arith, r .read .ensures, s .pre .7 .other (search)) in
-    by-past _ _ _ _ _ _ _ _ _ _ _ f (other-form (s .args .plan .now) (s .args .at) (s .pre .10) (r .read .ensures) f refl) _ (c .stuck .ensures) (from-24 f lf (m .match .rest .0 .0 .0 .0 .0 .0 .0 .0 .1) (m .match .rest .0 .0 .0 .0 .0 .0 .0 .1) (m .match .rest .0 .0 .0 .0 .0 .0 .1) (m .match .rest .0 .0 .0 .0 .0 .1) (m .match .rest .0 .0 .0 .0 .1) (m .match .rest .0 .0 .0 .1) (m .match .rest .0 .0 .1) (m .match .rest .0 .1) (m .match .rest .1))
+    let lf : 15 ≤ f = omega (arith, r .read .ensures, s .pre .1 .other (search)) in
+    by-past (form-is r refl) (c .stuck .ensures) (none-of _ 9 lf (m .match .rest))
 
 pub other-spec : {M : Type 1} → statement M
 other-spec =

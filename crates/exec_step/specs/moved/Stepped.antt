@@ -1,11 +1,13 @@
--- What an answer of the code says of a step, and what a row and the handles in registers must say for it to be made.
+-- What an answer of the code says of a step, and what a row, the words and the handles in registers must say for it to be made.
 use Prim.Native.Nat.{ℕ, _+_, _*_, _<_, _≤_}
 use mathlib.Core.Path.{_≡_}
 use mathlib.Core.Bool.{Bool, true, false, cond}
 use mathlib.Core.List.{List}
-use lib.ListN.{getD}
+use lib.ListN.{length, getD}
 use Rattle.exec.specs.Machine.{Memory, State, Result, tupleKind, heapLimit, at, componentAt, go, stop}
 use Rattle.tables.specs.Tables.{cell, OperandTable}
+use Rattle.exec_words.specs.memory.Lent.{Long}
+use Rattle.exec_machine.specs.declared.Stop.{Stop as Reason}
 use Rattle.exec_machine.specs.Step.{Tables, stopIs, resultOf, stepAt, Next}
 use Rattle.exec_step.specs.declared.moved.Moved.{Moved}
 use Rattle.exec_step.specs.declared.moved.Moved.the-variants.{To, Paused, Ended}
@@ -48,10 +50,10 @@ pub record Stops (x : Result State) (y : Result State) (σ : State) (R S H : Mem
   pub result : x ≡ y
 
 -- what an answer says: a step made, one that waits for budget, or a stop
-abbrev pub Turned : ℕ → Result State → Bool → State → Moved → Memory → Memory → Memory → Type 0
-Turned m x more σ (To to h u) R S H = Reached m x more to h u R S H
-Turned m x more σ Paused R S H = Waits x more σ R S H
-Turned m x more σ (Ended s) R S H = Stops x (stop (stopIs s)) σ R S H
+pub record Turned (m : ℕ) (x : Result State) (more : Bool) (σ : State) (r : Moved) (R S H : Memory) : Type 0 where
+  pub reached : (to h u : ℕ) → r ≡ To to h u → Reached m x more to h u R S H
+  pub waits : r ≡ Paused → Waits x more σ R S H
+  pub stops : (s : Reason) → r ≡ Ended s → Stops x (stop (stopIs s)) σ R S H
 
 -- "one step" by the tables, from σ
 abbrev pub Stepped : Tables → Bool → State → Moved → Memory → Memory → Memory → Type 0
@@ -75,6 +77,26 @@ pub record Leads (φ : List ℕ) (at m : ℕ) (g : ℕ → ℕ) : Type 0 where
 pub record Low (φ : List ℕ) (at : ℕ) : Type 0 where
   pub first : getD φ (at + 1) 0 < 8
   pub second : getD φ (at + 2) 0 < 8
+
+-- ---- what is asked of a row and of the words
+-- the row at `at` stands in the table, and the depth and the heap words in use are within their limits
+pub record RowAt (φ : List ℕ) (at h u : ℕ) : Type 0 where
+  pub whole : at + 8 ≤ length φ
+  pub depth : h ≤ 256
+  pub used : u ≤ 2048
+
+-- the same, of a row that names registers
+pub record LowRow (φ : List ℕ) (at h u : ℕ) : Type 0 where
+  pub whole : at + 8 ≤ length φ
+  pub low : Low φ at
+  pub depth : h ≤ 256
+  pub used : u ≤ 2048
+
+-- registers, stack and heap as long as the limits
+pub record Words (rk rn sk sn hk hn : List ℕ) : Type 0 where
+  pub registers : Long 8 rk rn
+  pub stack : Long 256 sk sn
+  pub heap : Long 2048 hk hn
 
 -- ---- what is asked of handles
 -- each handle in a register is at a tuple's start: its length word and its components stand within the heap's limit

@@ -1,5 +1,5 @@
 -- Laws of one read and of one write, of table entries and of operands.
-use mathlib.Core.Path.{_≡_, refl, ap, sym, _∙_, subst}
+use mathlib.Core.Path.{_≡_, refl, ap, sym, _∙_}
 use mathlib.Core.List.{List, [], _∷_}
 use Prim.Native.Nat.{ℕ, zero, suc, _+_, _*_, _/_, _<_, _≤_}
 use native.Mathlib.Nat.{le-of-suc-le-suc, not-suc-le-zero, mul-le-mul-left, mul-div-le, le-trans, div-lt-iff-lt-mul, mul-comm}
@@ -7,7 +7,7 @@ use native.Mathlib.Omega.{arith}
 use lib.ListN.{length, getD, List·getD-eq-default}
 use Rattle.exec.specs.Machine.{Word, Memory, at, junkKind, integer, label, baseWord, wordOf}
 use Rattle.tables.specs.Tables.{cell, span, baseOf, operandOf, operandAt}
-use Rattle.exec_words.specs.memory.Lent.{lent, operandTable, Sourced}
+use Rattle.exec_words.specs.memory.Lent.{lent, operandTable, Sourced, OperandAt}
 
 -- within the list a read is the same whatever stands past the end
 pub any-default : (l : List ℕ) (i d e : ℕ) → i < length l → getD l i d ≡ getD l i e
@@ -75,9 +75,9 @@ module _ (R : Memory) where
     pub operand-lab : (getD os (4 * v) 0 ≡ 0 → ⊥) → (getD os (4 * v) 0 ≡ 1 → ⊥) → label (getD bs v 0) ≡ wordOf R (operandAt (operandTable os bs) v)
     operand-lab a b = base-lab R _ _ a b ∙ base-is
 
--- a register that an operand of a list names
-pub low-at : (os bs : List ℕ) (v n f i : ℕ) → Sourced os bs v n → f ≡ v → i < n → getD os (4 * (f + i)) 0 ≡ 0 → getD bs (f + i) 0 < 8
-low-at os bs v n f i s e h = subst (λ (x : ℕ). getD os (4 * (x + i)) 0 ≡ 0 → getD bs (x + i) 0 < 8) (sym e) (s .low i h)
+-- an operand of a list
+pub operand-at : {os bs : List ℕ} {v n f i : ℕ} → Sourced os bs v n → f ≡ v → i < n → OperandAt os bs (f + i)
+operand-at s e h = rw e (record { operands = omega arith; bases = omega arith; low = s .low _ h })
 
 -- a word by its two parts
 pub word-is : (w : Word) {k n : ℕ} → k ≡ w .kind → n ≡ w .number → _≡_ {A = Word} (record { kind = k; number = n }) w

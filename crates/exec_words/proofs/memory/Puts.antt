@@ -9,7 +9,7 @@ use lib.Seq.{sets, take-all, length-take-le, drop-drop}
 use borrow.Rule.Slice.PartMut.{putMid}
 use Rattle.exec.specs.Machine.{Word, Memory, put, puts, integer, wordOf}
 use Rattle.tables.specs.Tables.{OperandTable, operandAt, operandsAt}
-use Rattle.exec_words.specs.memory.Lent.{lent, tupleOf}
+use Rattle.exec_words.specs.memory.Lent.{lent, tupleOf, WordAt}
 
 -- ---- one list
 set-behind : (p q : List ℕ) (j x : ℕ) → set (p ++ q) (length p + j) x ≡ p ++ set q j x
@@ -43,10 +43,13 @@ part s a =
     let q : length (drop a s) ≤ length s - a = omega (arith, length-drop a s) in
     take-all (length s - a) (drop a s) q
 
-pub room-in : (s : List ℕ) (u a n : ℕ) → a ≡ u → u + n < length s → n < length (take (length s - a) (drop a s))
+room-in : (s : List ℕ) (u a n : ℕ) → a ≡ u → u + n < length s → n < length (take (length s - a) (drop a s))
 room-in s u a n e h =
     let q : n < length (drop a s) = omega (arith, length-drop a s, e, h) in
     subst (λ (t : List ℕ). n < length t) (sym (part s a)) q
+
+pub word-in-part : {hk hn : List ℕ} {u a n : ℕ} → a ≡ u → WordAt (u + n) hk hn → WordAt n (take (length hk - a) (drop a hk)) (take (length hn - a) (drop a hn))
+word-in-part {hk} {hn} e w = record { kinds = room-in hk _ _ _ e (w .kinds); numbers = room-in hn _ _ _ e (w .numbers) }
 
 back : (s y : List ℕ) (a : ℕ) → a ≤ length s → putMid a (length s - a) s y ≡ take a s ++ y
 back s y a h =
@@ -65,7 +68,9 @@ in-part hk hn yk yn u ws lk ln h =
     λ i. record { kinds = k i; numbers = n i }
 
 -- the same, where the part's start is another name for u
-pub in-tail : (hk hn yk yn : List ℕ) (u a : ℕ) (ws : List Word) → a ≡ u → a ≤ length hk → a ≤ length hn → lent yk yn ≡ puts (lent (take (length hk - a) (drop a hk)) (take (length hn - a) (drop a hn))) 0 ws → lent (putMid a (length hk - a) hk yk) (putMid a (length hn - a) hn yn) ≡ puts (lent hk hn) u ws
+pub in-tail : (hk hn yk yn : List ℕ) (u a : ℕ) (ws : List Word) → a ≡ u → a ≤ length hk → a ≤ length hn → lent yk yn ≡ puts
+    (lent (take (length hk - a) (drop a hk)) (take (length hn - a) (drop a hn))) 0 ws → lent (putMid a (length hk - a) hk yk)
+    (putMid a (length hn - a) hn yn) ≡ puts (lent hk hn) u ws
 in-tail hk hn yk yn u a ws e lk ln h = in-part hk hn yk yn a ws lk ln h ∙ ap (λ (i : ℕ). puts (lent hk hn) i ws) e
 
 -- ---- loops: what is left to write from here gives the whole

@@ -28,3 +28,19 @@ pub record Sourced (os bs : List ℕ) (v n : ℕ) : Type 0 where
   pub bases : v + n ≤ length bs
   pub operands : 4 * (v + n) ≤ length os
   pub low : (k : ℕ) → k < n → getD os (4 * (v + k)) 0 ≡ 0 → getD bs (v + k) 0 < 8
+
+-- kinds and numbers of at least n words
+pub record Long (n : ℕ) (ks ns : List ℕ) : Type 0 where
+  pub kinds : n ≤ length ks
+  pub numbers : n ≤ length ns
+
+-- the word at i is lent
+pub record WordAt (i : ℕ) (ks ns : List ℕ) : Type 0 where
+  pub kinds : i < length ks
+  pub numbers : i < length ns
+
+-- operand v stands in the tables, and if it is a register it is below 8
+pub record OperandAt (os bs : List ℕ) (v : ℕ) : Type 0 where
+  pub operands : 4 * v < length os
+  pub bases : v < length bs
+  pub low : getD os (4 * v) 0 ≡ 0 → getD bs v 0 < 8

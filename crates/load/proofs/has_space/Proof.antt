@@ -5,12 +5,6 @@ use borrow.Author.Needs.{needs}
 use Rattle.load.proofs.has_space.Statement.{statement}
 use Rattle.load.proofs.has_space.Tie as tie
 
-returns : tie.Need-returns
-returns c = refuted (λ r. let h = r .rows in omega arith)
-
-returns-2 : tie.Need-returns-2
-returns-2 c = refuted (λ r. let h = r .uses in omega arith)
-
 returns-3 : tie.Need-returns-3
 returns-3 c =
     let s : tie.Start = search in
@@ -19,5 +13,5 @@ returns-3 c =
 
 pub has-space-spec : {M : Type 1} → statement M
 has-space-spec =
-    tie.close (tie.spec (λ c. search needs) (λ c. search needs) (λ c. search needs) returns (λ c. search needs) (λ c. search needs)
-    returns-2 (λ c. search needs) returns-3)
+    tie.close (tie.spec (λ c. search needs) (λ c. search needs) (λ c. search needs) (λ c. refuted (λ r. let h = r .rows in omega arith))
+    (λ c. search needs) (λ c. search needs) (λ c. refuted (λ r. let h = r .uses in omega arith)) (λ c. search needs) returns-3)

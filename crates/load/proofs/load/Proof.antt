@@ -68,7 +68,9 @@ module _ (p : tie.After-lay-out) where
   placed : (l ns : List ℕ) (r : Loaded) → length l ≡ length (image read) → LoadIs (text read) (storeIn at l ns) (useSection at l) (topSection at l) r → LoadIs (text read) (stored l ns) (useSection (placesOf (length l)) l) (topSection (placesOf (length l)) l) r
   placed l ns r e x = subst (λ (q : Places). LoadIs (text read) (storeIn q l ns) (useSection q l) (topSection q l) r) (p .lay-out .ensures ∙ sym (ap placesOf e)) x
 
-space : (f : tie.After-second-pass) → SpaceFor (read (places-of (space-of f)) .read-text .result .rows) (at (places-of (space-of f)) .blocks - at (places-of (space-of f)) .rows) (at (places-of (space-of f)) .tops - at (places-of (space-of f)) .uses) (at (places-of (space-of f)) .shared - at (places-of (space-of f)) .tops)
+space : (f : tie.After-second-pass) → SpaceFor (read (places-of (space-of f)) .read-text .result .rows)
+    (at (places-of (space-of f)) .blocks - at (places-of (space-of f)) .rows) (at (places-of (space-of f)) .tops - at (places-of
+    (space-of f)) .uses) (at (places-of (space-of f)) .shared - at (places-of (space-of f)) .tops)
 space f = space-of f .has-space .ensures .0 (not-false (space-of f .has-space .result) (search))
 
 returns : tie.Need-returns
@@ -94,29 +96,42 @@ returns-3 c =
     let u : tie.After-unfit2 = search in
     let p = places-of h in
     let s = start-of (read p) in
-    fits-not (ap (λ (x : Loaded). x .fits) (u .unfit2 .ensures)) (λ q. failed (h .has-space .result) (h .has-space .ensures .1) (search) (space-at (at p) (s .args .image .now) (s .args .numbers .now) (read p .read-text .result .rows) (subst (Ordered (at p)) (read p .read-text .kept .1 .0) (in-order p)) (decoded p .few-rows) (subst (λ (x : Places). Space (storeIn x (s .args .image .now) (s .args .numbers .now)) (length (useSection x (s .args .image .now))) (length (topSection x (s .args .image .now)))) (sym (p .lay-out .ensures ∙ ap placesOf (read p .read-text .kept .1 .0))) q)))
+    fits-not (ap (λ (x : Loaded). x .fits) (u .unfit2 .ensures)) (λ q. failed (h .has-space .result) (h .has-space .ensures .1) (search)
+    (space-at (at p) (s .args .image .now) (s .args .numbers .now) (read p .read-text .result .rows) (subst (Ordered (at p))
+    (read p .read-text .kept .1 .0) (in-order p)) (decoded p .few-rows) (subst (λ (x : Places). Space (storeIn x (s .args .image .now)
+    (s .args .numbers .now)) (length (useSection x (s .args .image .now))) (length (topSection x (s .args .image .now))))
+    (sym (p .lay-out .ensures ∙ ap placesOf (read p .read-text .kept .1 .0))) q)))
 
 second-pass-requires : tie.Need-second-pass-requires
 second-pass-requires c κs =
     let h : tie.After-has-space = search in
     let p = places-of h in
     let q = few-ok (text (read p)) (storeIn (at p) (image (read p)) (numbers (read p))) (read p .read-text .result) (decoded p) (first-clear p) in
-    (in-order p, q .0, q .1, q .2, q .3)
+    (in-order p, q .0, q .1)
 
 returns-4 : tie.Need-returns-4
 returns-4 c =
     let f : tie.After-second-pass = search in
     let u : tie.After-refused2 = search in
     let p = places-of (space-of f) in
-    fits (ap (λ (x : Loaded). x .fits) (u .refused2 .ensures)) (found-two (text (read p)) (storeIn (at p) (image (read p)) (numbers (read p))) (read p .read-text .result) (decoded p) (first-clear p) (f .second-pass .result) (f .second-pass .ensures) (u .refused2 .result) _ _ _ (search) (u .refused2 .ensures))
+    fits (ap (λ (x : Loaded). x .fits) (u .refused2 .ensures)) (found-two (text (read p)) (storeIn (at p) (image (read p))
+    (numbers (read p))) (read p .read-text .result) (decoded p) (first-clear p) (f .second-pass .result) (f .second-pass .ensures)
+    (u .refused2 .result) _ _ _ (search) (u .refused2 .ensures))
 
 prepare-requires : tie.Need-prepare-requires
 prepare-requires c κs =
     let f : tie.After-second-pass = search in
     let z : f .second-pass .result .number ≡ 0 = search in
     let p = places-of (space-of f) in
-    let σ = storeIn (at p) (image (read p)) (numbers (read p)) in
-    ((in-order p, decoded p .few-rows, space f .rows, space f .uses, space f .tops), (rows-seen (text (read p)) σ (read p .read-text .result) (decoded p) (first-clear p) (f .second-pass .result) (f .second-pass .ensures) z, rows-small-in (text (read p)) σ (read p .read-text .result) (decoded p) (first-clear p) (f .second-pass .result) (f .second-pass .ensures)))
+    let σ = storeIn (at p) (image (read p)) (numbers (read p)) in (
+      (in-order p, decoded p .few-rows, space f),
+      (
+        rows-seen (text (read p)) σ (read p .read-text .result) (decoded p) (first-clear p)
+            (f .second-pass .result) (f .second-pass .ensures) z,
+        rows-small-in (text (read p)) σ (read p .read-text .result) (decoded p)
+            (first-clear p) (f .second-pass .result) (f .second-pass .ensures),
+      ),
+    )
 
 returns-5 : tie.Need-returns-5
 returns-5 c =
@@ -126,7 +141,9 @@ returns-5 c =
     let p = places-of (space-of f) in
     let l = q .prepare .last .0 in
     let k = q .prepare .ensures .1 in
-    fits refl (placed p l (numbers (read p)) _ (k .size) (loaded-in (text (read p)) (at p) (image (read p)) (numbers (read p)) (read p .read-text .result) (decoded p) (first-clear p) (f .second-pass .result) (f .second-pass .ensures) l (q .prepare .ensures .0) k z (space-in (at p) l (read p .read-text .result .rows) (subst (Ordered (at p)) (sym (k .size)) (in-order p)) (space f))))
+    fits refl (placed p l (numbers (read p)) _ (k .size) (loaded-in (text (read p)) (at p) (image (read p)) (numbers (read p))
+    (read p .read-text .result) (decoded p) (first-clear p) (f .second-pass .result) (f .second-pass .ensures) l (q .prepare .ensures .0)
+    k z (space-in (at p) l (read p .read-text .result .rows) (subst (Ordered (at p)) (sym (k .size)) (in-order p)) (space f))))
 
 pub load-spec : {M : Type 1} → statement M
 load-spec =

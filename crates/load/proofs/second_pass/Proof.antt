@@ -7,7 +7,7 @@ pass-two-requires : tie.Need-pass-two-requires
 unfolding part
 pass-two-requires c κs =
     let s : tie.Start = search in
-    (s .pre .1, s .pre .2, s .pre .3, s .pre .4)
+    (s .pre .1 .rows, s .pre .1 .blocks, s .pre .1 .instrs, s .pre .2)
 
 returns : tie.Need-returns
 unfolding part

@@ -16,9 +16,6 @@ Inv-loop a b i₀ i = (length a ≡ length b) × (sameBytes (drop i a) (drop i b
 abbrev μ-loop : tie.MeasureT-loop
 μ-loop a b i₀ i = length a - i
 
-returns : tie.Need-returns Inv-loop μ-loop
-returns c = sym (differ-long _ _ (search))
-
 returns-2 : tie.Need-returns-2 Inv-loop μ-loop
 returns-2 c =
     let i2 : tie.In-loop Inv-loop μ-loop = search in
@@ -44,5 +41,5 @@ returns-3 c =
 
 pub same-spec : {M : Type 1} → statement M
 same-spec =
-    tie.close (tie.spec Inv-loop μ-loop returns (λ c. search) (λ c. search) (λ c. search needs) returns-2 (λ c. search needs)
-    (λ c. search needs) loop-again returns-3)
+    tie.close (tie.spec Inv-loop μ-loop (λ c. sym (differ-long _ _ (search))) (λ c. search) (λ c. search) (λ c. search needs) returns-2
+    (λ c. search needs) (λ c. search needs) loop-again returns-3)

@@ -95,7 +95,13 @@ module _ (line : List ℕ) (at kind : ℕ) where
 
 -- ---- four in a row, each from where the one before left off
 module _ (line : List ℕ) (at k l m n : ℕ) where
-  four-slots : (p q r s : Bool) (a b c d i j g h : ℕ) → when p (a, fieldsFrom line i) ≡ readSlot k (fieldsFrom line at) → when q (b, fieldsFrom line j) ≡ readSlot l (fieldsFrom line i) → when r (c, fieldsFrom line g) ≡ readSlot m (fieldsFrom line j) → when s (d, fieldsFrom line h) ≡ readSlot n (fieldsFrom line g) → when ((p && q) && (r && s)) (a ∷ b ∷ c ∷ d ∷ [], fieldsFrom line h) ≡ readSlots (k ∷ l ∷ m ∷ n ∷ []) (fieldsFrom line at)
+  four-slots : (p q r s : Bool) (a b c d i j g h : ℕ) → when p (a, fieldsFrom line i) ≡ readSlot k (fieldsFrom line at)
+      → when q (b, fieldsFrom line j) ≡ readSlot l (fieldsFrom line i) → when r (c, fieldsFrom line g) ≡ readSlot m (fieldsFrom line j)
+      → when s (d, fieldsFrom line h) ≡ readSlot n (fieldsFrom line g) → when ((p && q) && (r && s)) (
+        a ∷ b ∷ c ∷ d ∷ [],
+        fieldsFrom line
+            h,
+      ) ≡ readSlots (k ∷ l ∷ m ∷ n ∷ []) (fieldsFrom line at)
   unfolding readSlots
   four-slots true true true true a b c d i j g h e f u v = simp (← e, ← f, ← u, ← v)
   four-slots true true true false a b c d i j g h e f u v = simp (← e, ← f, ← u, ← v)
@@ -106,7 +112,14 @@ module _ (line : List ℕ) (at k l m n : ℕ) where
 all-ok : (p q r s t u w : Bool) → t ≡ (p && q) → u ≡ (r && s) → w ≡ (t && u) → w ≡ ((p && q) && (r && s))
 all-ok p q r s t u w e f g = g ∙ ap (λ (x : Bool). x && u) e ∙ ap (λ (x : Bool). (p && q) && x) f
 
-pub slots-are : (line : List ℕ) (at : ℕ) (ks : List ℕ) (k l m n : ℕ) (x y z w : Slot) (t u v : Bool) → ks ≡ k ∷ l ∷ m ∷ n ∷ [] → slotOf line x ≡ readSlot k (fieldsFrom line at) → slotOf line y ≡ readSlot l (fieldsFrom line (x .next + 1)) → slotOf line z ≡ readSlot m (fieldsFrom line (y .next + 1)) → slotOf line w ≡ readSlot n (fieldsFrom line (z .next + 1)) → t ≡ (x .ok && y .ok) → u ≡ (z .ok && w .ok) → v ≡ (t && u) → when v (x .value ∷ y .value ∷ z .value ∷ w .value ∷ [], fieldsFrom line (w .next + 1)) ≡ readSlots ks (fieldsFrom line at)
+pub slots-are : (line : List ℕ) (at : ℕ) (ks : List ℕ) (k l m n : ℕ) (x y z w : Slot) (t u v : Bool) → ks ≡ k ∷ l ∷ m ∷ n ∷ []
+    → slotOf line x ≡ readSlot k (fieldsFrom line at) → slotOf line y ≡ readSlot l (fieldsFrom line (x .next + 1))
+    → slotOf line z ≡ readSlot m (fieldsFrom line (y .next + 1)) → slotOf line w ≡ readSlot n (fieldsFrom line (z .next + 1))
+    → t ≡ (x .ok && y .ok) → u ≡ (z .ok && w .ok) → v ≡ (t && u) → when v (
+      x .value ∷ y .value ∷ z .value ∷ w .value ∷ [],
+      fieldsFrom line
+          (w .next + 1),
+    ) ≡ readSlots ks (fieldsFrom line at)
 slots-are line at ks k l m n x y z w t u v is a b c d e f g =
     ap (λ (o : Bool). when o (x .value ∷ y .value ∷ z .value ∷ w .value ∷ [], fieldsFrom line (w .next + 1))) (all-ok (x .ok) (y .ok) (z .ok) (w .ok) t u v e f g)
     ∙ four-slots line at k l m n (x .ok) (y .ok) (z .ok) (w .ok) (x .value) (y .value) (z .value) (w .value) (x .next + 1) (y .next + 1) (z .next + 1) (w .next + 1) a b c d
@@ -117,7 +130,9 @@ and-true : (t : Bool) → t ≡ (t && true)
 and-true true = refl
 and-true false = refl
 
-pub two-slots : (line : List ℕ) (at k l m n : ℕ) (x y : Slot) (t : Bool) → slotOf line x ≡ readSlot k (fieldsFrom line at) → slotOf line y ≡ readSlot l (fieldsFrom line (x .next + 1)) → t ≡ (x .ok && y .ok) → m ≡ 0 → n ≡ 0 → when t (x .value ∷ y .value ∷ 0 ∷ 0 ∷ [], fieldsFrom line (y .next + 1)) ≡ readSlots (k ∷ l ∷ m ∷ n ∷ []) (fieldsFrom line at)
+pub two-slots : (line : List ℕ) (at k l m n : ℕ) (x y : Slot) (t : Bool) → slotOf line x ≡ readSlot k (fieldsFrom line at)
+    → slotOf line y ≡ readSlot l (fieldsFrom line (x .next + 1)) → t ≡ (x .ok && y .ok) → m ≡ 0 → n ≡ 0
+    → when t (x .value ∷ y .value ∷ 0 ∷ 0 ∷ [], fieldsFrom line (y .next + 1)) ≡ readSlots (k ∷ l ∷ m ∷ n ∷ []) (fieldsFrom line at)
 two-slots line at k l m n x y t a b e p q =
     let z : Slot = record { ok = true; value = 0; next = y .next } in
     slots-are line at (k ∷ l ∷ m ∷ n ∷ []) k l m n x y z z t true t refl a b (slot-zero line (y .next + 1) m p) (slot-zero line (y .next + 1) n q) e refl (and-true t)

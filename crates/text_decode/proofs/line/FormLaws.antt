@@ -96,7 +96,9 @@ slots-read (zero ∷ ks) k fs = slots-read ks (λ ns. k (0 ∷ ns)) fs ∙ joine
 slots-read (suc x ∷ ks) k [] = refl
 slots-read (suc x ∷ ks) k (f ∷ fs) = go (plainField (suc x) f) (λ n. slots-read ks (λ ns. k (n ∷ ns)) fs)
   where
-    go : (o : Option ℕ) → ((n : ℕ) → slots ks (λ ns. k (n ∷ ns)) fs ≡ bind (readSlots ks fs) (λ r. k (n ∷ r .0) (r .1))) → bind o (λ n. slots ks (λ ns. k (n ∷ ns)) fs) ≡ bind {A = Read} (bind {A = ℕ × List (List ℕ)} (bind o (λ n. some (n, fs))) (λ r. bind (readSlots ks (r .1)) (λ q. some (r .0 ∷ q .0, q .1)))) (λ r. k (r .0) (r .1))
+    go : (o : Option ℕ) → ((n : ℕ) → slots ks (λ ns. k (n ∷ ns)) fs ≡ bind (readSlots ks fs) (λ r. k (n ∷ r .0) (r .1)))
+        → bind o (λ n. slots ks (λ ns. k (n ∷ ns)) fs) ≡ bind {A = Read} (bind {A = ℕ × List (List ℕ)} (bind o (λ n. some (n, fs)))
+        (λ r. bind (readSlots ks (r .1)) (λ q. some (r .0 ∷ q .0, q .1)))) (λ r. k (r .0) (r .1))
     go none h = refl
     go (some n) h = h n ∙ joined (readSlots ks fs) n k
 
@@ -144,7 +146,9 @@ module _ (e : List Operand → Entry) where
   tail-read (suc (suc m)) fs = rest-read operand (suc (suc m)) fs e ∙ enough (suc (suc m)) (atMost (suc (suc m)) operand fs)
 
 -- a line of any form but U and C
-pub plain-form : (parts : List ℕ) (code : ℕ) (fs : List (List ℕ)) → code < 34 → (code ≡ 3 → ⊥) → (code ≡ 5 → ⊥) → formAt forms code fs ≡ bind (readSlots (kindsOf code) fs) (λ r. bind (atMost (formCell code 4) operand (r .1)) (λ vs. when (leb (fewest (formCell code 4)) (length vs)) (entryBy code parts (r .0) vs)))
+pub plain-form : (parts : List ℕ) (code : ℕ) (fs : List (List ℕ)) → code < 34 → (code ≡ 3 → ⊥) → (code ≡ 5 → ⊥) → formAt forms code
+    fs ≡ bind (readSlots (kindsOf code) fs) (λ r. bind (atMost (formCell code 4) operand (r .1))
+    (λ vs. when (leb (fewest (formCell code 4)) (length vs)) (entryBy code parts (r .0) vs)))
 unfolding formBy
 plain-form parts code fs h p q =
     form-by parts code fs h
@@ -216,11 +220,15 @@ pub code-form : (f : List ℕ) (fs : List (List ℕ)) → formAt forms 5 (f ∷ 
 unfolding formBy codeForm _>>=_ readSlot plainField
 code-form f fs = form-by [] 5 (f ∷ fs) (lit< tt) ∙ go (letters f) fs
   where
-    onto : (q : List Kind) (gs : List (List ℕ)) (o : Option ℕ) → bind o (λ s. rest (λ n. eqb n 8) known (λ rs. row (rowC q s rs)) gs) ≡ bind {A = ℕ × List (List ℕ)} (bind o (λ n. some (n, gs))) (λ r. bind (atMost 8 (partNumber true) (r .1)) (λ ns. when (eqb (length ns) 8) (row (rowC q (r .0) (map knownOf ns)))))
+    onto : (q : List Kind) (gs : List (List ℕ)) (o : Option ℕ) → bind o (λ s. rest (λ n. eqb n 8) known (λ rs. row (rowC q s rs))
+        gs) ≡ bind {A = ℕ × List (List ℕ)} (bind o (λ n. some (n, gs))) (λ r. bind (atMost 8 (partNumber true) (r .1))
+        (λ ns. when (eqb (length ns) 8) (row (rowC q (r .0) (map knownOf ns)))))
     onto q gs none = refl
     onto q gs (some s) = eight q s gs
 
-    go : (o : Option (List Kind)) (gs : List (List ℕ)) → bind o (λ q. (rowNumber >>= (λ s. rest (λ n. eqb n 8) known (λ rs. row (rowC q s rs)))) gs) ≡ bind o (λ q. bind (readSlot 2 gs) (λ r. bind (atMost 8 (partNumber true) (r .1)) (λ ns. when (eqb (length ns) 8) (row (rowC q (r .0) (map knownOf ns))))))
+    go : (o : Option (List Kind)) (gs : List (List ℕ))
+        → bind o (λ q. (rowNumber >>= (λ s. rest (λ n. eqb n 8) known (λ rs. row (rowC q s rs)))) gs) ≡ bind o (λ q. bind (readSlot 2 gs)
+        (λ r. bind (atMost 8 (partNumber true) (r .1)) (λ ns. when (eqb (length ns) 8) (row (rowC q (r .0) (map knownOf ns))))))
     go none gs = refl
     go (some q) [] = refl
     go (some q) (g ∷ gs) = onto q gs (rowNumber g)

@@ -25,7 +25,7 @@ use Rattle.text_fields.specs.names.Letters.{countOf, kindCode, codesOf}
 use Rattle.text_fields.specs.names.Names.{formAt}
 use Rattle.text_decode.specs.line.Fields.{fieldsFrom, readSlot, readSlots, atMost, partNumber}
 use Rattle.text_decode.specs.line.Forms.{formTable, formCell, kindsOf, fewest, entryWith}
-use Rattle.text_decode.specs.line.Answers.{slotOf, slotsOf, PartsRead, SameOperands, OperandsRead, noEntry, saidBy, PlainIs, RowIs, FormIs}
+use Rattle.text_decode.specs.line.Answers.{slotOf, slotsOf, PartsRead, SameOperands, OperandsRead, noEntry, saidBy, PlainForm, PlainIs, RowIs, FormIs}
 use Rattle.text_decode.specs.declared.line.Slot.{Slot}
 use Rattle.text_decode.specs.declared.line.Slots.{Slots}
 use Rattle.text_decode.specs.declared.line.Count.{Count}
@@ -74,12 +74,12 @@ operands-length ω v (suc n) = ap suc (operands-length ω (suc v) n)
 same-refl : (n k : ℕ) (ω : OperandTable) → SameOperands n k ω ω
 same-refl n k ω = record { kinds = refl; numbers = refl; args = refl }
 
-module _ (code : ℕ) (line : List ℕ) (at v a : ℕ) (lt : code < 34) (u : code ≡ 3 → ⊥) (c : code ≡ 5 → ⊥) (before : OperandTable) (x : Slots) (is : slotsOf line x ≡ readSlots (kindsOf code) (fieldsFrom line at)) where
+module _ (code : ℕ) (line : List ℕ) (at v a : ℕ) (g : PlainForm code) (before : OperandTable) (x : Slots) (is : slotsOf line x ≡ readSlots (kindsOf code) (fieldsFrom line at)) where
   abbrev After : List ℕ → List ℕ × List (List ℕ) → Option Entry
   After parts r = bind (atMost (formCell code 4) operand (r .1)) (λ vs. when (leb (fewest (formCell code 4)) (length vs)) (entryBy code parts (r .0) vs))
 
   whole : (parts : List ℕ) → formAt forms code (fieldsFrom line at) ≡ bind (slotsOf line x) (After parts)
-  whole parts = plain-form parts code (fieldsFrom line at) lt u c ∙ ap (λ (o : Option (List ℕ × List (List ℕ))). bind o (After parts)) (sym is)
+  whole parts = plain-form parts code (fieldsFrom line at) (g .known) (g .no-tuple) (g .no-code) ∙ ap (λ (o : Option (List ℕ × List (List ℕ))). bind o (After parts)) (sym is)
 
   pub plain-no-slots : (s : Said) → s ≡ noEntry → x .ok ≡ false → PlainIs code (fieldsFrom line at) v a before before s
   plain-no-slots s z e = rw z (record {
@@ -222,8 +222,12 @@ code-there after p s q few room parts same =
     let long : length codes ≡ length q = length-map (reverse q) kindCode ∙ length-reverse q in
     let in8 : p + 8 < length laid = omega (arith, length-sets after (p + 9) codes) in
     let count : getD parts (p + 8) 0 ≡ length q = same-at (p + 17) parts (set laid (p + 8) (length q)) (p + 8) (omega arith) same ∙ getD-set-same laid (p + 8) (length q) 0 in8 in
-    let there : span parts (p + 9) (length q) ≡ codes = span-same (p + 17) parts (set laid (p + 8) (length q)) (p + 9) (length q) (omega arith) same ∙ span-past laid (p + 8) (length q) (p + 9) (length q) (omega arith) ∙ ap (span laid (p + 9)) (sym long) ∙ span-sets after (p + 9) codes (omega arith) in
-    let regs : span parts p 8 ≡ span after p 8 = span-same (p + 8) parts after p 8 (le-refl (p + 8)) (same-less (p + 8) (p + 17) parts (set laid (p + 8) (length q)) (omega arith) same ∙ take-set-le (p + 8) laid (p + 8) (length q) (le-refl (p + 8)) ∙ same-sets (p + 8) after (p + 9) codes (omega arith)) in
+    let there : span parts (p + 9) (length q) ≡ codes = span-same (p + 17) parts (set laid (p + 8) (length q)) (p + 9) (length q)
+    (omega arith) same ∙ span-past laid (p + 8) (length q) (p + 9) (length q) (omega arith) ∙ ap (span laid (p + 9)) (sym long)
+    ∙ span-sets after (p + 9) codes (omega arith) in
+    let regs : span parts p 8 ≡ span after p 8 = span-same (p + 8) parts after p 8 (le-refl (p + 8)) (same-less (p + 8) (p + 17) parts
+    (set laid (p + 8) (length q)) (omega arith) same ∙ take-set-le (p + 8) laid (p + 8) (length q) (le-refl (p + 8)) ∙ same-sets (p + 8)
+    after (p + 9) codes (omega arith)) in
     simp (count, there, regs, letters-back, reverse-reverse)
 
 module _ (line : List ℕ) (at p : ℕ) (before : List ℕ) where

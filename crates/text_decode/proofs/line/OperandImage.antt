@@ -49,7 +49,9 @@ module _ (rest : List ℕ) (at most v a : ℕ) (p : Places) (l₀ ns₀ l ns : L
       back₂ : KindsBack p l₁ (ordered-as p l l₁ (args-back p l o y ey .size) o) z l₂
       back₂ = kinds-back p l₁ (ordered-as p l l₁ (args-back p l o y ey .size) o) z ez
 
-      pub on-in : n < most → OperandRoom (v + most) (a + 8 * most) (length (operandSection p l₀)) (length ns₀) (length (argSection p l₀)) → r .kind < 3 → z ≡ withOperand (operandSection p l₁) (v + n) r (a + m) → (ns′ : List ℕ) → ns′ ≡ set ns (v + n) (r .number) → OperandsGo rest at most v a (operandsIn p l₀ ns₀) (operandsIn p l₂ ns′) (e + 1) (n + 1) (m + r .count)
+      pub on-in : n < most → OperandRoom (v + most) (a + 8 * most) (length (operandSection p l₀)) (length ns₀) (length (argSection p l₀))
+          → r .kind < 3 → z ≡ withOperand (operandSection p l₁) (v + n) r (a + m) → (ns′ : List ℕ) → ns′ ≡ set ns (v + n) (r .number)
+          → OperandsGo rest at most v a (operandsIn p l₀ ns₀) (operandsIn p l₂ ns′) (e + 1) (n + 1) (m + r .count)
       on-in d room k z′ ns′ c =
           let b = args-back p l o y ey in
           rw (back₂ .kinds, back₂ .args, b .args) (operands-on rest at most v a (operandsIn p l₀ ns₀) (operandsIn p l ns) i n m g h e is d room r z ns′ y is′ k (z′ ∙ ap (λ (x : List ℕ). withOperand x (v + n) r (a + m)) (b .kinds)) c)

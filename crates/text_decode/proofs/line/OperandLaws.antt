@@ -228,7 +228,9 @@ module _ (rest : List ℕ) (at most v a : ℕ) (before : OperandTable) where
       next = rw (fields-next rest i e is l) at (g .walked)
 
       -- the field is no operand: only arguments may have been written, and there are none
-      pub operands-bad : (r : OperandRead) (args′ : List ℕ) → OperandIs (operand (take (e - i) (drop i rest))) (ω .args) (a + m) r args′ → 3 ≤ r .kind → (z : ℕ) → OperandsRead (fieldsFrom rest at) most v a before (operandTable (ω .operands) (ω .numbers) args′) (record { ok = false; count = n; args = m; next = z })
+      pub operands-bad : (r : OperandRead) (args′ : List ℕ) → OperandIs (operand (take (e - i) (drop i rest))) (ω .args) (a + m) r args′
+          → 3 ≤ r .kind → (z : ℕ) → OperandsRead (fieldsFrom rest at) most v a before (operandTable (ω .operands) (ω .numbers) args′)
+          (record { ok = false; count = n; args = m; next = z })
       operands-bad r args′ is′ k z =
           let k′ : 3 ≤ answerOf (operand (take (e - i) (drop i rest))) .kind = rw (is′ .answer) at k in
           let w : operand (take (e - i) (drop i rest)) ≡ none = no-operand (operand (take (e - i) (drop i rest))) k′ in
@@ -239,7 +241,9 @@ module _ (rest : List ℕ) (at most v a : ℕ) (before : OperandTable) where
             says = λ ρ s. walk-bad operand (fieldsFrom rest at) (fieldsFrom rest (e + 1)) n (g .xs) most (take (e - i) (drop i rest)) next w;
           })
 
-      on-stored : n < most → OperandRoom (v + most) (a + 8 * most) (length (before .operands)) (length (before .numbers)) (length (before .args)) → (x : Operand) → operand (take (e - i) (drop i rest)) ≡ some x → OperandsGo rest at most v a before (stored (ω .operands) (ω .numbers) (ω .args) (v + n) (a + m) x) (e + 1) (n + 1) (m + answerOf (some x) .count)
+      on-stored : n < most → OperandRoom (v + most) (a + 8 * most) (length (before .operands)) (length (before .numbers))
+          (length (before .args)) → (x : Operand) → operand (take (e - i) (drop i rest)) ≡ some x → OperandsGo rest at most v a before
+          (stored (ω .operands) (ω .numbers) (ω .args) (v + n) (a + m) x) (e + 1) (n + 1) (m + answerOf (some x) .count)
       on-stored l′ room x w =
           let σ : OperandTable = stored (ω .operands) (ω .numbers) (ω .args) (v + n) (a + m) x in
           let k : SameOperands (v + n) (a + m) σ ω = stored-kept (ω .operands) (ω .numbers) (ω .args) (v + n) (a + m) x in
@@ -261,11 +265,21 @@ module _ (rest : List ℕ) (at most v a : ℕ) (before : OperandTable) where
             long-args = length-sets (ω .args) (a + m) (argsOf (some x)) ∙ g .long-args;
             kept = same-on σ ω before v a (same-fewer σ ω v (v + n) a (a + m) (le-add-right v n) (le-add-right a m) k) (g .kept);
             xs = g .xs ++ (x ∷ []);
-            stands = λ ρ s. operands-snoc ρ v n ∙ ap₂ (λ (ys : List Operand) (y : Operand). ys ++ (y ∷ [])) (g .stands ρ (same-on ρ σ ω (v + n) (a + m) (same-fewer ρ σ (v + n) (v + (n + 1)) (a + m) (a + (m + answerOf (some x) .count)) (omega arith) (omega arith) s) k)) (stored-there (ω .operands) (ω .numbers) (ω .args) (v + n) (a + m) x (length f) neat (omega (arith, room .kinds, g .long-kinds)) (omega (arith, room .bases, g .long-numbers)) (omega (arith, room .rows, g .long-args)) ρ (same-fewer ρ σ (v + n + 1) (v + (n + 1)) (a + m + answerOf (some x) .count) (a + (m + answerOf (some x) .count)) (omega arith) (omega arith) s));
+            stands =
+                λ ρ s. operands-snoc ρ v n ∙ ap₂ (λ (ys : List Operand) (y : Operand). ys ++ (y ∷ []))
+                (g .stands ρ (same-on ρ σ ω (v + n) (a + m) (same-fewer ρ σ (v + n) (v + (n + 1)) (a + m)
+                (a + (m + answerOf (some x) .count)) (omega arith) (omega arith) s) k)) (stored-there (ω .operands) (ω .numbers) (ω .args)
+                (v + n) (a + m) x (length f) neat (omega (arith, room .kinds, g .long-kinds))
+                (omega (arith, room .bases, g .long-numbers)) (omega (arith, room .rows, g .long-args)) ρ (same-fewer ρ σ (v + n + 1)
+                (v + (n + 1)) (a + m + answerOf (some x) .count) (a + (m + answerOf (some x) .count)) (omega arith) (omega arith) s));
             walked = walk-on operand (fieldsFrom rest at) (fieldsFrom rest (e + 1)) n (g .xs) f x next w;
           }
 
-      pub operands-on : n < most → OperandRoom (v + most) (a + 8 * most) (length (before .operands)) (length (before .numbers)) (length (before .args)) → (r : OperandRead) (operands′ numbers′ args′ : List ℕ) → OperandIs (operand (take (e - i) (drop i rest))) (ω .args) (a + m) r args′ → r .kind < 3 → operands′ ≡ withOperand (ω .operands) (v + n) r (a + m) → numbers′ ≡ set (ω .numbers) (v + n) (r .number) → OperandsGo rest at most v a before (operandTable operands′ numbers′ args′) (e + 1) (n + 1) (m + r .count)
+      pub operands-on : n < most → OperandRoom (v + most) (a + 8 * most) (length (before .operands)) (length (before .numbers))
+          (length (before .args)) → (r : OperandRead) (operands′ numbers′ args′ : List ℕ)
+          → OperandIs (operand (take (e - i) (drop i rest))) (ω .args) (a + m) r args′ → r .kind < 3 → operands′ ≡ withOperand
+          (ω .operands) (v + n) r (a + m) → numbers′ ≡ set (ω .numbers) (v + n) (r .number) → OperandsGo rest at most v a before
+          (operandTable operands′ numbers′ args′) (e + 1) (n + 1) (m + r .count)
       operands-on l′ room r operands′ numbers′ args′ is′ k b₁ b₂ =
           let f : List ℕ = take (e - i) (drop i rest) in
           let k′ : answerOf (operand f) .kind < 3 = rw (is′ .answer) at k in

@@ -51,7 +51,9 @@ module _ (rest : List ℕ) (at : ℕ) (known : Bool) (most : ℕ) (before : List
 
       pub parts-on : (v : ℕ) → partNumber known (take (e - i) (drop i rest)) ≡ some v → n < most → p + n < length parts → PartsGo rest at known most before p (set parts (p + n) v) (e + 1) (n + 1)
       parts-on v b m h =
-          let here : span (set parts (p + n) v) p (n + 1) ≡ span parts p n ++ (v ∷ []) = span-snoc (set parts (p + n) v) p n ∙ ap₂ (λ (xs : List ℕ) (x : ℕ). xs ++ (x ∷ [])) (span-same (p + n) (set parts (p + n) v) parts p n (le-refl (p + n)) (take-set-le (p + n) parts (p + n) v (le-refl (p + n)))) (getD-set-same parts (p + n) v 0 h) in
+          let here : span (set parts (p + n) v) p (n + 1) ≡ span parts p n ++ (v ∷ []) = span-snoc (set parts (p + n) v) p n
+          ∙ ap₂ (λ (xs : List ℕ) (x : ℕ). xs ++ (x ∷ [])) (span-same (p + n) (set parts (p + n) v) parts p n (le-refl (p + n))
+          (take-set-le (p + n) parts (p + n) v (le-refl (p + n)))) (getD-set-same parts (p + n) v 0 h) in
           record {
             few = omega arith;
             as-long = length-set parts (p + n) v ∙ g .as-long;

@@ -165,10 +165,15 @@ module _ (t : After-read-line) where
       subst (λ (σ : Store). ReadIs text σ r) (stored-as (places-of at-line .lay-out .result) (start-of at-line .args .image .now) (t .read-line .last .1 .0) (places-of at-line .lay-out .ensures) (size-of t) (t .read-line .last .1 .1 .1 .0))
       (at-fault text (at-line .loop .at) (at-line .loop .line) (at-line .loop .place) (at-line .loop .u) before (at-line .loop .inv .0) starts-inside its-end refl its-end-inside after (t .read-line .result .line) line-is f w z r q)
 
-  goes-on : (f : ℕ) → f ≡ lineFault (t .read-line .result .line) (at-line .loop .place) (at-line .loop .u) → f ≡ 0 → (v : Used) → v ≡ usedAfter (at-line .loop .u) (t .read-line .result .line) → (p : ℕ) → p ≡ placeBehind (t .read-line .result .line) (at-line .loop .place) → Going text (at-line .loop .at + t .read-line .result .next + 1) (at-line .loop .line + 1) p v after
+  goes-on : (f : ℕ) → f ≡ lineFault (t .read-line .result .line) (at-line .loop .place) (at-line .loop .u) → f ≡ 0 → (v : Used)
+      → v ≡ usedAfter (at-line .loop .u) (t .read-line .result .line) → (p : ℕ) → p ≡ placeBehind (t .read-line .result .line)
+      (at-line .loop .place) → Going text (at-line .loop .at + t .read-line .result .next + 1) (at-line .loop .line + 1) p v after
   goes-on f w z v ev p ep =
       subst (λ (k : ℕ). Going text k (at-line .loop .line + 1) p v after) (sym (next-line f w z))
-      (turned text (at-line .loop .at) (at-line .loop .line) (at-line .loop .place) (at-line .loop .u) before (at-line .loop .inv .0) starts-inside its-end refl its-end-inside after (roomy t) (as-long-still (places-of at-line .lay-out .result) (at-line .loop .image) (t .read-line .last .1 .0) (at-line .loop .numbers) (t .read-line .last .1 .1 .1 .0) (order-of at-line) (t .read-line .ensures .2 .size) (t .read-line .kept .1 .1 .1 .0)) (t .read-line .result .line) line-is f w z v ev p ep)
+      (turned text (at-line .loop .at) (at-line .loop .line) (at-line .loop .place) (at-line .loop .u) before (at-line .loop .inv .0)
+      starts-inside its-end refl its-end-inside after (roomy t) (as-long-still (places-of at-line .lay-out .result) (at-line .loop .image)
+      (t .read-line .last .1 .0) (at-line .loop .numbers) (t .read-line .last .1 .1 .1 .0) (order-of at-line)
+      (t .read-line .ensures .2 .size) (t .read-line .kept .1 .1 .1 .0)) (t .read-line .result .line) line-is f w z v ev p ep)
 
 returns-3 : tie.Need-returns-3 Inv-loop μ-loop
 returns-3 c =

@@ -59,7 +59,9 @@ module _ (p : Places) (n : ℕ) (u : Used) where
   pub few-instrs : p .parts - p .instrs < 8 * (u .instrs + 1) → Says false
   few-instrs h l ns o e = let w = lengths p l o in refuted (λ r. let g = r .instrs in omega (arith, w .instrs))
 
-  pub by-blocks : 4 * (u .rows + 1) ≤ p .blocks - p .rows → 17 * (u .rows + 1) ≤ p .operands - p .parts → 4 * (u .operands + 16) ≤ p .args - p .operands → u .operands + 16 ≤ n → u .args + 128 ≤ p .uses - p .args → 8 * (u .instrs + 1) ≤ p .parts - p .instrs → u .args ≤ 32768 → Says (leb (2 * (u .blocks + 1)) (p .instrs - p .blocks))
+  pub by-blocks : 4 * (u .rows + 1) ≤ p .blocks - p .rows → 17 * (u .rows + 1) ≤ p .operands - p .parts
+      → 4 * (u .operands + 16) ≤ p .args - p .operands → u .operands + 16 ≤ n → u .args + 128 ≤ p .uses - p .args
+      → 8 * (u .instrs + 1) ≤ p .parts - p .instrs → u .args ≤ 32768 → Says (leb (2 * (u .blocks + 1)) (p .instrs - p .blocks))
   by-blocks h1 h2 h3 h4 h5 h6 h7 l ns o e =
       let w = lengths p l o in
       decided (2 * (u .blocks + 1)) (p .instrs - p .blocks)

@@ -130,7 +130,9 @@ module _ (line : List ℕ) (u : Used) (σ : Store) (code : ℕ) (fs : List (List
 
     module _ (ok : s .ok ≡ true) (two : 2 * s .args ≤ length line) (room : RoomFor u σ) where
       -- the entry, whatever the parts and operands past those in use
-      entry-by : (ps : List ℕ) (ω : OperandTable) → take (17 * u .rows + 17) ps ≡ take (17 * u .rows + 17) parts′ → SameOperands (u .operands + s .count) (u .args + s .args) ω (operandTable operands′ numbers′ args′) → some (entryWith code (s .a) (s .b) (s .c) (s .d) ps (operandsAt ω (u .operands) (s .count))) ≡ entryOf (fieldsOf line)
+      entry-by : (ps : List ℕ) (ω : OperandTable) → take (17 * u .rows + 17) ps ≡ take (17 * u .rows + 17) parts′ → SameOperands
+          (u .operands + s .count) (u .args + s .args) ω (operandTable operands′ numbers′ args′) → some (entryWith code (s .a) (s .b)
+          (s .c) (s .d) ps (operandsAt ω (u .operands) (s .count))) ≡ entryOf (fieldsOf line)
       entry-by ps ω p o = simp ok at (form .says ps ω p o) ∙ sym is
 
       good-row : code < 10 → LineIs line u σ (store (sets (σ .rows) (4 * u .rows) (code ∷ s .a ∷ s .b ∷ [])) parts′ operands′ numbers′ args′ (σ .instrs) (σ .blocks)) Row
@@ -209,7 +211,17 @@ module _ (line : List ℕ) (u : Used) (σ : Store) (code : ℕ) (fs : List (List
             let back : (code - 11) + 11 ≡ code = omega arith in
             let enough : fewest (formCell ((code - 11) + 11) 4) ≤ s .count = omega (arith, form .enough ok, ap (λ (j : ℕ). fewest (formCell j 4)) back) in
             let at : (i : ℕ) → i < 7 → cell 8 (ρ .instrs) (u .instrs) i ≡ getD ((code - 11) ∷ s .a ∷ s .b ∷ s .c ∷ s .d ∷ u .operands ∷ s .count ∷ []) i 0 = instr-cells ρ t in
-            let is-instr : instrAt (ρ .instrs) (operandsOf ρ) (u .instrs) ≡ instrWith (code - 11) (s .a) (s .b) (s .c) (s .d) (operandsAt (operandsOf ρ) (u .operands) (s .count)) = simp (at 0 (lit< tt), at 1 (lit< tt), at 2 (lit< tt), at 3 (lit< tt), at 4 (lit< tt), at 5 (lit< tt), at 6 (lit< tt)) (instr-is (s .a) (s .b) (s .c) (s .d) (operandsOf ρ) (u .operands) (code - 11) (s .count) (omega arith) enough) in
+            let is-instr : instrAt (ρ .instrs) (operandsOf ρ) (u .instrs) ≡ instrWith (code - 11) (s .a) (s .b) (s .c) (s .d)
+            (operandsAt (operandsOf ρ) (u .operands) (s .count)) = simp (
+              at 0 (lit< tt),
+              at 1 (lit< tt),
+              at 2 (lit< tt),
+              at 3 (lit< tt),
+              at 4 (lit< tt),
+              at 5 (lit< tt),
+              at 6 (lit< tt),
+            ) (instr-is (s .a) (s .b) (s .c) (s .d) (operandsOf ρ) (u .operands) (code - 11)
+            (s .count) (omega arith) enough) in
             ap (λ (x : Instr). some (instr x)) is-instr
             ∙ ap some (sym (instr-entry code (s .a) (s .b) (s .c) (s .d) parts′ (operandsAt (operandsOf ρ) (u .operands) (s .count)) h))
             ∙ entry-by parts′ (operandsOf ρ) refl (t .operands)

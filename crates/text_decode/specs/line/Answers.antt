@@ -1,5 +1,5 @@
 -- What the readers' answers stand for, and what they leave in the tables.
-use Prim.Native.Nat.{ℕ, _+_, _*_, _≤_}
+use Prim.Native.Nat.{ℕ, _+_, _*_, _≤_, _<_}
 use mathlib.Core.Path.{_≡_}
 use mathlib.Core.Bool.{Bool, true, false}
 use mathlib.Core.Option.{Option}
@@ -98,6 +98,12 @@ noEntry = record { ok = false; a = 0; b = 0; c = 0; d = 0; count = 0; args = 0; 
 -- the entry of the form at place `code`
 abbrev pub saidBy : ℕ → Said → List ℕ → List Operand → Option Entry
 saidBy code s parts vs = when (s .ok) (entryWith code (s .a) (s .b) (s .c) (s .d) parts vs)
+
+-- the form at place `code` is neither U nor C, whose fields are rows and registers
+pub record PlainForm (code : ℕ) : Type 0 where
+  pub known : code < 34
+  pub no-tuple : code ≡ 3 → ⊥
+  pub no-code : code ≡ 5 → ⊥
 
 -- s is what the fields fs say by the form at place `code`. Its operands stand in `after` from v on, their arguments from a on.
 pub record PlainIs (code : ℕ) (fs : List (List ℕ)) (v a : ℕ) (before after : OperandTable) (s : Said) : Type 0 where

@@ -51,6 +51,19 @@ pub record RoomFor (u : Used) (σ : Store) : Type 0 where
   pub instrs : 8 * (u .instrs + 1) ≤ length (σ .instrs)
   pub blocks : 2 * (u .blocks + 1) ≤ length (σ .blocks)
 
+-- an image with its sections at these places has room for what a line's fields say: a row's parts, an instruction's operands
+pub record FieldRoom (p : Places) (image numbers : List ℕ) (u : Used) : Type 0 where
+  pub ordered : Ordered p (length image)
+  pub parts : 17 * (u .rows + 1) ≤ length (partSection p image)
+  pub operands : OperandRoom (u .operands + 16) (u .args + 128) (length (operandSection p image)) (length numbers) (length (argSection p image))
+
+-- it has room for the line itself: a row, an instruction or a block
+pub record EntryRoom (p : Places) (image : List ℕ) (u : Used) : Type 0 where
+  pub ordered : Ordered p (length image)
+  pub rows : 4 * (u .rows + 1) ≤ length (rowSection p image)
+  pub instrs : 8 * (u .instrs + 1) ≤ length (instrSection p image)
+  pub blocks : 2 * (u .blocks + 1) ≤ length (blockSection p image)
+
 -- Room for one row, one block and one instruction more than document 01 allows: a line is read before its place is looked at. A text of at
 -- most 65,536 bytes carries at most 32,768 arguments, since each takes two bytes. So every text has room.
 pub record Room (σ : Store) : Type 0 where

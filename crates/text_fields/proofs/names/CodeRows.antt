@@ -81,7 +81,9 @@ unfolding allLetters eachLetter
 all-good [] h = (refl, refl)
 all-good (b ∷ f) h = go (eqb (letterCode b) 2) refl h (all-good f)
   where
-    go : (t : Bool) → eqb (letterCode b) 2 ≡ t → cond t false (allLetters f) ≡ true → (allLetters f ≡ true → (eachLetter f ≡ some (map kindOf f)) × (map kindCode (map kindOf f) ≡ map letterCode f)) → (eachLetter (b ∷ f) ≡ some (map kindOf (b ∷ f))) × (map kindCode (map kindOf (b ∷ f)) ≡ map letterCode (b ∷ f))
+    go : (t : Bool) → eqb (letterCode b) 2 ≡ t → cond t false (allLetters f) ≡ true → (allLetters f ≡ true
+        → (eachLetter f ≡ some (map kindOf f)) × (map kindCode (map kindOf f) ≡ map letterCode f))
+        → (eachLetter (b ∷ f) ≡ some (map kindOf (b ∷ f))) × (map kindCode (map kindOf (b ∷ f)) ≡ map letterCode (b ∷ f))
     go true p e r = absurd (true≢false (sym e))
     go false p e r =
         let w = is-letter b p in

@@ -288,7 +288,14 @@ module _ (s : List ℕ) (at : ℕ) (p : InLine s at) (x : Scan) (g : ScanIs s (a
     plain-here u k v e h =
         let w = there s at p (x .value) scanned u (way-of (getD s at 0)) in
         let b : Base = w .0 .0 in
-        let q : _≡_ {A = OperandRead} (record { kind = k; number = v; count = 0; row = 0 }) (record { kind = baseKind b; number = baseNumber b; count = 0; row = 0 }) = ap (λ (i : ℕ). record { kind = i; number = v; count = 0; row = 0 }) (e ∙ w .0 .2) ∙ ap (λ (i : ℕ). record { kind = baseKind b; number = i; count = 0; row = 0 }) (h ∙ w .0 .3) in
+        let q : _≡_ {A = OperandRead} (record { kind = k; number = v; count = 0; row = 0 })
+        (record { kind = baseKind b; number = baseNumber b; count = 0; row = 0 }) = ap (λ (i : ℕ). record {
+          kind = i;
+          number = v;
+          count = 0;
+          row = 0;
+        }) (e ∙ w .0 .2) ∙ ap (λ (i : ℕ). record { kind = baseKind b; number = i; count = 0; row = 0 })
+        (h ∙ w .0 .3) in
         record {
           read = λ z l to. plain-is (fieldIn s at) b l to (record { kind = k; number = v; count = 0; row = 0 }) (w .0 .1) q;
           ends = λ z. g .ends t ∙ w .1;

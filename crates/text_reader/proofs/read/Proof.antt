@@ -186,7 +186,9 @@ module _ {M : Type 1} (𝓤 : URA M) (H : Heap 𝓤) (A : Atoms 𝓤) (W : Given
         use3 W (raw (Next 𝓤 H A at-mem run .pre (to-next l₃ ν δ))) (goes-next l₃ ν δ) $
         -- [what `next` asks; the way back; …; the lender's part; what s owns; the place; the open borrow; obs; auth; …; …; _7; …]
         calls-at ! fm (Next 𝓤 H A at-mem run) known-next (to-next l₃ ν δ) (and-then ! (load ! (from ! (stop !)) (look ! 11 refl)) (no-more !)) (λ u′.
-        use1 W (later (some (λ (line : RefT (List ℕ)). ((‵ (flft (ν ∷ κ) (PosShare·left q)) ⊛ ‵ (flft κ (PosShare·right q)) ⊛ ‵ ftrue) ⊛ ‵ (ShrSlice (named 0) κ u8 .own line (u′ ∷ []))) ⊛ raw (ensured 𝓤 H A next.ended (next.clauses 𝓤 H A at-mem run) (κs ν) (lent l₃ δ, tt) tt line)))) (id⊢ 𝓤 _) $ await ! tt $ pick ! (λ line.
+        use1 W (later (some (λ (line : RefT (List ℕ)). ((‵ (flft (ν ∷ κ) (PosShare·left q)) ⊛ ‵ (flft κ (PosShare·right q)) ⊛ ‵ ftrue) ⊛ ‵
+        (ShrSlice (named 0) κ u8 .own line (u′ ∷ []))) ⊛ raw (ensured 𝓤 H A next.ended (next.clauses 𝓤 H A at-mem run) (κs ν)
+        (lent l₃ δ, tt) tt line)))) (id⊢ 𝓤 _) $ await ! tt $ pick ! (λ line.
         split ! $ move ! (1 ∷ []) $ use1 W (some (λ (zs : Reader × Unit {0}). ‵ (lasts next.ended (κs ν) (lent l₃ δ, tt) zs) ⊛ raw (fact 𝓤 ((line .now ≡ lineFrom (s .now) a) × (zs .0 ≡ r₁))))) (id⊢ 𝓤 _) $ pick ! (λ zs.
         split ! $ move ! (1 ∷ []) $ heard ! ((line .now ≡ lineFrom (s .now) a) × (zs .0 ≡ r₁)) (λ e′. fsplit ! $ move ! (1 ∷ []) $ drop ! $ move ! (1 ∷ []) $ split ! $ move ! (1 ∷ []) $
         peeks ! (ShrSlice erased κ u8) (Is (ShrSlice erased κ u8)) (shows 𝓤 H A (ShrSlice erased κ u8)) line (u′ ∷ []) (λ line-is.
@@ -222,7 +224,16 @@ module _ {M : Type 1} (𝓤 : URA M) (H : Heap 𝓤) (A : Atoms 𝓤) (W : Given
 read-meets : {M : Type 1} (𝓤 : URA M) (H : Heap 𝓤) (A : Atoms 𝓤) (W : Given 𝓤 H A) (mem : Memory → SProp 𝓤) (run : Routine → Fun 𝓤) (𝓣 : Tables 𝓤 H)
     → Triple 𝓤 (𝓣 .C #text-reader·new) (New 𝓤 H A mem run) → Triple 𝓤 (𝓣 .C #text-reader·next) (Next 𝓤 H A mem run) → Triple 𝓤 (𝓣 .C #text-reader·position) (Position 𝓤 H A mem run)
     → Meets 𝓤 H A read.signature (WpFn 𝓤 H (𝓣 .C) (𝓣 .Λ) code.function) (read.spec 𝓤 H A mem run)
-read-meets 𝓤 H A W mem run 𝓣 known-new known-next known-position = walk-meets 𝓤 H A read.ended stayed W (goes-none-slice 𝓤 H A W 2 (0 ∷ []) tt (plain (λ _. u8)) yes, (goes-ref 𝓤 H A W 2 1 tt (plain (λ _. usize)), tt)) (read.clauses 𝓤 H A mem run) (WpFn 𝓤 H (𝓣 .C) (𝓣 .Λ) code.function) (WpFn-mono 𝓤 H (W .laws) 𝓣 code.function)
+read-meets 𝓤 H A W mem run 𝓣 known-new known-next known-position =
+    walk-meets 𝓤 H A read.ended stayed W (
+      goes-none-slice 𝓤 H A W 2 (0 ∷ []) tt (plain (λ _. u8)) yes,
+      (
+        goes-ref 𝓤 H A W 2 1 tt
+            (plain (λ _. usize)),
+        tt,
+      ),
+    ) (read.clauses 𝓤 H A mem run) (WpFn 𝓤 H (𝓣 .C) (𝓣 .Λ) code.function) (WpFn-mono 𝓤 H (W .laws) 𝓣
+    code.function)
     (read-walks 𝓤 H A W mem run (𝓣 .C) (𝓣 .Λ) (fmOf 𝓤 H (W .laws) 𝓣) known-new known-next known-position)
 
 pub read-spec : {M : Type 1} → stated.statement M

@@ -242,7 +242,9 @@ module _ {M : Type 1} (𝓤 : URA M) (H : Heap 𝓤) (A : Atoms 𝓤) (W : Given
       split ! $ move ! (3 ∷ 1 ∷ []) $ join ! $ move ! (1 ∷ 0 ∷ []) $ join ! $ frame ! $ rewrite ! 0 (λ (m : ℕ). ‵ (Out (st .held) m)) (st .ok .long) refl $
       nothing ! $ move ! (1 ∷ 0 ∷ []) $ fjoin ! $ move ! (1 ∷ 0 ∷ []) $ fjoin ! $ frame ! $ owned ! usize (Is usize) (uint-makes 𝓤 H A W w64) (st .n) _ (refl, fits) $ done !
 
-  module _ (𝓣 : Tables 𝓤 H) (known-new : Triple 𝓤 (𝓣 .C #text-reader·new) (New 𝓤 H A at-mem run)) (known-end : Triple 𝓤 (𝓣 .C #text-reader·at-end) (AtEnd 𝓤 H A at-mem run)) (known-next : Triple 𝓤 (𝓣 .C #text-reader·next) (Next 𝓤 H A at-mem run)) (known-keep : Triple 𝓤 (𝓣 .C #text-reader·keep) (Keep 𝓤 H A at-mem run))
+  module _ (𝓣 : Tables 𝓤 H) (known-new : Triple 𝓤 (𝓣 .C #text-reader·new) (New 𝓤 H A at-mem run)) (known-end : Triple 𝓤
+      (𝓣 .C #text-reader·at-end) (AtEnd 𝓤 H A at-mem run)) (known-next : Triple 𝓤 (𝓣 .C #text-reader·next) (Next 𝓤 H A at-mem run))
+      (known-keep : Triple 𝓤 (𝓣 .C #text-reader·keep) (Keep 𝓤 H A at-mem run))
       (p : Is (ShrSlice (named 0) κ u8) s (v ∷ [])) (p₂ : Is (MutSlice (named 1) κ₂ E) (places γ ys) (ov ∷ [])) where
     -- the counts fit
     fits : (st : St) → st .n < 2 ^ 64
@@ -256,7 +258,15 @@ module _ {M : Type 1} (𝓤 : URA M) (H : Heap 𝓤) (A : Atoms 𝓤) (W : Given
       En = (τ 0, l₀) ∷ (τ 1, l₁) ∷ (τ 2, l₂) ∷ (τ 3, l₃) ∷ (τ 4, l₄) ∷ (τ 5, l₅) ∷ (τ 6, l₆) ∷ (τ 7, l₇) ∷ (τ 8, l₈) ∷ (τ 9, l₉) ∷ (τ 10, l₁₀) ∷ (τ 11, l₁₁) ∷ (τ 12, l₁₂) ∷ (τ 13, l₁₃) ∷ []
 
       abbrev Inv : St → List (Item 𝓤)
-      Inv st = ‵ (OwnR (reads st)) ∷ ‵ (flft κ q) ∷ ‵ (Out (st .held) (length (st .held))) ∷ ‵ (flft κ₂ q₂) ∷ ‵ Own ∷ ‵ (froom (τ 13) l₁₃ 0) ∷ ‵ (fdies (τ 13) l₁₃) ∷ ‵ (froom (τ 12) l₁₂ 0) ∷ ‵ (fdies (τ 12) l₁₂) ∷ ‵ (froom (τ 11) l₁₁ 0) ∷ ‵ (fdies (τ 11) l₁₁) ∷ ‵ (froom (τ 10) l₁₀ 0) ∷ ‵ (fdies (τ 10) l₁₀) ∷ ‵ (froom (τ 9) l₉ 0) ∷ ‵ (fdies (τ 9) l₉) ∷ ‵ (froom (τ 8) l₈ 0) ∷ ‵ (fdies (τ 8) l₈) ∷ ‵ (froom (τ 7) l₇ 0) ∷ ‵ (fdies (τ 7) l₇) ∷ ‵ (froom (τ 6) l₆ 0) ∷ ‵ (fdies (τ 6) l₆) ∷ ‵ (froom (τ 5) l₅ 0) ∷ ‵ (fdies (τ 5) l₅) ∷ ‵ (fat fullShare (τ 4) l₄ 0 (vint w64 (st .n))) ∷ ‵ (fdies (τ 4) l₄) ∷ ‵ (fat fullShare (τ 3) l₃ 0 (T′.lowered (reads st))) ∷ ‵ (fdies (τ 3) l₃) ∷ ‵ (fat fullShare (τ 2) l₂ 0 (ov)) ∷ ‵ (fdies (τ 2) l₂) ∷ ‵ (fat fullShare (τ 1) l₁ 0 (v)) ∷ ‵ (fdies (τ 1) l₁) ∷ ‵ (froom (τ 0) l₀ 0) ∷ ‵ (fdies (τ 0) l₀) ∷ []
+      Inv st =
+          ‵ (OwnR (reads st)) ∷ ‵ (flft κ q) ∷ ‵ (Out (st .held) (length (st .held))) ∷ ‵ (flft κ₂ q₂) ∷ ‵ Own ∷ ‵
+          (froom (τ 13) l₁₃ 0) ∷ ‵ (fdies (τ 13) l₁₃) ∷ ‵ (froom (τ 12) l₁₂ 0) ∷ ‵ (fdies (τ 12) l₁₂) ∷ ‵ (froom (τ 11) l₁₁ 0) ∷ ‵
+          (fdies (τ 11) l₁₁) ∷ ‵ (froom (τ 10) l₁₀ 0) ∷ ‵ (fdies (τ 10) l₁₀) ∷ ‵ (froom (τ 9) l₉ 0) ∷ ‵ (fdies (τ 9) l₉) ∷ ‵
+          (froom (τ 8) l₈ 0) ∷ ‵ (fdies (τ 8) l₈) ∷ ‵ (froom (τ 7) l₇ 0) ∷ ‵ (fdies (τ 7) l₇) ∷ ‵ (froom (τ 6) l₆ 0) ∷ ‵
+          (fdies (τ 6) l₆) ∷ ‵ (froom (τ 5) l₅ 0) ∷ ‵ (fdies (τ 5) l₅) ∷ ‵ (fat fullShare (τ 4) l₄ 0 (vint w64 (st .n))) ∷ ‵
+          (fdies (τ 4) l₄) ∷ ‵ (fat fullShare (τ 3) l₃ 0 (T′.lowered (reads st))) ∷ ‵ (fdies (τ 3) l₃) ∷ ‵ (fat fullShare (τ 2) l₂ 0
+          (ov)) ∷ ‵ (fdies (τ 2) l₂) ∷ ‵ (fat fullShare (τ 1) l₁ 0 (v)) ∷ ‵ (fdies (τ 1) l₁) ∷ ‵ (froom (τ 0) l₀ 0) ∷ ‵
+          (fdies (τ 0) l₀) ∷ []
 
     walk : ent 𝓤 (onEntry 𝓤 H A read-all.signature (κ, (κ₂, tt)) (q, (q₂, tt)) x at) (WpFn 𝓤 H (𝓣 .C) (𝓣 .Λ) code.function (v ∷ ov ∷ []) Post)
     unfolding afterTurn
@@ -299,7 +309,10 @@ module _ {M : Type 1} (𝓤 : URA M) (H : Heap 𝓤) (A : Atoms 𝓤) (W : Given
         leaves-loop ! (load ! (from ! (stop !)) (look ! 13 refl)) $ exec ! (𝓣 .C) (𝓣 .Λ) (En l₀ l₁ l₂ l₃ l₄ l₅ l₆ l₇ l₈ l₉ l₁₀ l₁₁ l₁₂ l₁₃) lowered.t-5 (atRet (En l₀ l₁ l₂ l₃ l₄ l₅ l₆ l₇ l₈ l₉ l₁₀ l₁₁ l₁₂ l₁₃) Post) $
         assigns ! (of-opd ! (load ! (from ! (stop !)) (look ! 23 refl))) (from ! (stop !)) (init ! 31 refl (tt, record { fits = fits st })) $
         returns ! (look ! 31 refl) $ forget ! 13 refl $ forget ! 15 refl $ forget ! 17 refl $ forget ! 23 refl $ forget ! 25 refl $ forget ! 27 refl $ forget ! 29 refl $ forget ! 31 refl $
-        move ! (31 ∷ 32 ∷ []) $ free1 ! $ move ! (29 ∷ 30 ∷ []) $ free1 ! $ move ! (27 ∷ 28 ∷ []) $ free1 ! $ move ! (25 ∷ 26 ∷ []) $ free1 ! $ move ! (23 ∷ 24 ∷ []) $ free1 ! $ move ! (21 ∷ 22 ∷ []) $ free1 ! $ move ! (19 ∷ 20 ∷ []) $ free1 ! $ move ! (17 ∷ 18 ∷ []) $ free1 ! $ move ! (15 ∷ 16 ∷ []) $ free1 ! $ move ! (13 ∷ 14 ∷ []) $ free1 ! $ move ! (11 ∷ 12 ∷ []) $ free1 ! $ move ! (9 ∷ 10 ∷ []) $ free1 ! $ move ! (7 ∷ 8 ∷ []) $ free1 ! $ move ! (5 ∷ 6 ∷ []) $ free1 ! $ free0 ! $
+        move ! (31 ∷ 32 ∷ []) $ free1 ! $ move ! (29 ∷ 30 ∷ []) $ free1 ! $ move ! (27 ∷ 28 ∷ []) $ free1 ! $ move ! (25 ∷ 26 ∷ []) $
+        free1 ! $ move ! (23 ∷ 24 ∷ []) $ free1 ! $ move ! (21 ∷ 22 ∷ []) $ free1 ! $ move ! (19 ∷ 20 ∷ []) $ free1 ! $ move !
+        (17 ∷ 18 ∷ []) $ free1 ! $ move ! (15 ∷ 16 ∷ []) $ free1 ! $ move ! (13 ∷ 14 ∷ []) $ free1 ! $ move ! (11 ∷ 12 ∷ []) $ free1 ! $
+        move ! (9 ∷ 10 ∷ []) $ free1 ! $ move ! (7 ∷ 8 ∷ []) $ free1 ! $ move ! (5 ∷ 6 ∷ []) $ free1 ! $ free0 ! $
         keeps ! (0 ∷ 2 ∷ 3 ∷ 4 ∷ []) $ by ! (exits st (fits st) (sym ended ∙ at-last))) (λ not-yet.
         -- it is not: the reader is lent to `next` for a lifetime of the call
         rewrite ! 17 (λ (z : Bool). ‵ (fat fullShare tyBool l₇ 0 (vbool z))) not-yet refl $
@@ -314,7 +327,9 @@ module _ {M : Type 1} (𝓤 : URA M) (H : Heap 𝓤) (A : Atoms 𝓤) (W : Given
         use3 W (raw (Next 𝓤 H A at-mem run .pre (to-next (reads st) l₃ ν δ))) (goes-next (reads st) l₃ ν δ) $
         -- [what `next` asks; the way back; …; the lender's part; what the places own; 's's token; what s owns; _13; …; _0; …]
         calls-at ! (fmOf 𝓤 H (W .laws) 𝓣) (Next 𝓤 H A at-mem run) known-next (to-next (reads st) l₃ ν δ) (and-then ! (load ! (from ! (stop !)) (look ! 13 refl)) (no-more !)) (λ u₂.
-        use1 W (later (some (λ (line : RefT (List ℕ)). ((‵ (flft (ν ∷ κ) (PosShare·left q)) ⊛ ‵ (flft κ (PosShare·right q)) ⊛ ‵ ftrue) ⊛ ‵ (E .own line (u₂ ∷ []))) ⊛ raw (ensured 𝓤 H A next.ended (next.clauses 𝓤 H A at-mem run) (κs ν) (lent (reads st) l₃ δ, tt) tt line)))) (id⊢ 𝓤 _) $ await ! tt $ pick ! (λ line.
+        use1 W (later (some (λ (line : RefT (List ℕ)). ((‵ (flft (ν ∷ κ) (PosShare·left q)) ⊛ ‵ (flft κ (PosShare·right q)) ⊛ ‵ ftrue) ⊛ ‵
+        (E .own line (u₂ ∷ []))) ⊛ raw (ensured 𝓤 H A next.ended (next.clauses 𝓤 H A at-mem run) (κs ν) (lent (reads st) l₃ δ, tt) tt
+        line)))) (id⊢ 𝓤 _) $ await ! tt $ pick ! (λ line.
         split ! $ move ! (1 ∷ []) $ use1 W (some (λ (zs : Reader × Unit {0}). ‵ (lasts next.ended (κs ν) (lent (reads st) l₃ δ, tt) zs) ⊛ raw (fact 𝓤 ((line .now ≡ lineFrom bytes (st .at)) × (zs .0 ≡ moved (reads st)))))) (id⊢ 𝓤 _) $ pick ! (λ zs.
         split ! $ move ! (1 ∷ []) $ heard ! ((line .now ≡ lineFrom bytes (st .at)) × (zs .0 ≡ moved (reads st))) (λ e′. fsplit ! $ move ! (1 ∷ []) $ drop ! $ move ! (1 ∷ []) $ split ! $ move ! (1 ∷ []) $
         peeks ! (ShrSlice erased κ u8) (Is (ShrSlice erased κ u8)) (shows 𝓤 H A (ShrSlice erased κ u8)) line (u₂ ∷ []) (λ line-is.
@@ -334,8 +349,14 @@ module _ {M : Type 1} (𝓤 : URA M) (H : Heap 𝓤) (A : Atoms 𝓤) (W : Given
         use2 W (‵ (flft (ν₂ ∷ κ) (PosShare·left q)) ⊛ raw (Rest 𝓤 H A W ν₂ (PosShare·left q))) (within-token 𝓤 H A W ν₂ κ (PosShare·left q)) $ split ! $ move ! (0 ∷ 2 ∷ 3 ∷ 8 ∷ []) $ join ! $
         use3 W (raw (Keep 𝓤 H A at-mem run .pre (to-keep ν₂ δ₂ (st .held) (st .n) line u₂))) (goes-keep ν₂ δ₂ (st .held) (st .n) line u₂ (fits st)) $
         -- [what `keep` asks; the way back; what the holder keeps; _3; what the reader owns; …; …; what s owns; _13; …; _0; …]
-        calls-at ! (fmOf 𝓤 H (W .laws) 𝓣) (Keep 𝓤 H A at-mem run) known-keep (to-keep ν₂ δ₂ (st .held) (st .n) line u₂) (and-then ! (load ! (from ! (stop !)) (look ! 8 refl)) (and-then ! (load ! (from ! (stop !)) (look ! 26 refl)) (and-then ! (load ! (from ! (stop !)) (look ! 24 refl)) (no-more !)))) (λ u₃.
-        use1 W (later (some (λ (k : Unit {0}). ((‵ (flft (ν₂ ∷ κ) (PosShare·left q)) ⊛ ‵ (flft κ (PosShare·right q)) ⊛ ‵ ftrue) ⊛ ‵ (Nothing .own k (u₃ ∷ []))) ⊛ raw (ensured 𝓤 H A keep.ended (keep.clauses 𝓤 H A at-mem run) (κs ν₂) (places δ₂ (st .held), (st .n, (line, tt))) tt k)))) (id⊢ 𝓤 _) $ await ! tt $ pick ! (λ k.
+        calls-at ! (fmOf 𝓤 H (W .laws) 𝓣) (Keep 𝓤 H A at-mem run) known-keep (to-keep ν₂ δ₂ (st .held) (st .n) line u₂)
+        (and-then ! (load ! (from ! (stop !)) (look ! 8 refl)) (and-then ! (load ! (from ! (stop !)) (look ! 26 refl))
+        (and-then ! (load ! (from ! (stop !)) (look ! 24 refl)) (no-more !)))) (λ u₃.
+        use1 W (later (some (λ (k : Unit {0}). ((‵ (flft (ν₂ ∷ κ) (PosShare·left q)) ⊛ ‵ (flft κ (PosShare·right q)) ⊛ ‵ ftrue) ⊛ ‵
+        (Nothing .own k (u₃ ∷ []))) ⊛ raw (ensured 𝓤 H A keep.ended (keep.clauses 𝓤 H A at-mem run) (κs ν₂) (
+          places δ₂ (st .held),
+          (st .n, (line, tt)),
+        ) tt k)))) (id⊢ 𝓤 _) $ await ! tt $ pick ! (λ k.
         split ! $ move ! (1 ∷ []) $ use1 W (some (λ (ws : Parts × (Unit {0} × (Unit {0} × Unit {0}))). ‵ (lasts keep.ended (κs ν₂) (places δ₂ (st .held), (st .n, (line, tt))) ws) ⊛ raw (fact 𝓤 (ws .0 ≡ set (st .held) (st .n) line)))) (id⊢ 𝓤 _) $ pick ! (λ ws.
         split ! $ move ! (1 ∷ []) $ heard ! (ws .0 ≡ set (st .held) (st .n) line) (λ e″. fsplit ! $ fsplit ! $ move ! (1 ∷ []) $ feqL ! (λ as-long.
         move ! (2 ∷ []) $ split ! $ move ! (1 ∷ []) $ peeks ! Nothing (Is Nothing) (shows 𝓤 H A Nothing) k (u₃ ∷ []) (λ k-is.
@@ -349,7 +370,13 @@ module _ {M : Type 1} (𝓤 : URA M) (H : Heap 𝓤) (A : Atoms 𝓤) (W : Given
         assigns-last ! (bin ! (load ! (from ! (stop !)) (look ! 28 refl)) (lit ! tt) (record { fits = one-fits st (sym ended ∙ not-yet) })) (from ! (stop !)) (store ! 28 refl (tt, record { fits = one-fits st (sym ended ∙ not-yet) })) $
         forget ! 10 refl $ forget ! 12 refl $ forget ! 14 refl $ forget ! 16 refl $ forget ! 18 refl $ forget ! 20 refl $ forget ! 22 refl $ forget ! 26 refl $
         keeps ! (6 ∷ 0 ∷ 2 ∷ 3 ∷ 9 ∷ 10 ∷ 11 ∷ 12 ∷ 13 ∷ 14 ∷ 15 ∷ 16 ∷ 17 ∷ 18 ∷ 19 ∷ 20 ∷ 21 ∷ 22 ∷ 23 ∷ 24 ∷ 25 ∷ 26 ∷ 27 ∷ 28 ∷ 29 ∷ 5 ∷ 30 ∷ 31 ∷ 32 ∷ 33 ∷ 34 ∷ 35 ∷ 36 ∷ []) $
-        again ! (Falls bytes ys) (Inv l₀ l₁ l₂ l₃ l₄ l₅ l₆ l₇ l₈ l₉ l₁₀ l₁₁ l₁₂ l₁₃) st (onward st line (sym ended ∙ not-yet) (e′ .0)) (nearer bytes ys (st .held) (st .at) (st .n) (st .ok) (sym ended ∙ not-yet)))))))))))))))))))))))) (record { at = 0; n = 0; held = ys; ok = none-read bytes ys })))))))))))))))))))
+        again ! (Falls bytes ys) (Inv l₀ l₁ l₂ l₃ l₄ l₅ l₆ l₇ l₈ l₉ l₁₀ l₁₁ l₁₂ l₁₃) st (onward st line (sym ended ∙ not-yet) (e′ .0)) (nearer bytes ys (st .held) (st .at) (st .n) (st .ok) (sym ended ∙ not-yet)))))))))))))))))))))))) (record {
+          at =
+              0;
+          n = 0;
+          held = ys;
+          ok = none-read bytes ys;
+        })))))))))))))))))))
       where
         onward : (st : St) (line : RefT (List ℕ)) → endedAt bytes (st .at) ≡ false → line .now ≡ lineFrom bytes (st .at) → St
         onward st line t e = record { at = nextFrom bytes (st .at); n = st .n + 1; held = set (st .held) (st .n) line; ok = one-read bytes ys (st .held) (st .at) (st .n) (st .ok) line t e }

@@ -92,7 +92,26 @@ abbrev eq-stack-claims : ℕ → eq-stack-lts.Claims
 eq-stack-claims t = (same-stack-reads.Asked, same-stack-reads.Learnt, store-reads.Asked, store-reads.Learnt, next-pair-reads.Asked, next-pair-reads.Learnt, greater-reads.Asked, greater-reads.Learnt, eq-value-below t, eq-value.Post)
 
 abbrev eq-value-claims : ℕ → eq-value-lts.Claims
-eq-value-claims t = (same-place-reads.Asked, same-place-reads.Learnt, read-value-reads.Asked, read-value-reads.Learnt, pair-up-reads.Asked, pair-up-reads.Learnt, at-reads.Asked, at-reads.Learnt, is-stack-reads.Asked, is-stack-reads.Learnt, eq-value-below t, eq-value.Post, eq-parts-below t, eq-parts.Post, eq-stack-below t, eq-stack.Post, eq-code-below t, eq-code.Post)
+eq-value-claims t = (
+  same-place-reads.Asked,
+  same-place-reads.Learnt,
+  read-value-reads.Asked,
+  read-value-reads.Learnt,
+  pair-up-reads.Asked,
+  pair-up-reads.Learnt,
+  at-reads.Asked,
+  at-reads.Learnt,
+  is-stack-reads.Asked,
+  is-stack-reads.Learnt,
+  eq-value-below t,
+  eq-value.Post,
+  eq-parts-below t,
+  eq-parts.Post,
+  eq-stack-below t,
+  eq-stack.Post,
+  eq-code-below t,
+  eq-code.Post,
+)
 
 abbrev C-Start : ℕ → Type 0
 C-Start t = eq-code-lts.Start (eq-code-claims t) (eq-code-at t) eq-code.Post
@@ -133,30 +152,32 @@ eq-code-eq-stack-requires t c κs =
     let a : C-Count t = search in
     let b : C-Count2 t = search in
     let t0 = s .pre .0 in
-    let rl = s .pre .1 .1 in
-    let rr = s .pre .1 .2 in
-    let r3 = s .pre .1 .3 in
-    let r4 = s .pre .1 .4 in
-    let r5 = s .pre .1 .5 in
-    let r6 = s .pre .1 .6 in
+    let rs = s .pre .1 .1 in
+    let bs = s .pre .1 .2 in
     let la = a .letter-count .ensures .1 in
-    let lb = b .letter-count2 .ensures .1 in
-    (omega arith, (tabled-low (tab (s .args .rows .now) (s .args .parts .now)) (s .args .args .now) (s .args .c .x) (s .args .c .y) (s .pre .1 .0) (omega arith) (omega arith), omega arith, omega arith, spare-low (s .args .k .m) (s .args .l) (s .args .r) _ (s .args .c .x) (s .args .c .y) (s .pre .1 .7) (omega arith) (omega arith)))
+    let lb = b .letter-count2 .ensures .1 in (
+      omega arith,
+      (
+        tabled-low (tab (s .args .rows .now) (s .args .parts .now)) (s .args .args .now) (s .args .c .x) (s .args .c .y)
+            (s .pre .1 .0) (omega arith) (omega arith),
+        search needs,
+        spare-low (s .args .k .m) (s .args .l) (s .args .r) _ (s .args .c .x)
+            (s .args .c .y) (s .pre .1 .3) (omega arith) (omega arith),
+      ),
+    )
 
 eq-code-cast-t25 : (t : ℕ) → eq-code-lts.Need-cast-t25 (eq-code-claims t) (eq-code-at t) eq-code.Post
 eq-code-cast-t25 t c =
     let e : C-Stack t = search in
     let s = c-start t (c-letters t e) in
-    let r4 = s .pre .1 .4 in
-    let r6 = s .pre .1 .6 in
+    let bs = s .pre .1 .2 in
     record { fits = omega arith }
 
 eq-code-cast-t26 : (t : ℕ) → eq-code-lts.Need-cast-t26 (eq-code-claims t) (eq-code-at t) eq-code.Post
 eq-code-cast-t26 t c =
     let e : C-Stack t = search in
     let s = c-start t (c-letters t e) in
-    let r4 = s .pre .1 .4 in
-    let r6 = s .pre .1 .6 in
+    let bs = s .pre .1 .2 in
     record { fits = omega arith }
 
 eq-code-eq-parts-requires : (t : ℕ) → eq-code-lts.Need-eq-parts-requires (eq-code-claims t) (eq-code-at t) eq-code.Post
@@ -167,15 +188,11 @@ eq-code-eq-parts-requires t c κs =
     let a = c-count t w in
     let b = c-count2 t w in
     let t0 = s .pre .0 in
-    let rl = s .pre .1 .1 in
-    let rr = s .pre .1 .2 in
-    let r3 = s .pre .1 .3 in
-    let r4 = s .pre .1 .4 in
-    let r5 = s .pre .1 .5 in
-    let r6 = s .pre .1 .6 in
+    let rs = s .pre .1 .1 in
+    let bs = s .pre .1 .2 in
     let la = a .letter-count .ensures .1 in
     let lb = b .letter-count2 .ensures .1 in
-    (omega arith, (s .pre .1 .0, omega arith, omega arith, omega arith, omega arith, omega arith, omega arith, omega arith, spare-kept (s .args .k .m) (s .args .l) (s .args .r) _ _ (s .pre .1 .7) (e .eq-stack .kept .1 .1 .1 .1 .1 .1 .0)))
+    (omega arith, (s .pre .1 .0, search needs, search needs, spare-kept (s .args .k .m) (s .args .l) (s .args .r) _ _ (s .pre .1 .3) (e .eq-stack .kept .1 .1 .1 .1 .1 .1 .0)))
 
 eq-code-returns : (t : ℕ) → eq-code-lts.Need-returns (eq-code-claims t) (eq-code-at t) eq-code.Post
 eq-code-returns t c =
@@ -281,17 +298,23 @@ eq-parts-eq-value-requires t c κs =
     let n = p-in t w in
     let l = p-loop t w in
     let s = p-start t w in
-    let hl = heads-low (s .args .l) (s .args .r) (h .h .given .0 .0) (h .h .given .0 .1 .0) (a .part .result) (b .part2 .result) (s .pre .1 .3) (s .pre .1 .4) (a .part .ensures .1) (b .part2 .ensures .1) (w .two-slots .ensures) (h .h .given .1) in
+    let hl = heads-low (s .args .l) (s .args .r) (h .h .given .0 .0) (h .h .given .0 .1 .0) (a .part .result) (b .part2 .result) (s .pre .1 .1 .left-row) (s .pre .1 .1 .right-row) (a .part .ensures .1) (b .part2 .ensures .1) (w .two-slots .ensures) (h .h .given .1) in
     let h0 = hl .0 in
     let h1 = hl .1 in
     let t0 = s .pre .0 in
-    let rl = s .pre .1 .1 in
-    let rr = s .pre .1 .2 in
-    let r5 = s .pre .1 .5 in
-    let r6 = s .pre .1 .6 in
-    let r7 = s .pre .1 .7 in
-    let k = n .loop-test .taken in
-    (omega arith, (tabled-low (tab (s .args .rows .now) (s .args .parts .now)) (s .args .args .now) (h .h .given .0 .0) (h .h .given .0 .1 .0) (s .pre .1 .0) (omega arith) (omega arith), omega arith, omega arith, spare-kept (s .args .k .m) (h .h .given .0 .0) (h .h .given .0 .1 .0) _ _ (spare-low (s .args .k .m) (s .args .l) (s .args .r) _ (h .h .given .0 .0) (h .h .given .0 .1 .0) (s .pre .1 .8) (omega arith) (omega arith)) (l .loop .inv .1)))
+    let rs = s .pre .1 .1 in
+    let ns = s .pre .1 .2 in
+    let k = n .loop-test .taken in (
+      omega arith,
+      (
+        tabled-low (tab (s .args .rows .now) (s .args .parts .now)) (s .args .args .now) (h .h .given .0 .0)
+            (h .h .given .0 .1 .0) (s .pre .1 .0) (omega arith) (omega arith),
+        search needs,
+        spare-kept (s .args .k .m) (h .h .given .0 .0)
+            (h .h .given .0 .1 .0) _ _ (spare-low (s .args .k .m) (s .args .l) (s .args .r) _ (h .h .given .0 .0) (h .h .given .0 .1 .0)
+            (s .pre .1 .3) (omega arith) (omega arith)) (l .loop .inv .1),
+      ),
+    )
 
 eq-parts-returns-2 : (t : ℕ) → eq-parts-lts.Need-returns-2 (eq-parts-claims t) (eq-parts-at t) eq-parts.Post eq-parts-Inv-loop eq-parts-μ-loop
 eq-parts-returns-2 t c =
@@ -310,11 +333,8 @@ eq-parts-add-i t c =
     let n : P-In t = search in
     let s : P-Start t = search in
     let t0 = s .pre .0 in
-    let rl = s .pre .1 .1 in
-    let rr = s .pre .1 .2 in
-    let r5 = s .pre .1 .5 in
-    let r6 = s .pre .1 .6 in
-    let r7 = s .pre .1 .7 in
+    let rs = s .pre .1 .1 in
+    let ns = s .pre .1 .2 in
     let k = n .loop-test .taken in
     omega arith
 
@@ -327,8 +347,11 @@ eq-parts-loop-again t c =
     let b = p-part2 t w in
     let n = p-in t w in
     let l = p-loop t w in
-    let s = p-start t w in
-    (parts-next _ _ _ _ _ _ _ _ _ _ _ _ _ (l .loop .inv .0) (n .loop-test .taken) (a .part .ensures .0) (b .part2 .ensures .0) (w .two-slots .ensures) (h .h .given .0 .0) (h .h .given .0 .1 .0) (h .h .given .1) (v .eq-value .ensures) (not-true (search)), v .eq-value .kept .1 .1 .1 .1 .1 .1 .0 ∙ l .loop .inv .1)
+    let s = p-start t w in (
+      parts-next _ _ _ _ _ _ _ _ _ _ _ _ _ (l .loop .inv .0) (n .loop-test .taken) (a .part .ensures .0) (b .part2 .ensures .0)
+          (w .two-slots .ensures) (h .h .given .0 .0) (h .h .given .0 .1 .0) (h .h .given .1) (v .eq-value .ensures) (not-true (search)),
+      v .eq-value .kept .1 .1 .1 .1 .1 .1 .0 ∙ l .loop .inv .1,
+    )
 
 eq-parts-returns-3 : (t : ℕ) → eq-parts-lts.Need-returns-3 (eq-parts-claims t) (eq-parts-at t) eq-parts.Post eq-parts-Inv-loop eq-parts-μ-loop
 eq-parts-returns-3 t c =
@@ -414,31 +437,47 @@ s-longer : (t : ℕ) (c : S-Pair t) → length (c .next-pair .last .1 .1 .1 .0) 
 s-longer t c = c .next-pair .kept .1 .1 .1 .0 ∙ s-long t (s-loop t c)
 
 s-spare : (t : ℕ) (c : S-Pair t) → Spare (s-start t (s-loop t c) .args .k .m) (s-start t (s-loop t c) .args .l) (s-start t (s-loop t c) .args .r) (length (c .next-pair .last .1 .1 .1 .0))
-s-spare t c = let s = s-start t (s-loop t c) in spare-kept (s .args .k .m) (s .args .l) (s .args .r) _ _ (s .pre .1 .3) (s-longer t c)
+s-spare t c = let s = s-start t (s-loop t c) in spare-kept (s .args .k .m) (s .args .l) (s .args .r) _ _ (s .pre .1 .2) (s-longer t c)
 
 own-reach : (t : ℕ) (c : S-Own t) → (c .s2 .given .0 .1 .0 + c .s2 .given .0 .0 ≤ s-start t (s-loop t (s-own-pair t c)) .args .l) × (c .s2 .given .0 .1 .1 .1 .0 + c .s2 .given .0 .1 .1 .0 ≤ s-start t (s-loop t (s-own-pair t c)) .args .r)
 own-reach t c =
     let p = s-own-pair t c in
     let l = s-loop t p in
     let s = s-start t l in
-    own-low (tab (s .args .rows .now) (s .args .parts .now)) (argsOf (tab (s .args .rows .now) (s .args .parts .now)) (s .args .args .now) (s .args .k .m)) (s .args .k .m) (s .args .k .by) (s .args .k .d) (s .args .l) (s .args .k .by2) (s .args .k .d2) (s .args .r) (side false (l .loop .pending)) (l .loop .i) (side true (l .loop .pending)) (l .loop .j) (l .loop .inv .0) (side false (p .next-pair .last .1 .1 .1 .0)) (side true (p .next-pair .last .1 .1 .1 .0)) (p .next-pair .result) (c .s2 .given .0 .0) (c .s2 .given .0 .1 .0) (c .s2 .given .0 .1 .1 .0) (c .s2 .given .0 .1 .1 .1 .0) (p .next-pair .ensures (s .args .parts .now)) (c .s2 .given .1)
+    own-low (tab (s .args .rows .now) (s .args .parts .now)) (argsOf (tab (s .args .rows .now) (s .args .parts .now)) (s .args .args .now)
+    (s .args .k .m)) (s .args .k .m) (s .args .k .by) (s .args .k .d) (s .args .l) (s .args .k .by2) (s .args .k .d2) (s .args .r)
+    (side false (l .loop .pending)) (l .loop .i) (side true (l .loop .pending)) (l .loop .j) (l .loop .inv .0)
+    (side false (p .next-pair .last .1 .1 .1 .0)) (side true (p .next-pair .last .1 .1 .1 .0)) (p .next-pair .result) (c .s2 .given .0 .0)
+    (c .s2 .given .0 .1 .0) (c .s2 .given .0 .1 .1 .0) (c .s2 .given .0 .1 .1 .1 .0) (p .next-pair .ensures (s .args .parts .now))
+    (c .s2 .given .1)
 
 own-ends : (t : ℕ) (c : S-Great t) → (c .greater .result < length (s-own-pair t (s-own t c) .next-pair .last .1 .1 .1 .0)) × (length (s-own-pair t (s-own t c) .next-pair .last .1 .1 .1 .0) ≤ 32768)
 own-ends t c =
     let o = s-own t c in
-    own-room (s-start t (s-loop t (s-own-pair t o)) .args .k .m) (s-start t (s-loop t (s-own-pair t o)) .args .l) (s-start t (s-loop t (s-own-pair t o)) .args .r) _ (o .s2 .given .0 .1 .0) (o .s2 .given .0 .0) (o .s2 .given .0 .1 .1 .1 .0) (o .s2 .given .0 .1 .1 .0) _ (c .greater .ensures) (s-spare t (s-own-pair t o)) (own-reach t o)
+    own-room (s-start t (s-loop t (s-own-pair t o)) .args .k .m) (s-start t (s-loop t (s-own-pair t o)) .args .l)
+    (s-start t (s-loop t (s-own-pair t o)) .args .r) _ (o .s2 .given .0 .1 .0) (o .s2 .given .0 .0) (o .s2 .given .0 .1 .1 .1 .0)
+    (o .s2 .given .0 .1 .1 .0) _ (c .greater .ensures) (s-spare t (s-own-pair t o)) (own-reach t o)
 
-given-reach : (t : ℕ) (c : S-Given t) → (0 < s-start t (s-loop t (s-given-pair t c)) .args .k .m) × (c .s3 .given .0 .0 < 514) × (c .s3 .given .0 .1 .0 + c .s3 .given .0 .0 ≤ 514 + s-start t (s-loop t (s-given-pair t c)) .args .l) × (c .s3 .given .0 .1 .1 .1 .0 + c .s3 .given .0 .1 .1 .0 ≤ s-start t (s-loop t (s-given-pair t c)) .args .r)
+given-reach : (t : ℕ) (c : S-Given t) → (0 < s-start t (s-loop t (s-given-pair t c)) .args .k .m) × (c .s3 .given .0 .0 < 514)
+    × (c .s3 .given .0 .1 .0 + c .s3 .given .0 .0 ≤ 514 + s-start t (s-loop t (s-given-pair t c)) .args .l)
+    × (c .s3 .given .0 .1 .1 .1 .0 + c .s3 .given .0 .1 .1 .0 ≤ s-start t (s-loop t (s-given-pair t c)) .args .r)
 given-reach t c =
     let p = s-given-pair t c in
     let l = s-loop t p in
     let s = s-start t l in
-    given-low (tab (s .args .rows .now) (s .args .parts .now)) (argsOf (tab (s .args .rows .now) (s .args .parts .now)) (s .args .args .now) (s .args .k .m)) (s .args .k .m) (s .args .k .by) (s .args .k .d) (s .args .l) (s .args .k .by2) (s .args .k .d2) (s .args .r) (side false (l .loop .pending)) (l .loop .i) (side true (l .loop .pending)) (l .loop .j) (l .loop .inv .0) (side false (p .next-pair .last .1 .1 .1 .0)) (side true (p .next-pair .last .1 .1 .1 .0)) (p .next-pair .result) (c .s3 .given .0 .0) (c .s3 .given .0 .1 .0) (c .s3 .given .0 .1 .1 .0) (c .s3 .given .0 .1 .1 .1 .0) (p .next-pair .ensures (s .args .parts .now)) (c .s3 .given .1)
+    given-low (tab (s .args .rows .now) (s .args .parts .now)) (argsOf (tab (s .args .rows .now) (s .args .parts .now))
+    (s .args .args .now) (s .args .k .m)) (s .args .k .m) (s .args .k .by) (s .args .k .d) (s .args .l) (s .args .k .by2) (s .args .k .d2)
+    (s .args .r) (side false (l .loop .pending)) (l .loop .i) (side true (l .loop .pending)) (l .loop .j) (l .loop .inv .0)
+    (side false (p .next-pair .last .1 .1 .1 .0)) (side true (p .next-pair .last .1 .1 .1 .0)) (p .next-pair .result) (c .s3 .given .0 .0)
+    (c .s3 .given .0 .1 .0) (c .s3 .given .0 .1 .1 .0) (c .s3 .given .0 .1 .1 .1 .0) (p .next-pair .ensures (s .args .parts .now))
+    (c .s3 .given .1)
 
 given-ends : (t : ℕ) (c : S-Great2 t) → (c .greater2 .result < length (s-given-pair t (s-given t c) .next-pair .last .1 .1 .1 .0)) × (length (s-given-pair t (s-given t c) .next-pair .last .1 .1 .1 .0) ≤ 32768)
 given-ends t c =
     let o = s-given t c in
-    given-room (s-start t (s-loop t (s-given-pair t o)) .args .k .m) (s-start t (s-loop t (s-given-pair t o)) .args .l) (s-start t (s-loop t (s-given-pair t o)) .args .r) _ (o .s3 .given .0 .1 .0) (o .s3 .given .0 .0) (o .s3 .given .0 .1 .1 .1 .0) (o .s3 .given .0 .1 .1 .0) _ (c .greater2 .ensures) (s-spare t (s-given-pair t o)) (given-reach t o)
+    given-room (s-start t (s-loop t (s-given-pair t o)) .args .k .m) (s-start t (s-loop t (s-given-pair t o)) .args .l)
+    (s-start t (s-loop t (s-given-pair t o)) .args .r) _ (o .s3 .given .0 .1 .0) (o .s3 .given .0 .0) (o .s3 .given .0 .1 .1 .1 .0)
+    (o .s3 .given .0 .1 .1 .0) _ (c .greater2 .ensures) (s-spare t (s-given-pair t o)) (given-reach t o)
 
 eq-stack-returns : (t : ℕ) → eq-stack-lts.Need-returns (eq-stack-claims t) (eq-stack-at t) eq-stack.Post eq-stack-Inv-loop eq-stack-μ-loop
 eq-stack-returns t c =
@@ -449,7 +488,7 @@ eq-stack-returns t c =
 eq-stack-store-requires : (t : ℕ) → eq-stack-lts.Need-store-requires (eq-stack-claims t) (eq-stack-at t) eq-stack.Post eq-stack-Inv-loop eq-stack-μ-loop
 eq-stack-store-requires t c κs =
     let s : S-Start t = search in
-    let s0 = s .pre .1 .3 .0 in
+    let s0 = s .pre .1 .2 .0 in
     let f = few-left (tab (s .args .rows .now) (s .args .parts .now)) (s .args .args .now) (s .pre .1 .0) in
     (omega arith, omega arith)
 
@@ -458,7 +497,7 @@ eq-stack-store-requires-2 t c κs =
     let s : S-Start t = search in
     let a : S-Store t = search in
     let k = a .store .kept .0 in
-    let s0 = s .pre .1 .3 .0 in
+    let s0 = s .pre .1 .2 .0 in
     let f = few-right (tab (s .args .rows .now) (s .args .parts .now)) (s .args .args .now) (s .pre .1 .0) in
     (omega arith, omega arith)
 
@@ -467,19 +506,39 @@ eq-stack-loop-holds t c =
     let s : S-Start t = search in
     let a : S-Store t = search in
     let b : S-Store2 t = search in
-    let s0 = s .pre .1 .3 .0 in
-    (match-stored (tab (s .args .rows .now) (s .args .parts .now)) (argsOf (tab (s .args .rows .now) (s .args .parts .now)) (s .args .args .now) (s .args .k .m)) (s .args .k .m) (s .args .k .by) (s .args .k .d) (s .args .l) (s .args .k .by2) (s .args .k .d2) (s .args .r) (s .args .pending .now) (a .store .last .0) (b .store2 .last .0) (few-left (tab (s .args .rows .now) (s .args .parts .now)) (s .args .args .now) (s .pre .1 .0)) (few-right (tab (s .args .rows .now) (s .args .parts .now)) (s .args .args .now) (s .pre .1 .0)) (omega arith) (a .store .ensures .0) (a .store .ensures .1) (b .store2 .ensures .0) (b .store2 .ensures .1), refl)
+    let s0 = s .pre .1 .2 .0 in (
+      match-stored (tab (s .args .rows .now) (s .args .parts .now)) (argsOf (tab (s .args .rows .now) (s .args .parts .now))
+          (s .args .args .now) (s .args .k .m)) (s .args .k .m) (s .args .k .by) (s .args .k .d) (s .args .l) (s .args .k .by2) (s .args .k .d2)
+          (s .args .r) (s .args .pending .now) (a .store .last .0) (b .store2 .last .0)
+          (few-left (tab (s .args .rows .now) (s .args .parts .now)) (s .args .args .now) (s .pre .1 .0)) (few-right (tab (s .args .rows .now)
+          (s .args .parts .now)) (s .args .args .now) (s .pre .1 .0)) (omega arith) (a .store .ensures .0) (a .store .ensures .1)
+          (b .store2 .ensures .0) (b .store2 .ensures .1),
+      refl,
+    )
 
 eq-stack-next-pair-requires : (t : ℕ) → eq-stack-lts.Need-next-pair-requires (eq-stack-claims t) (eq-stack-at t) eq-stack.Post eq-stack-Inv-loop eq-stack-μ-loop
 eq-stack-next-pair-requires t c κs =
     let l : S-Loop t = search in
     let s = s-start t l in
-    let s0 = s .pre .1 .3 .0 in
-    let s1 = s .pre .1 .3 .1 in
+    let s0 = s .pre .1 .2 .0 in
+    let s1 = s .pre .1 .2 .1 in
     let i1 = s-long t l in
-    let rl = s .pre .1 .1 in
-    let rr = s .pre .1 .2 in
-    (omega arith, omega arith, few-args (tab (s .args .rows .now) (s .args .parts .now)) (s .args .args .now) (s .pre .1 .0), omega arith, omega arith, pends-more (s .args .k .m) (s .args .l) _ (l .loop .i) (side false (l .loop .pending)) (omega arith) (l .loop .inv .0 .lefts), pends-more 0 (s .args .r) _ (l .loop .j) (side true (l .loop .pending)) (omega arith) (l .loop .inv .0 .rights))
+    let rs = s .pre .1 .1 in (
+      omega arith,
+      omega arith,
+      record {
+        given = few-args (tab (s .args .rows .now) (s .args .parts .now)) (s .args .args .now)
+            (s .pre .1 .0);
+        enough = omega arith;
+        short = omega arith;
+      },
+      record {
+        left = pends-more (s .args .k .m) (s .args .l) _ (l .loop .i)
+            (side false (l .loop .pending)) (omega arith) (l .loop .inv .0 .lefts);
+        right = pends-more 0 (s .args .r) _ (l .loop .j)
+            (side true (l .loop .pending)) (omega arith) (l .loop .inv .0 .rights);
+      },
+    )
 
 eq-stack-same-length : (t : ℕ) → eq-stack-lts.Need-same-length (eq-stack-claims t) (eq-stack-at t) eq-stack.Post eq-stack-Inv-loop eq-stack-μ-loop
 eq-stack-same-length t c =
@@ -511,15 +570,26 @@ eq-stack-loop-less t c =
     let p : S-Pair t = search in
     let l = s-loop t p in
     let s = s-start t l in
-    (match-onward (tab (s .args .rows .now) (s .args .parts .now)) (argsOf (tab (s .args .rows .now) (s .args .parts .now)) (s .args .args .now) (s .args .k .m)) (s .args .k .m) (s .args .k .by) (s .args .k .d) (s .args .l) (s .args .k .by2) (s .args .k .d2) (s .args .r) (side false (l .loop .pending)) (l .loop .i) (side true (l .loop .pending)) (l .loop .j) (l .loop .inv .0) (side false (p .next-pair .last .1 .1 .1 .0)) (side true (p .next-pair .last .1 .1 .1 .0)) (p .next-pair .result) (o .s .given .0 .0) (o .s .given .0 .1 .0) (p .next-pair .ensures (s .args .parts .now)) (o .s .given .1)) .1
+    (match-onward (tab (s .args .rows .now) (s .args .parts .now)) (argsOf (tab (s .args .rows .now) (s .args .parts .now))
+    (s .args .args .now) (s .args .k .m)) (s .args .k .m) (s .args .k .by) (s .args .k .d) (s .args .l) (s .args .k .by2) (s .args .k .d2)
+    (s .args .r) (side false (l .loop .pending)) (l .loop .i) (side true (l .loop .pending)) (l .loop .j) (l .loop .inv .0)
+    (side false (p .next-pair .last .1 .1 .1 .0)) (side true (p .next-pair .last .1 .1 .1 .0)) (p .next-pair .result) (o .s .given .0 .0)
+    (o .s .given .0 .1 .0) (p .next-pair .ensures (s .args .parts .now)) (o .s .given .1)) .1
 
 eq-stack-loop-again : (t : ℕ) → eq-stack-lts.Need-loop-again (eq-stack-claims t) (eq-stack-at t) eq-stack.Post eq-stack-Inv-loop eq-stack-μ-loop
 eq-stack-loop-again t c =
     let o : eq-stack-lts.After-s (eq-stack-claims t) (eq-stack-at t) eq-stack.Post eq-stack-Inv-loop eq-stack-μ-loop = search in
     let p : S-Pair t = search in
     let l = s-loop t p in
-    let s = s-start t l in
-    ((match-onward (tab (s .args .rows .now) (s .args .parts .now)) (argsOf (tab (s .args .rows .now) (s .args .parts .now)) (s .args .args .now) (s .args .k .m)) (s .args .k .m) (s .args .k .by) (s .args .k .d) (s .args .l) (s .args .k .by2) (s .args .k .d2) (s .args .r) (side false (l .loop .pending)) (l .loop .i) (side true (l .loop .pending)) (l .loop .j) (l .loop .inv .0) (side false (p .next-pair .last .1 .1 .1 .0)) (side true (p .next-pair .last .1 .1 .1 .0)) (p .next-pair .result) (o .s .given .0 .0) (o .s .given .0 .1 .0) (p .next-pair .ensures (s .args .parts .now)) (o .s .given .1)) .0, p .next-pair .kept .1 .1 .1 .0 ∙ l .loop .inv .1)
+    let s = s-start t l in (
+      (match-onward (tab (s .args .rows .now) (s .args .parts .now)) (argsOf (tab (s .args .rows .now) (s .args .parts .now))
+          (s .args .args .now) (s .args .k .m)) (s .args .k .m) (s .args .k .by) (s .args .k .d) (s .args .l) (s .args .k .by2) (s .args .k .d2)
+          (s .args .r) (side false (l .loop .pending)) (l .loop .i) (side true (l .loop .pending)) (l .loop .j) (l .loop .inv .0)
+          (side false (p .next-pair .last .1 .1 .1 .0)) (side true (p .next-pair .last .1 .1 .1 .0)) (p .next-pair .result) (o .s .given .0 .0)
+          (o .s .given .0 .1 .0) (p .next-pair .ensures (s .args .parts .now)) (o .s .given .1)) .0,
+      p .next-pair .kept .1 .1 .1 .0
+          ∙ l .loop .inv .1,
+    )
 
 eq-stack-mul-eq-value : (t : ℕ) → eq-stack-lts.Need-mul-eq-value (eq-stack-claims t) (eq-stack-at t) eq-stack.Post eq-stack-Inv-loop eq-stack-μ-loop
 eq-stack-mul-eq-value t c =
@@ -555,10 +625,18 @@ eq-stack-eq-value-requires t c κs =
     let w = own-reach t o in
     let w0 = w .0 in
     let w1 = w .1 in
-    let rl = s .pre .1 .1 in
-    let rr = s .pre .1 .2 in
-    let t0 = s .pre .0 in
-    (omega arith, (tabled-low (tab (s .args .rows .now) (s .args .parts .now)) (s .args .args .now) (o .s2 .given .0 .0) (o .s2 .given .0 .1 .1 .0) (s .pre .1 .0) (omega arith) (omega arith), omega arith, omega arith, spare-own (s .args .k .m) (s .args .l) (s .args .r) _ (o .s2 .given .0 .1 .0) (o .s2 .given .0 .0) (o .s2 .given .0 .1 .1 .1 .0) (o .s2 .given .0 .1 .1 .0) (g .greater .result) (g .greater .ensures) (s-spare t p) _ w (length-part (g .greater .result) (p .next-pair .last .1 .1 .1 .0))))
+    let rs = s .pre .1 .1 in
+    let t0 = s .pre .0 in (
+      omega arith,
+      (
+        tabled-low (tab (s .args .rows .now) (s .args .parts .now)) (s .args .args .now) (o .s2 .given .0 .0)
+            (o .s2 .given .0 .1 .1 .0) (s .pre .1 .0) (omega arith) (omega arith),
+        search needs,
+        spare-own (s .args .k .m) (s .args .l)
+            (s .args .r) _ (o .s2 .given .0 .1 .0) (o .s2 .given .0 .0) (o .s2 .given .0 .1 .1 .1 .0) (o .s2 .given .0 .1 .1 .0)
+            (g .greater .result) (g .greater .ensures) (s-spare t p) _ w (length-part (g .greater .result) (p .next-pair .last .1 .1 .1 .0)),
+      ),
+    )
 
 eq-stack-same-length-3 : (t : ℕ) → eq-stack-lts.Need-same-length-3 (eq-stack-claims t) (eq-stack-at t) eq-stack.Post eq-stack-Inv-loop eq-stack-μ-loop
 eq-stack-same-length-3 t c =
@@ -582,7 +660,10 @@ eq-stack-returns-4 t c =
     let s = s-start t l in
     let w = own-ends t g in
     let w0 = w .0 in
-    own-not _ _ _ _ _ _ _ _ _ (side false (l .loop .pending)) _ (side true (l .loop .pending)) _ (l .loop .inv .0) (side false (p .next-pair .last .1 .1 .1 .0)) (side true (p .next-pair .last .1 .1 .1 .0)) _ (o .s2 .given .0 .0) (o .s2 .given .0 .1 .0) (o .s2 .given .0 .1 .1 .0) (o .s2 .given .0 .1 .1 .1 .0) (p .next-pair .ensures _) (o .s2 .given .1) (v .eq-value .ensures) (not-false (search))
+    own-not _ _ _ _ _ _ _ _ _ (side false (l .loop .pending)) _ (side true (l .loop .pending)) _ (l .loop .inv .0)
+    (side false (p .next-pair .last .1 .1 .1 .0)) (side true (p .next-pair .last .1 .1 .1 .0)) _ (o .s2 .given .0 .0)
+    (o .s2 .given .0 .1 .0) (o .s2 .given .0 .1 .1 .0) (o .s2 .given .0 .1 .1 .1 .0) (p .next-pair .ensures _) (o .s2 .given .1)
+    (v .eq-value .ensures) (not-false (search))
 
 eq-stack-loop-less-2 : (t : ℕ) → eq-stack-lts.Need-loop-less-2 (eq-stack-claims t) (eq-stack-at t) eq-stack.Post eq-stack-Inv-loop eq-stack-μ-loop
 eq-stack-loop-less-2 t c =
@@ -594,7 +675,20 @@ eq-stack-loop-less-2 t c =
     let s = s-start t l in
     let w = own-ends t g in
     let w0 = w .0 in
-    (match-own (tab (s .args .rows .now) (s .args .parts .now)) (argsOf (tab (s .args .rows .now) (s .args .parts .now)) (s .args .args .now) (s .args .k .m)) (s .args .k .m) (s .args .k .by) (s .args .k .d) (s .args .l) (s .args .k .by2) (s .args .k .d2) (s .args .r) (side false (l .loop .pending)) (l .loop .i) (side true (l .loop .pending)) (l .loop .j) (l .loop .inv .0) (side false (p .next-pair .last .1 .1 .1 .0)) (side true (p .next-pair .last .1 .1 .1 .0)) (side false (putMid (g .greater .result) (length (p .next-pair .last .1 .1 .1 .0) - (g .greater .result)) (p .next-pair .last .1 .1 .1 .0) (v .eq-value .last .1 .1 .1 .1 .1 .1 .0))) (side true (putMid (g .greater .result) (length (p .next-pair .last .1 .1 .1 .0) - (g .greater .result)) (p .next-pair .last .1 .1 .1 .0) (v .eq-value .last .1 .1 .1 .1 .1 .1 .0))) (p .next-pair .result) (o .s2 .given .0 .0) (o .s2 .given .0 .1 .0) (o .s2 .given .0 .1 .1 .0) (o .s2 .given .0 .1 .1 .1 .0) (agree-back false (o .s2 .given .0 .1 .0) (g .greater .result) (length (p .next-pair .last .1 .1 .1 .0) - (g .greater .result)) (p .next-pair .last .1 .1 .1 .0) (v .eq-value .last .1 .1 .1 .1 .1 .1 .0) (g .greater .ensures .0) (omega arith)) (agree-back true (o .s2 .given .0 .1 .1 .1 .0) (g .greater .result) (length (p .next-pair .last .1 .1 .1 .0) - (g .greater .result)) (p .next-pair .last .1 .1 .1 .0) (v .eq-value .last .1 .1 .1 .1 .1 .1 .0) (g .greater .ensures .1) (omega arith)) (p .next-pair .ensures (s .args .parts .now)) (o .s2 .given .1) (v .eq-value .ensures) (not-true (search))) .1
+    (match-own (tab (s .args .rows .now) (s .args .parts .now)) (argsOf (tab (s .args .rows .now) (s .args .parts .now))
+    (s .args .args .now) (s .args .k .m)) (s .args .k .m) (s .args .k .by) (s .args .k .d) (s .args .l) (s .args .k .by2) (s .args .k .d2)
+    (s .args .r) (side false (l .loop .pending)) (l .loop .i) (side true (l .loop .pending)) (l .loop .j) (l .loop .inv .0)
+    (side false (p .next-pair .last .1 .1 .1 .0)) (side true (p .next-pair .last .1 .1 .1 .0)) (side false (putMid (g .greater .result)
+    (length (p .next-pair .last .1 .1 .1 .0) - (g .greater .result)) (p .next-pair .last .1 .1 .1 .0)
+    (v .eq-value .last .1 .1 .1 .1 .1 .1 .0))) (side true (putMid (g .greater .result)
+    (length (p .next-pair .last .1 .1 .1 .0) - (g .greater .result)) (p .next-pair .last .1 .1 .1 .0)
+    (v .eq-value .last .1 .1 .1 .1 .1 .1 .0))) (p .next-pair .result) (o .s2 .given .0 .0) (o .s2 .given .0 .1 .0)
+    (o .s2 .given .0 .1 .1 .0) (o .s2 .given .0 .1 .1 .1 .0) (agree-back false (o .s2 .given .0 .1 .0) (g .greater .result)
+    (length (p .next-pair .last .1 .1 .1 .0) - (g .greater .result)) (p .next-pair .last .1 .1 .1 .0)
+    (v .eq-value .last .1 .1 .1 .1 .1 .1 .0) (g .greater .ensures .0) (omega arith)) (agree-back true (o .s2 .given .0 .1 .1 .1 .0)
+    (g .greater .result) (length (p .next-pair .last .1 .1 .1 .0) - (g .greater .result)) (p .next-pair .last .1 .1 .1 .0)
+    (v .eq-value .last .1 .1 .1 .1 .1 .1 .0) (g .greater .ensures .1) (omega arith)) (p .next-pair .ensures (s .args .parts .now))
+    (o .s2 .given .1) (v .eq-value .ensures) (not-true (search))) .1
 
 eq-stack-loop-again-2 : (t : ℕ) → eq-stack-lts.Need-loop-again-2 (eq-stack-claims t) (eq-stack-at t) eq-stack.Post eq-stack-Inv-loop eq-stack-μ-loop
 eq-stack-loop-again-2 t c =
@@ -605,8 +699,25 @@ eq-stack-loop-again-2 t c =
     let l = s-loop t p in
     let s = s-start t l in
     let w = own-ends t g in
-    let w0 = w .0 in
-    ((match-own (tab (s .args .rows .now) (s .args .parts .now)) (argsOf (tab (s .args .rows .now) (s .args .parts .now)) (s .args .args .now) (s .args .k .m)) (s .args .k .m) (s .args .k .by) (s .args .k .d) (s .args .l) (s .args .k .by2) (s .args .k .d2) (s .args .r) (side false (l .loop .pending)) (l .loop .i) (side true (l .loop .pending)) (l .loop .j) (l .loop .inv .0) (side false (p .next-pair .last .1 .1 .1 .0)) (side true (p .next-pair .last .1 .1 .1 .0)) (side false (putMid (g .greater .result) (length (p .next-pair .last .1 .1 .1 .0) - (g .greater .result)) (p .next-pair .last .1 .1 .1 .0) (v .eq-value .last .1 .1 .1 .1 .1 .1 .0))) (side true (putMid (g .greater .result) (length (p .next-pair .last .1 .1 .1 .0) - (g .greater .result)) (p .next-pair .last .1 .1 .1 .0) (v .eq-value .last .1 .1 .1 .1 .1 .1 .0))) (p .next-pair .result) (o .s2 .given .0 .0) (o .s2 .given .0 .1 .0) (o .s2 .given .0 .1 .1 .0) (o .s2 .given .0 .1 .1 .1 .0) (agree-back false (o .s2 .given .0 .1 .0) (g .greater .result) (length (p .next-pair .last .1 .1 .1 .0) - (g .greater .result)) (p .next-pair .last .1 .1 .1 .0) (v .eq-value .last .1 .1 .1 .1 .1 .1 .0) (g .greater .ensures .0) (omega arith)) (agree-back true (o .s2 .given .0 .1 .1 .1 .0) (g .greater .result) (length (p .next-pair .last .1 .1 .1 .0) - (g .greater .result)) (p .next-pair .last .1 .1 .1 .0) (v .eq-value .last .1 .1 .1 .1 .1 .1 .0) (g .greater .ensures .1) (omega arith)) (p .next-pair .ensures (s .args .parts .now)) (o .s2 .given .1) (v .eq-value .ensures) (not-true (search))) .0, same-len-mid (g .greater .result) (length (p .next-pair .last .1 .1 .1 .0) - (g .greater .result)) (p .next-pair .last .1 .1 .1 .0) (v .eq-value .last .1 .1 .1 .1 .1 .1 .0) (v .eq-value .kept .1 .1 .1 .1 .1 .1 .0) ∙ p .next-pair .kept .1 .1 .1 .0 ∙ l .loop .inv .1)
+    let w0 = w .0 in (
+      (match-own (tab (s .args .rows .now) (s .args .parts .now)) (argsOf (tab (s .args .rows .now) (s .args .parts .now))
+          (s .args .args .now) (s .args .k .m)) (s .args .k .m) (s .args .k .by) (s .args .k .d) (s .args .l) (s .args .k .by2) (s .args .k .d2)
+          (s .args .r) (side false (l .loop .pending)) (l .loop .i) (side true (l .loop .pending)) (l .loop .j) (l .loop .inv .0)
+          (side false (p .next-pair .last .1 .1 .1 .0)) (side true (p .next-pair .last .1 .1 .1 .0)) (side false (putMid (g .greater .result)
+          (length (p .next-pair .last .1 .1 .1 .0) - (g .greater .result)) (p .next-pair .last .1 .1 .1 .0)
+          (v .eq-value .last .1 .1 .1 .1 .1 .1 .0))) (side true (putMid (g .greater .result)
+          (length (p .next-pair .last .1 .1 .1 .0) - (g .greater .result)) (p .next-pair .last .1 .1 .1 .0)
+          (v .eq-value .last .1 .1 .1 .1 .1 .1 .0))) (p .next-pair .result) (o .s2 .given .0 .0) (o .s2 .given .0 .1 .0)
+          (o .s2 .given .0 .1 .1 .0) (o .s2 .given .0 .1 .1 .1 .0) (agree-back false (o .s2 .given .0 .1 .0) (g .greater .result)
+          (length (p .next-pair .last .1 .1 .1 .0) - (g .greater .result)) (p .next-pair .last .1 .1 .1 .0)
+          (v .eq-value .last .1 .1 .1 .1 .1 .1 .0) (g .greater .ensures .0) (omega arith)) (agree-back true (o .s2 .given .0 .1 .1 .1 .0)
+          (g .greater .result) (length (p .next-pair .last .1 .1 .1 .0) - (g .greater .result)) (p .next-pair .last .1 .1 .1 .0)
+          (v .eq-value .last .1 .1 .1 .1 .1 .1 .0) (g .greater .ensures .1) (omega arith)) (p .next-pair .ensures (s .args .parts .now))
+          (o .s2 .given .1) (v .eq-value .ensures) (not-true (search))) .0,
+      same-len-mid (g .greater .result)
+          (length (p .next-pair .last .1 .1 .1 .0) - (g .greater .result)) (p .next-pair .last .1 .1 .1 .0)
+          (v .eq-value .last .1 .1 .1 .1 .1 .1 .0) (v .eq-value .kept .1 .1 .1 .1 .1 .1 .0) ∙ p .next-pair .kept .1 .1 .1 .0 ∙ l .loop .inv .1,
+    )
 
 eq-stack-mul-eq-value-2 : (t : ℕ) → eq-stack-lts.Need-mul-eq-value-2 (eq-stack-claims t) (eq-stack-at t) eq-stack.Post eq-stack-Inv-loop eq-stack-μ-loop
 eq-stack-mul-eq-value-2 t c =
@@ -646,10 +757,18 @@ eq-stack-eq-value-requires-2 t c κs =
     let w3 = w .3 in
     let rm = room-of 0 (s .args .k .m) w0 in
     let b = big-of 0 (s .args .k .m) w0 in
-    let rl = s .pre .1 .1 in
-    let rr = s .pre .1 .2 in
-    let t0 = s .pre .0 in
-    (omega arith, (tabled-given (tab (s .args .rows .now) (s .args .parts .now)) (s .args .args .now) (o .s3 .given .0 .0) (o .s3 .given .0 .1 .1 .0) (s .pre .1 .0) (omega arith) (omega arith), omega arith, omega arith, spare-given (s .args .k .m) (s .args .l) (s .args .r) _ (o .s3 .given .0 .1 .0) (o .s3 .given .0 .0) (o .s3 .given .0 .1 .1 .1 .0) (o .s3 .given .0 .1 .1 .0) (g .greater2 .result) (g .greater2 .ensures) (s-spare t p) _ w (length-part (g .greater2 .result) (p .next-pair .last .1 .1 .1 .0))))
+    let rs = s .pre .1 .1 in
+    let t0 = s .pre .0 in (
+      omega arith,
+      (
+        tabled-given (tab (s .args .rows .now) (s .args .parts .now)) (s .args .args .now) (o .s3 .given .0 .0)
+            (o .s3 .given .0 .1 .1 .0) (s .pre .1 .0) (omega arith) (omega arith),
+        search needs,
+        spare-given (s .args .k .m) (s .args .l)
+            (s .args .r) _ (o .s3 .given .0 .1 .0) (o .s3 .given .0 .0) (o .s3 .given .0 .1 .1 .1 .0) (o .s3 .given .0 .1 .1 .0)
+            (g .greater2 .result) (g .greater2 .ensures) (s-spare t p) _ w (length-part (g .greater2 .result) (p .next-pair .last .1 .1 .1 .0)),
+      ),
+    )
 
 eq-stack-same-length-4 : (t : ℕ) → eq-stack-lts.Need-same-length-4 (eq-stack-claims t) (eq-stack-at t) eq-stack.Post eq-stack-Inv-loop eq-stack-μ-loop
 eq-stack-same-length-4 t c =
@@ -673,7 +792,11 @@ eq-stack-returns-5 t c =
     let s = s-start t l in
     let w = given-ends t g in
     let w0 = w .0 in
-    given-not _ _ _ _ _ _ _ _ _ (side false (l .loop .pending)) _ (side true (l .loop .pending)) _ (l .loop .inv .0) (side false (p .next-pair .last .1 .1 .1 .0)) (side true (p .next-pair .last .1 .1 .1 .0)) _ (o .s3 .given .0 .0) (o .s3 .given .0 .1 .0) (o .s3 .given .0 .1 .1 .0) (o .s3 .given .0 .1 .1 .1 .0) (p .next-pair .ensures _) (o .s3 .given .1) (v .eq-value2 .ensures ∙ plain-args (tab (s .args .rows .now) (s .args .parts .now)) (s .args .args .now) (s .args .k .d) (o .s3 .given .0 .0) (s .args .k .by2) (s .args .k .d2) (o .s3 .given .0 .1 .1 .0)) (not-false (search))
+    given-not _ _ _ _ _ _ _ _ _ (side false (l .loop .pending)) _ (side true (l .loop .pending)) _ (l .loop .inv .0)
+    (side false (p .next-pair .last .1 .1 .1 .0)) (side true (p .next-pair .last .1 .1 .1 .0)) _ (o .s3 .given .0 .0)
+    (o .s3 .given .0 .1 .0) (o .s3 .given .0 .1 .1 .0) (o .s3 .given .0 .1 .1 .1 .0) (p .next-pair .ensures _) (o .s3 .given .1)
+    (v .eq-value2 .ensures ∙ plain-args (tab (s .args .rows .now) (s .args .parts .now)) (s .args .args .now) (s .args .k .d)
+    (o .s3 .given .0 .0) (s .args .k .by2) (s .args .k .d2) (o .s3 .given .0 .1 .1 .0)) (not-false (search))
 
 eq-stack-loop-less-3 : (t : ℕ) → eq-stack-lts.Need-loop-less-3 (eq-stack-claims t) (eq-stack-at t) eq-stack.Post eq-stack-Inv-loop eq-stack-μ-loop
 eq-stack-loop-less-3 t c =
@@ -685,7 +808,21 @@ eq-stack-loop-less-3 t c =
     let s = s-start t l in
     let w = given-ends t g in
     let w0 = w .0 in
-    (match-given (tab (s .args .rows .now) (s .args .parts .now)) (argsOf (tab (s .args .rows .now) (s .args .parts .now)) (s .args .args .now) (s .args .k .m)) (s .args .k .m) (s .args .k .by) (s .args .k .d) (s .args .l) (s .args .k .by2) (s .args .k .d2) (s .args .r) (side false (l .loop .pending)) (l .loop .i) (side true (l .loop .pending)) (l .loop .j) (l .loop .inv .0) (side false (p .next-pair .last .1 .1 .1 .0)) (side true (p .next-pair .last .1 .1 .1 .0)) (side false (putMid (g .greater2 .result) (length (p .next-pair .last .1 .1 .1 .0) - (g .greater2 .result)) (p .next-pair .last .1 .1 .1 .0) (v .eq-value2 .last .1 .1 .1 .1 .1 .1 .0))) (side true (putMid (g .greater2 .result) (length (p .next-pair .last .1 .1 .1 .0) - (g .greater2 .result)) (p .next-pair .last .1 .1 .1 .0) (v .eq-value2 .last .1 .1 .1 .1 .1 .1 .0))) (p .next-pair .result) (o .s3 .given .0 .0) (o .s3 .given .0 .1 .0) (o .s3 .given .0 .1 .1 .0) (o .s3 .given .0 .1 .1 .1 .0) (agree-back false (o .s3 .given .0 .1 .0) (g .greater2 .result) (length (p .next-pair .last .1 .1 .1 .0) - (g .greater2 .result)) (p .next-pair .last .1 .1 .1 .0) (v .eq-value2 .last .1 .1 .1 .1 .1 .1 .0) (g .greater2 .ensures .0) (omega arith)) (agree-back true (o .s3 .given .0 .1 .1 .1 .0) (g .greater2 .result) (length (p .next-pair .last .1 .1 .1 .0) - (g .greater2 .result)) (p .next-pair .last .1 .1 .1 .0) (v .eq-value2 .last .1 .1 .1 .1 .1 .1 .0) (g .greater2 .ensures .1) (omega arith)) (p .next-pair .ensures (s .args .parts .now)) (o .s3 .given .1) (v .eq-value2 .ensures ∙ plain-args (tab (s .args .rows .now) (s .args .parts .now)) (s .args .args .now) (s .args .k .d) (o .s3 .given .0 .0) (s .args .k .by2) (s .args .k .d2) (o .s3 .given .0 .1 .1 .0)) (not-true (search))) .1
+    (match-given (tab (s .args .rows .now) (s .args .parts .now)) (argsOf (tab (s .args .rows .now) (s .args .parts .now))
+    (s .args .args .now) (s .args .k .m)) (s .args .k .m) (s .args .k .by) (s .args .k .d) (s .args .l) (s .args .k .by2) (s .args .k .d2)
+    (s .args .r) (side false (l .loop .pending)) (l .loop .i) (side true (l .loop .pending)) (l .loop .j) (l .loop .inv .0)
+    (side false (p .next-pair .last .1 .1 .1 .0)) (side true (p .next-pair .last .1 .1 .1 .0)) (side false (putMid (g .greater2 .result)
+    (length (p .next-pair .last .1 .1 .1 .0) - (g .greater2 .result)) (p .next-pair .last .1 .1 .1 .0)
+    (v .eq-value2 .last .1 .1 .1 .1 .1 .1 .0))) (side true (putMid (g .greater2 .result)
+    (length (p .next-pair .last .1 .1 .1 .0) - (g .greater2 .result)) (p .next-pair .last .1 .1 .1 .0)
+    (v .eq-value2 .last .1 .1 .1 .1 .1 .1 .0))) (p .next-pair .result) (o .s3 .given .0 .0) (o .s3 .given .0 .1 .0)
+    (o .s3 .given .0 .1 .1 .0) (o .s3 .given .0 .1 .1 .1 .0) (agree-back false (o .s3 .given .0 .1 .0) (g .greater2 .result)
+    (length (p .next-pair .last .1 .1 .1 .0) - (g .greater2 .result)) (p .next-pair .last .1 .1 .1 .0)
+    (v .eq-value2 .last .1 .1 .1 .1 .1 .1 .0) (g .greater2 .ensures .0) (omega arith)) (agree-back true (o .s3 .given .0 .1 .1 .1 .0)
+    (g .greater2 .result) (length (p .next-pair .last .1 .1 .1 .0) - (g .greater2 .result)) (p .next-pair .last .1 .1 .1 .0)
+    (v .eq-value2 .last .1 .1 .1 .1 .1 .1 .0) (g .greater2 .ensures .1) (omega arith)) (p .next-pair .ensures (s .args .parts .now))
+    (o .s3 .given .1) (v .eq-value2 .ensures ∙ plain-args (tab (s .args .rows .now) (s .args .parts .now)) (s .args .args .now)
+    (s .args .k .d) (o .s3 .given .0 .0) (s .args .k .by2) (s .args .k .d2) (o .s3 .given .0 .1 .1 .0)) (not-true (search))) .1
 
 eq-stack-loop-again-3 : (t : ℕ) → eq-stack-lts.Need-loop-again-3 (eq-stack-claims t) (eq-stack-at t) eq-stack.Post eq-stack-Inv-loop eq-stack-μ-loop
 eq-stack-loop-again-3 t c =
@@ -696,8 +833,26 @@ eq-stack-loop-again-3 t c =
     let l = s-loop t p in
     let s = s-start t l in
     let w = given-ends t g in
-    let w0 = w .0 in
-    ((match-given (tab (s .args .rows .now) (s .args .parts .now)) (argsOf (tab (s .args .rows .now) (s .args .parts .now)) (s .args .args .now) (s .args .k .m)) (s .args .k .m) (s .args .k .by) (s .args .k .d) (s .args .l) (s .args .k .by2) (s .args .k .d2) (s .args .r) (side false (l .loop .pending)) (l .loop .i) (side true (l .loop .pending)) (l .loop .j) (l .loop .inv .0) (side false (p .next-pair .last .1 .1 .1 .0)) (side true (p .next-pair .last .1 .1 .1 .0)) (side false (putMid (g .greater2 .result) (length (p .next-pair .last .1 .1 .1 .0) - (g .greater2 .result)) (p .next-pair .last .1 .1 .1 .0) (v .eq-value2 .last .1 .1 .1 .1 .1 .1 .0))) (side true (putMid (g .greater2 .result) (length (p .next-pair .last .1 .1 .1 .0) - (g .greater2 .result)) (p .next-pair .last .1 .1 .1 .0) (v .eq-value2 .last .1 .1 .1 .1 .1 .1 .0))) (p .next-pair .result) (o .s3 .given .0 .0) (o .s3 .given .0 .1 .0) (o .s3 .given .0 .1 .1 .0) (o .s3 .given .0 .1 .1 .1 .0) (agree-back false (o .s3 .given .0 .1 .0) (g .greater2 .result) (length (p .next-pair .last .1 .1 .1 .0) - (g .greater2 .result)) (p .next-pair .last .1 .1 .1 .0) (v .eq-value2 .last .1 .1 .1 .1 .1 .1 .0) (g .greater2 .ensures .0) (omega arith)) (agree-back true (o .s3 .given .0 .1 .1 .1 .0) (g .greater2 .result) (length (p .next-pair .last .1 .1 .1 .0) - (g .greater2 .result)) (p .next-pair .last .1 .1 .1 .0) (v .eq-value2 .last .1 .1 .1 .1 .1 .1 .0) (g .greater2 .ensures .1) (omega arith)) (p .next-pair .ensures (s .args .parts .now)) (o .s3 .given .1) (v .eq-value2 .ensures ∙ plain-args (tab (s .args .rows .now) (s .args .parts .now)) (s .args .args .now) (s .args .k .d) (o .s3 .given .0 .0) (s .args .k .by2) (s .args .k .d2) (o .s3 .given .0 .1 .1 .0)) (not-true (search))) .0, same-len-mid (g .greater2 .result) (length (p .next-pair .last .1 .1 .1 .0) - (g .greater2 .result)) (p .next-pair .last .1 .1 .1 .0) (v .eq-value2 .last .1 .1 .1 .1 .1 .1 .0) (v .eq-value2 .kept .1 .1 .1 .1 .1 .1 .0) ∙ p .next-pair .kept .1 .1 .1 .0 ∙ l .loop .inv .1)
+    let w0 = w .0 in (
+      (match-given (tab (s .args .rows .now) (s .args .parts .now)) (argsOf (tab (s .args .rows .now) (s .args .parts .now))
+          (s .args .args .now) (s .args .k .m)) (s .args .k .m) (s .args .k .by) (s .args .k .d) (s .args .l) (s .args .k .by2) (s .args .k .d2)
+          (s .args .r) (side false (l .loop .pending)) (l .loop .i) (side true (l .loop .pending)) (l .loop .j) (l .loop .inv .0)
+          (side false (p .next-pair .last .1 .1 .1 .0)) (side true (p .next-pair .last .1 .1 .1 .0)) (side false (putMid (g .greater2 .result)
+          (length (p .next-pair .last .1 .1 .1 .0) - (g .greater2 .result)) (p .next-pair .last .1 .1 .1 .0)
+          (v .eq-value2 .last .1 .1 .1 .1 .1 .1 .0))) (side true (putMid (g .greater2 .result)
+          (length (p .next-pair .last .1 .1 .1 .0) - (g .greater2 .result)) (p .next-pair .last .1 .1 .1 .0)
+          (v .eq-value2 .last .1 .1 .1 .1 .1 .1 .0))) (p .next-pair .result) (o .s3 .given .0 .0) (o .s3 .given .0 .1 .0)
+          (o .s3 .given .0 .1 .1 .0) (o .s3 .given .0 .1 .1 .1 .0) (agree-back false (o .s3 .given .0 .1 .0) (g .greater2 .result)
+          (length (p .next-pair .last .1 .1 .1 .0) - (g .greater2 .result)) (p .next-pair .last .1 .1 .1 .0)
+          (v .eq-value2 .last .1 .1 .1 .1 .1 .1 .0) (g .greater2 .ensures .0) (omega arith)) (agree-back true (o .s3 .given .0 .1 .1 .1 .0)
+          (g .greater2 .result) (length (p .next-pair .last .1 .1 .1 .0) - (g .greater2 .result)) (p .next-pair .last .1 .1 .1 .0)
+          (v .eq-value2 .last .1 .1 .1 .1 .1 .1 .0) (g .greater2 .ensures .1) (omega arith)) (p .next-pair .ensures (s .args .parts .now))
+          (o .s3 .given .1) (v .eq-value2 .ensures ∙ plain-args (tab (s .args .rows .now) (s .args .parts .now)) (s .args .args .now)
+          (s .args .k .d) (o .s3 .given .0 .0) (s .args .k .by2) (s .args .k .d2) (o .s3 .given .0 .1 .1 .0)) (not-true (search))) .0,
+      same-len-mid (g .greater2 .result) (length (p .next-pair .last .1 .1 .1 .0) - (g .greater2 .result)) (p .next-pair .last .1 .1 .1 .0)
+          (v .eq-value2 .last .1 .1 .1 .1 .1 .1 .0) (v .eq-value2 .kept .1 .1 .1 .1 .1 .1 .0) ∙ p .next-pair .kept .1 .1 .1 .0
+          ∙ l .loop .inv .1,
+    )
 
 abbrev V-Start : ℕ → Type 0
 V-Start t = eq-value-lts.Start (eq-value-claims t) (eq-value-at t) eq-value.Post
@@ -743,7 +898,12 @@ eq-value-returns-2 t c =
     let w = v-read2 t u in
     let s = v-start t u in
     let ok = pair-ok (s .args .k .m) (s .args .l) (s .args .r) (v .read-value .result) (w .read-value2 .result) (v .read-value .ensures .1) (w .read-value2 .ensures .1) (u .pair-up .ensures) (p .p .given .1) in
-    filled-not (tab (s .args .rows .now) (s .args .parts .now)) (s .args .args .now) (s .args .k .m) (s .args .k .by) (s .args .k .d) (s .args .k .by2) (s .args .k .d2) (s .args .r) (p .p .given .0 .0) (a .at .result) ok (a .at .ensures .0) (b .is-stack .ensures) (i .if2 .taken) ∙ value-pair (tab (s .args .rows .now) (s .args .parts .now)) (argsOf (tab (s .args .rows .now) (s .args .parts .now)) (s .args .args .now) (s .args .k .m)) (s .args .k .by) (s .args .k .d) (s .args .k .by2) (s .args .k .d2) (s .args .k .m) (s .args .l) (s .args .r) (length-args (tab (s .args .rows .now) (s .args .parts .now)) (s .args .args .now) (s .args .k .m)) (v .read-value .ensures .0) (w .read-value2 .ensures .0) (w .read-value2 .ensures .1) (u .pair-up .ensures) (p .p .given .1)
+    filled-not (tab (s .args .rows .now) (s .args .parts .now)) (s .args .args .now) (s .args .k .m) (s .args .k .by) (s .args .k .d)
+    (s .args .k .by2) (s .args .k .d2) (s .args .r) (p .p .given .0 .0) (a .at .result) ok (a .at .ensures .0) (b .is-stack .ensures)
+    (i .if2 .taken) ∙ value-pair (tab (s .args .rows .now) (s .args .parts .now)) (argsOf (tab (s .args .rows .now) (s .args .parts .now))
+    (s .args .args .now) (s .args .k .m)) (s .args .k .by) (s .args .k .d) (s .args .k .by2) (s .args .k .d2) (s .args .k .m) (s .args .l)
+    (s .args .r) (length-args (tab (s .args .rows .now) (s .args .parts .now)) (s .args .args .now) (s .args .k .m))
+    (v .read-value .ensures .0) (w .read-value2 .ensures .0) (w .read-value2 .ensures .1) (u .pair-up .ensures) (p .p .given .1)
 
 eq-value-eq-value-requires : (t : ℕ) → eq-value-lts.Need-eq-value-requires (eq-value-claims t) (eq-value-at t) eq-value.Post
 eq-value-eq-value-requires t c κs =
@@ -755,13 +915,20 @@ eq-value-eq-value-requires t c κs =
     let s = v-start t u in
     let ok = pair-ok (s .args .k .m) (s .args .l) (s .args .r) (v .read-value .result) (w .read-value2 .result) (v .read-value .ensures .1) (w .read-value2 .ensures .1) (u .pair-up .ensures) (p .p .given .1) in
     let t0 = s .pre .0 in
-    let rl = s .pre .1 .1 in
-    let rr = s .pre .1 .2 in
+    let rs = s .pre .1 .1 in
     let b = big-of (p .p .given .0 .0) (s .args .k .m) ok in
     let q = a .at .ensures .1 in
     let e = a .at .ensures .0 in
-    let f = few-arg (tab (s .args .rows .now) (s .args .parts .now)) (s .args .args .now) (p .p .given .0 .0) (s .pre .1 .0) ok in
-    (omega arith, (tabled-arg (tab (s .args .rows .now) (s .args .parts .now)) (s .args .args .now) (p .p .given .0 .0) (a .at .result) (s .args .r) (s .pre .1 .0) ok (a .at .ensures .0) (omega arith), omega arith, rr, spare-arg (s .args .k .m) (s .args .l) (s .args .r) _ (a .at .result + 1) (p .p .given .0 .0) (s .pre .1 .3) ok (omega arith)))
+    let f = few-arg (tab (s .args .rows .now) (s .args .parts .now)) (s .args .args .now) (p .p .given .0 .0) (s .pre .1 .0) ok in (
+      omega arith,
+      (
+        tabled-arg (tab (s .args .rows .now) (s .args .parts .now)) (s .args .args .now) (p .p .given .0 .0) (a .at .result)
+            (s .args .r) (s .pre .1 .0) ok (a .at .ensures .0) (omega arith),
+        record { left = omega arith; right = rs .right },
+        spare-arg
+            (s .args .k .m) (s .args .l) (s .args .r) _ (a .at .result + 1) (p .p .given .0 .0) (s .pre .1 .2) ok (omega arith),
+      ),
+    )
 
 eq-value-cast-t34 : (t : ℕ) → eq-value-lts.Need-cast-t34 (eq-value-claims t) (eq-value-at t) eq-value.Post
 eq-value-cast-t34 t c =
@@ -811,12 +978,11 @@ eq-value-eq-parts-requires t c κs =
     let s = v-start t u in
     let ok = pair-ok (s .args .k .m) (s .args .l) (s .args .r) (v .read-value .result) (w .read-value2 .result) (v .read-value .ensures .1) (w .read-value2 .ensures .1) (u .pair-up .ensures) (p .p2 .given .1) in
     let t0 = s .pre .0 in
-    let rl = s .pre .1 .1 in
-    let rr = s .pre .1 .2 in
+    let rs = s .pre .1 .1 in
     let o0 = ok .0 in
     let o1 = ok .1 in
     let o2 = ok .2 in
-    (omega arith, (s .pre .1 .0, omega arith, omega arith, ok .3, ok .4, o2, omega arith, omega arith, s .pre .1 .3))
+    (omega arith, (s .pre .1 .0, record { left = omega arith; right = omega arith; left-row = ok .3; right-row = ok .4 }, record { few = o2; left = omega arith; right = omega arith }, s .pre .1 .2))
 
 eq-value-eq-stack-requires : (t : ℕ) → eq-value-lts.Need-eq-stack-requires (eq-value-claims t) (eq-value-at t) eq-value.Post
 eq-value-eq-stack-requires t c κs =
@@ -827,11 +993,18 @@ eq-value-eq-stack-requires t c κs =
     let s = v-start t u in
     let ok = pair-ok (s .args .k .m) (s .args .l) (s .args .r) (v .read-value .result) (w .read-value2 .result) (v .read-value .ensures .1) (w .read-value2 .ensures .1) (u .pair-up .ensures) (p .p3 .given .1) in
     let t0 = s .pre .0 in
-    let rl = s .pre .1 .1 in
-    let rr = s .pre .1 .2 in
+    let rs = s .pre .1 .1 in
     let o0 = ok .0 in
-    let o1 = ok .1 in
-    (omega arith, (tabled-low (tab (s .args .rows .now) (s .args .parts .now)) (s .args .args .now) (p .p3 .given .0 .0) (p .p3 .given .0 .1 .0) (s .pre .1 .0) (omega arith) (omega arith), omega arith, omega arith, spare-low (s .args .k .m) (s .args .l) (s .args .r) _ (p .p3 .given .0 .0) (p .p3 .given .0 .1 .0) (s .pre .1 .3) (omega arith) (omega arith)))
+    let o1 = ok .1 in (
+      omega arith,
+      (
+        tabled-low (tab (s .args .rows .now) (s .args .parts .now)) (s .args .args .now) (p .p3 .given .0 .0)
+            (p .p3 .given .0 .1 .0) (s .pre .1 .0) (omega arith) (omega arith),
+        search needs,
+        spare-low (s .args .k .m) (s .args .l) (s .args .r)
+            _ (p .p3 .given .0 .0) (p .p3 .given .0 .1 .0) (s .pre .1 .2) (omega arith) (omega arith),
+      ),
+    )
 
 eq-value-eq-code-requires : (t : ℕ) → eq-value-lts.Need-eq-code-requires (eq-value-claims t) (eq-value-at t) eq-value.Post
 eq-value-eq-code-requires t c κs =
@@ -842,9 +1015,8 @@ eq-value-eq-code-requires t c κs =
     let s = v-start t u in
     let ok = pair-ok (s .args .k .m) (s .args .l) (s .args .r) (v .read-value .result) (w .read-value2 .result) (v .read-value .ensures .1) (w .read-value2 .ensures .1) (u .pair-up .ensures) (p .p4 .given .1) in
     let t0 = s .pre .0 in
-    let rl = s .pre .1 .1 in
-    let rr = s .pre .1 .2 in
-    (omega arith, (s .pre .1 .0, rl, rr, ok .0, ok .1, ok .2, ok .3, s .pre .1 .3))
+    let rs = s .pre .1 .1 in
+    (omega arith, (s .pre .1 .0, rs, record { left-stack = ok .0; left-file = ok .1; right-stack = ok .2; right-file = ok .3 }, s .pre .1 .2))
 
 eq-value-returns-3 : (t : ℕ) → eq-value-lts.Need-returns-3 (eq-value-claims t) (eq-value-at t) eq-value.Post
 eq-value-returns-3 t c =
@@ -874,7 +1046,13 @@ eq-value-returns-5 t c =
     let w = v-read2 t u in
     let s = v-start t u in
     let ok = pair-ok (s .args .k .m) (s .args .l) (s .args .r) (v .read-value .result) (w .read-value2 .result) (v .read-value .ensures .1) (w .read-value2 .ensures .1) (u .pair-up .ensures) (p .p .given .1) in
-    filled-value (tab (s .args .rows .now) (s .args .parts .now)) (s .args .args .now) (s .args .k .m) (s .args .k .by) (s .args .k .d) (s .args .k .by2) (s .args .k .d2) (s .args .r) (p .p .given .0 .0) (a .at .result) ok (a .at .ensures .0) (b .is-stack .ensures) (i .if2 .left) (e .eq-value .ensures) ∙ value-pair (tab (s .args .rows .now) (s .args .parts .now)) (argsOf (tab (s .args .rows .now) (s .args .parts .now)) (s .args .args .now) (s .args .k .m)) (s .args .k .by) (s .args .k .d) (s .args .k .by2) (s .args .k .d2) (s .args .k .m) (s .args .l) (s .args .r) (length-args (tab (s .args .rows .now) (s .args .parts .now)) (s .args .args .now) (s .args .k .m)) (v .read-value .ensures .0) (w .read-value2 .ensures .0) (w .read-value2 .ensures .1) (u .pair-up .ensures) (p .p .given .1)
+    filled-value (tab (s .args .rows .now) (s .args .parts .now)) (s .args .args .now) (s .args .k .m) (s .args .k .by) (s .args .k .d)
+    (s .args .k .by2) (s .args .k .d2) (s .args .r) (p .p .given .0 .0) (a .at .result) ok (a .at .ensures .0) (b .is-stack .ensures)
+    (i .if2 .left) (e .eq-value .ensures) ∙ value-pair (tab (s .args .rows .now) (s .args .parts .now))
+    (argsOf (tab (s .args .rows .now) (s .args .parts .now)) (s .args .args .now) (s .args .k .m)) (s .args .k .by) (s .args .k .d)
+    (s .args .k .by2) (s .args .k .d2) (s .args .k .m) (s .args .l) (s .args .r) (length-args (tab (s .args .rows .now)
+    (s .args .parts .now)) (s .args .args .now) (s .args .k .m)) (v .read-value .ensures .0) (w .read-value2 .ensures .0)
+    (w .read-value2 .ensures .1) (u .pair-up .ensures) (p .p .given .1)
 
 eq-value-returns-6 : (t : ℕ) → eq-value-lts.Need-returns-6 (eq-value-claims t) (eq-value-at t) eq-value.Post
 eq-value-returns-6 t c =

@@ -4,7 +4,7 @@ use mathlib.Core.Path.{_≡_}
 use mathlib.Core.Bool.{Bool, true, false, _&&_, cond}
 use mathlib.Core.List.{List, [], _∷_, map}
 use lib.Dec.{ltb}
-use lib.ListN.{getD}
+use lib.ListN.{length, getD}
 use Rattle.syntax.specs.Syntax.{Kind, value, stack}
 use Rattle.types.specs.Types.{Ty, nil, push, svar, join, Arg, meets}
 use Rattle.tables.specs.Tables.{RowTable}
@@ -65,6 +65,17 @@ room (suc m) = 514
 -- the m argument rows are among 514
 abbrev pub Givens : List ℕ → ℕ → Type 0
 Givens args m = (j : ℕ) → j < m → suc (getD args j 0) ≤ 514
+
+-- what is lent to read a stack: m arguments that are few rows, and n words, more than the arguments' entries
+pub record Lent (args : List ℕ) (m n : ℕ) : Type 0 where
+  pub given : Givens args m
+  pub enough : room m < n
+  pub short : n ≤ 32768
+
+-- what is pending in these words, i entries on the left and j on the right, is low enough for them
+pub record PendsBoth (m : ℕ) (pending : List ℕ) (i j : ℕ) : Type 0 where
+  pub left : Pends m (length pending - suc (room m)) (side false pending) i
+  pub right : Pends 0 (length pending - 1) (side true pending) j
 
 -- ---- what falls while entries are read
 -- an entry falls from a row in its context to one of an argument, and then by rows

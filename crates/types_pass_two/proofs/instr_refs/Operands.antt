@@ -100,7 +100,9 @@ module _ (rs : List ℕ) (n nb : ℕ) where
     unfolding operandAt span
     operand-plain m k l f em ek el z o = rw (← em, ← ek, ← el, z) (o ∙ sym (plain-least k l (cell 4 os v 2)))
 
-    pub operand-inst : (m k l b t f g h w out : ℕ) → m ≡ cell 4 os v 1 → k ≡ cell 4 os v 0 → l ≡ getD ns v 0 → b ≡ cell 4 os v 3 → t ≡ cell 4 os v 2 → (m ≡ 0 → ⊥) → f ≡ labelLeast nb k l → g ≡ refsLeast rs n (listRefs Argument (span xs b m)) → h ≡ refLeast rs n codeRow t → w ≡ least g h → out ≡ least f w → out ≡ operandsLeast rs n nb (operandAt (operandTable os ns xs) v ∷ [])
+    pub operand-inst : (m k l b t f g h w out : ℕ) → m ≡ cell 4 os v 1 → k ≡ cell 4 os v 0 → l ≡ getD ns v 0 → b ≡ cell 4 os v 3
+        → t ≡ cell 4 os v 2 → (m ≡ 0 → ⊥) → f ≡ labelLeast nb k l → g ≡ refsLeast rs n (listRefs Argument (span xs b m)) → h ≡ refLeast rs
+        n codeRow t → w ≡ least g h → out ≡ least f w → out ≡ operandsLeast rs n nb (operandAt (operandTable os ns xs) v ∷ [])
     unfolding operandAt span
     operand-inst zero k l b t f g h w out em ek el eb et z ef eg eh ew o = absurd (z refl)
     operand-inst (suc m) k l b t f g h w out em ek el eb et z ef eg eh ew o =
@@ -146,7 +148,9 @@ count-all k m h e z = let q : eqb (operandCount k) 2 ≡ true = eq-eqb (operandC
 pub count-own : (k m h : ℕ) → k ≤ 22 → h ≡ operandCount k → (h ≡ 2 → ⊥) → (h ≡ countOf k m) × (h ≤ 65535)
 count-own k m h l e z =
     let q : eqb (operandCount k) 2 ≡ false = ne-eqb (operandCount k) 2 (λ w. z (e ∙ w)) in
-    let b : operandCount k ≤ 2 = each (λ k. operandCount k ≤ 2) 23 (tt & lit≤ tt & lit≤ tt & lit≤ tt & lit≤ tt & lit≤ tt & lit≤ tt & lit≤ tt & lit≤ tt & lit≤ tt & lit≤ tt & lit≤ tt & lit≤ tt & lit≤ tt & lit≤ tt & lit≤ tt & lit≤ tt & lit≤ tt & lit≤ tt & lit≤ tt & lit≤ tt & lit≤ tt & lit≤ tt & lit≤ tt) k (omega arith) in
+    let b : operandCount k ≤ 2 = each (λ k. operandCount k ≤ 2) 23 (tt & lit≤ tt & lit≤ tt & lit≤ tt & lit≤ tt & lit≤ tt & lit≤ tt &
+    lit≤ tt & lit≤ tt & lit≤ tt & lit≤ tt & lit≤ tt & lit≤ tt & lit≤ tt & lit≤ tt & lit≤ tt & lit≤ tt & lit≤ tt & lit≤ tt & lit≤ tt &
+    lit≤ tt & lit≤ tt & lit≤ tt & lit≤ tt) k (omega arith) in
     (rw q e, omega arith)
 
 -- what an instruction names, by the code k that the tables of codes have for it
@@ -211,7 +215,9 @@ module _ (rs ps : List ℕ) (n nb : ℕ) where
         ∙ (ap (λ (l : List ℕ). least (refsLeast rs n (map (ref valueRow) l)) (operandsLeast rs n nb (names (instrAt ι ω j) .operands))) (sym (given-none ι ω j k g ek eg z))
         ∙ sym (instr-least (instrAt ι ω j))))
 
-    pub instr-given : (k c v m g f t y out : ℕ) → k ≡ min (cell 8 ι j 0) 22 → c ≡ cell 8 ι j 6 → v ≡ cell 8 ι j 5 → m ≡ countOf k c → g ≡ givenPlace k → (g ≡ 0 → ⊥) → f ≡ operandsLeast rs n nb (operandsAt ω v m) → t ≡ cell 8 ι j g → y ≡ refLeast rs n valueRow t → out ≡ least y f → out ≡ leastOf (entryFaults (rowsIn (tab rs ps) n) nb (instr (instrAt ι ω j)))
+    pub instr-given : (k c v m g f t y out : ℕ) → k ≡ min (cell 8 ι j 0) 22 → c ≡ cell 8 ι j 6 → v ≡ cell 8 ι j 5 → m ≡ countOf k c
+        → g ≡ givenPlace k → (g ≡ 0 → ⊥) → f ≡ operandsLeast rs n nb (operandsAt ω v m) → t ≡ cell 8 ι j g → y ≡ refLeast rs n valueRow t
+        → out ≡ least y f → out ≡ leastOf (entryFaults (rowsIn (tab rs ps) n) nb (instr (instrAt ι ω j)))
     instr-given k c v m g f t y out ek ec ev em eg z ef et ey o =
         o ∙ (ap₂ least
         (ey ∙ (sym (one-ref rs n valueRow t) ∙ ap (λ (l : List ℕ). refsLeast rs n (map (ref valueRow) l)) (sym (given-some ι ω j k g t ek eg z et))))

@@ -20,9 +20,6 @@ Inv-loop rows parts sizes₀ n r₀ sizes r = (rowsLeft (tab rows parts) n r ≡
 abbrev μ-loop : tie.MeasureT-loop
 μ-loop rows parts sizes₀ n r₀ sizes r = n - r
 
-loop-holds : tie.Need-loop-holds Inv-loop μ-loop
-loop-holds c = (rows-start _ _, search, refl)
-
 returns : tie.Need-returns Inv-loop μ-loop
 returns c =
     let l : tie.At-loop Inv-loop μ-loop = search in
@@ -42,5 +39,5 @@ returns-2 c =
 
 pub rows-fault-spec : {M : Type 1} → statement M
 rows-fault-spec =
-    tie.close (tie.spec Inv-loop μ-loop loop-holds (λ c κs. search needs) (λ c. search needs) (λ c. search) returns (λ c. search needs)
-    (λ c. search needs) loop-again (λ c. search) returns-2)
+    tie.close (tie.spec Inv-loop μ-loop (λ c. (rows-start _ _, search, refl)) (λ c κs. search needs) (λ c. search needs) (λ c. search)
+    returns (λ c. search needs) (λ c. search needs) loop-again (λ c. search) returns-2)

@@ -3,11 +3,5 @@ use borrow.Author.Needs.{needs}
 use Rattle.types_rows.proofs.link.Statement.{statement}
 use Rattle.types_rows.proofs.link.Tie as tie
 
-returns : tie.Need-returns
-returns c = link-in _ _ (search)
-
-returns-2 : tie.Need-returns-2
-returns-2 c = link-out _ _ (c .if1 .left)
-
 pub link-spec : {M : Type 1} → statement M
-link-spec = tie.close (tie.spec (λ c. search needs) (λ c. search needs) returns returns-2)
+link-spec = tie.close (tie.spec (λ c. search needs) (λ c. search needs) (λ c. link-in _ _ (search)) (λ c. link-out _ _ (c .if1 .left)))

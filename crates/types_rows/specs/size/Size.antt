@@ -1,5 +1,5 @@
 -- The size of a row by its form. That it is the size of crate types is proved (module measure, proofs/Sizes.antt).
-use Prim.Native.Nat.{ℕ, zero, suc, _+_}
+use Prim.Native.Nat.{ℕ, zero, suc, _+_, _≤_, _<_}
 use mathlib.Core.Path.{_≡_}
 use mathlib.Core.List.{List}
 use mathlib.Core.Bool.{Bool, true, false, cond}
@@ -55,6 +55,13 @@ sizeTo (suc n) τ (suc r) = suc (cond (isStackAt (τ .rows) r) (underS (sizeTo n
 -- the size of row h: links fall, so this is deep enough
 unfoldable pub sizeAt : RowTable → ℕ → ℕ
 sizeAt τ h = sizeTo (suc h) τ h
+
+-- row h may be one that is measured, and its n parts from p on may stand in a table
+pub record PartsAt (h p n : ℕ) : Type 0 where
+  pub named : 0 < h
+  pub low : h ≤ 65536
+  pub few : n ≤ 65535
+  pub within : p + n ≤ 131072
 
 -- each entry of the table of sizes is that of its row, or 0 for a row that is not measured yet
 abbrev pub Measured : RowTable → List ℕ → Type 0

@@ -1,13 +1,11 @@
-use mathlib.Core.Path.{_≡_, refl, ap, sym, subst, _∙_}
-use mathlib.Core.Bool.{true}
+use mathlib.Core.Path.{_≡_, refl, sym, subst, _∙_}
 use mathlib.Core.List.{List}
-use Prim.Native.Nat.{ℕ, _≤_}
+use Prim.Native.Nat.{ℕ}
 use native.Mathlib.Omega.{arith}
 use lib.ListN.{length}
 use borrow.Author.Tests.{not-false}
 use Rattle.image.specs.declared.Places.{Places}
 use Rattle.image.specs.Sections.{Ordered, useSection, topSection, sharedSection, slotSection}
-use Rattle.image.specs.Layout.{placesOf}
 use Rattle.image.proofs.Laws.{ordered}
 use Rattle.types_rows.specs.Read.{tab}
 use Rattle.valid.specs.Program.{programOf}
@@ -15,11 +13,10 @@ use Rattle.text_decode.specs.store.Store.{rowTable, storeIn}
 use Rattle.text_decode.proofs.AnswerLaws.{fits, fits-not, failed}
 use Rattle.load.specs.Loaded.{IsLoaded, LoadIs}
 use Rattle.load.proofs.Laws as load
-use Rattle.valid_share.specs.Shared.{Shared}
+use Rattle.valid_share.specs.Shared.{SharedFor, Shared}
 use Rattle.valid_verdict.specs.finding.Found.{Refuses}
 use Rattle.valid_verdict.specs.Answers.{third}
 use Rattle.valid_verdict.proofs.Laws.{answers-low}
-use Rattle.valid_check.specs.Lent.{SharedFor}
 use Rattle.valid_check.proofs.Laws.{ends, blocks-are, counts, shared-tables, shared-holds, none-low, loaded-still, shared-still, shared-for}
 use borrow.Author.Needs.{needs}
 use Rattle.valid_check.proofs.check_in.Statement.{statement}
@@ -117,15 +114,19 @@ share-requires c κs =
     let d = loaded p in
     let q = h .has-shared .ensures .0 (not-false (h .has-shared .result) (search)) in
     let n = d .few-rows in
-    ((in-order p, n, q .rows, q .parts, omega (arith, start-of (done p) .pre .0), start-of (done p) .pre .1), ((d .counted, d .int-row, d .junk-row), (d .clear, d .small-rows)))
+    ((in-order p, n, q, record { names = omega (arith, start-of (done p) .pre .0); hashes = start-of (done p) .pre .1 }), ((d .counted, d .int-row, d .junk-row), (d .clear, d .small-rows)))
 
 third-pass-requires : tie.Need-third-pass-requires
 third-pass-requires c κs =
     let s : tie.After-share = search in
     let p = laid s in
     let d = loaded₂ s in
-    let k = s .share .kept .1 .1 .1 .0 in
-    (in-order₂ s, shared-tables (text p) (storeIn (at p) (image₂ s) (numbers p)) (useSection (at p) (image₂ s)) (topSection (at p) (image₂ s)) (done p .load .result) d (sharedSection (at p) (image₂ s)) (slotSection (at p) (image₂ s)) (shared₂ s), d .small-instrs, d .few-instrs, d .few-blocks, d .first, ends (text p) (storeIn (at p) (image₂ s) (numbers p)) (useSection (at p) (image₂ s)) (topSection (at p) (image₂ s)) (done p .load .result) d, rw k (start-of (done p) .pre .0), omega (arith, s .share .kept .1 .1 .1 .1 .0, start-of (done p) .pre .1))
+    let k = s .share .kept .1 .1 .1 .0 in (
+      record { ordered = in-order₂ s; tables = shared-tables _ _ _ _ _ d _ _ (shared₂ s) },
+      record { small = d .small-instrs; instrs = d .few-instrs; blocks = d .few-blocks; first = d .first; ends = ends _ _ _ _ _ d },
+      rw k (start-of (done p) .pre .0),
+      omega (arith, s .share .kept .1 .1 .1 .1 .0, start-of (done p) .pre .1),
+    )
 
 returns-4 : tie.Need-returns-4
 returns-4 c =
@@ -133,10 +134,9 @@ returns-4 c =
     let a : tie.After-answer-by = search in
     let s = share-of f in
     let p = laid s in
-    let σ = storeIn (at p) (image₂ s) (numbers p) in
-    let h = shared-holds (text p) σ (useSection (at p) (image₂ s)) (topSection (at p) (image₂ s)) (done p .load .result) (loaded₂ s) (sharedSection (at p) (image₂ s)) (slotSection (at p) (image₂ s)) (shared₂ s) in
-    let q : Refuses (f .third-pass .result) (third (text p)) = f .third-pass .ensures (programOf (text p)) h (blocks-are (text p) σ (useSection (at p) (image₂ s)) (topSection (at p) (image₂ s)) (done p .load .result) (loaded₂ s) _ (shared₂ s .types)) in
-    fits refl (a .answer-by .ensures (text p) (none-low (text p) (done p .load .result) (answer p .fault) (no-fault p)) q (counts (text p) σ (useSection (at p) (image₂ s)) (topSection (at p) (image₂ s)) (done p .load .result) (loaded₂ s) (f .third-pass .result) q))
+    let h = shared-holds _ _ _ _ _ (loaded₂ s) _ _ (shared₂ s) in
+    let q : Refuses (f .third-pass .result) (third (text p)) = f .third-pass .ensures (programOf (text p)) h (blocks-are _ _ _ _ _ (loaded₂ s) _ (shared₂ s .types)) in
+    fits refl (a .answer-by .ensures (text p) (none-low (text p) (done p .load .result) (answer p .fault) (no-fault p)) q (counts _ _ _ _ _ (loaded₂ s) _ q))
 
 pub check-in-spec : {M : Type 1} → statement M
 check-in-spec =

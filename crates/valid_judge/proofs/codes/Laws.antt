@@ -1,8 +1,8 @@
 -- Which instruction stands in the table, by its code.
-use Prim.Native.Nat.{ℕ, zero, suc, _+_, _*_, _≤_, _<_}
+use Prim.Native.Nat.{ℕ, zero, suc, _≤_, _<_}
 use native.Mathlib.Omega.{arith}
 use mathlib.Core.Path.{_≡_, refl, ap, sym, _∙_, subst}
-use mathlib.Core.List.{List, [], _∷_}
+use mathlib.Core.List.{List}
 use mathlib.Core.Bool.{Bool, true, false}
 use lib.Dec.{leb}
 use lib.ListN.{length, getD, List·getD-eq-default}
@@ -10,7 +10,7 @@ use borrow.Author.Tests.{leb-true, leb-false}
 use Rattle.syntax.specs.Syntax.{Kind, Operand, Arith, add, sub, mul, Branch, beq, bneq, bgt, blt, bgte, blte, Instr, aop, bop, mov, ld, st, malloc, getsp, setsp, salloc, sfree, sld, sst, slp, ssp, jmp, halt}
 use Rattle.types.specs.Rows.{names}
 use Rattle.tables.specs.Tables.{OperandTable, cell, operandAt, operandsAt, instrFrom, instrAt}
-use Rattle.tables.proofs.Cases.{Each, _&_, each, instr-last}
+use Rattle.tables.proofs.Cases.{_&_, each, instr-last}
 use Rattle.valid.specs.Program.{Program}
 use Rattle.valid.specs.Rules.{Context}
 use Rattle.valid.specs.PassThree.{judge}

@@ -1,14 +1,14 @@
 -- A target's answer is that of the jump or branch to it.
-use Prim.Native.Nat.{ℕ, zero, suc, min, _≤_, _<_}
+use Prim.Native.Nat.{ℕ, zero, suc}
 use native.Mathlib.Omega.{arith}
-use mathlib.Core.Path.{_≡_, refl, ap, ap₂, sym, _∙_, subst}
-use mathlib.Core.Bool.{Bool, true, false, cond}
+use mathlib.Core.Path.{_≡_, refl, ap, sym, _∙_, subst}
+use mathlib.Core.Bool.{Bool, cond}
 use mathlib.Core.Option.{Option, none, some}
 use mathlib.Core.List.{List, [], _∷_, _++_}
 use lib.Dec.{eqb}
 use borrow.Author.Tests.{ne-eqb}
 use Rattle.syntax.specs.Syntax.{Kind, value, stack, Operand, Branch, jmp, bop}
-use Rattle.syntax.specs.Fault.{Fault, fault, numberOf, itemsOf, lowest}
+use Rattle.syntax.specs.Fault.{numberOf, itemsOf, lowest}
 use Rattle.syntax.proofs.Least.{least, items-append}
 use Rattle.types.specs.Types.{Ty}
 use Rattle.valid.specs.Program.{Program}

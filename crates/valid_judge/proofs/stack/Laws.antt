@@ -4,23 +4,21 @@ use native.Mathlib.Omega.{arith}
 use native.Mathlib.Nat.{zero-add}
 use mathlib.Core.Path.{_≡_, refl, ap, sym, _∙_}
 use mathlib.Core.Bool.{Bool, true, false, _&&_, cond}
-use mathlib.Core.Option.{Option, none, some}
-use mathlib.Core.List.{List, []}
+use mathlib.Core.Option.{none, some}
+use mathlib.Core.List.{List}
 use lib.Dec.{leb}
 use lib.ListN.{length, getD, set}
 use borrow.Author.Tests.{leb-true, le-leb, lt-leb}
 use Rattle.syntax.specs.Partial.{when}
 use Rattle.syntax.specs.Syntax.{Kind, value, stack, salloc, sfree, sst, setsp, getsp}
 use Rattle.syntax.proofs.Least.{least}
-use Rattle.types.specs.Types.{Ty, int, junk, var, tuple, pointer, code, nil, push, svar, gap, items, Arg, arg, ofKind}
-use Rattle.types.specs.Rows.{typeAt, typesOf}
+use Rattle.types.specs.Types.{Ty, int, junk, var, tuple, pointer, code, items, Arg, ofKind}
+use Rattle.types.specs.Rows.{typeAt}
 use Rattle.types.specs.Equal.{same}
-use Rattle.types.proofs.Equal.{and-inv, none-true, same-sound}
-use Rattle.tables.specs.Tables.{rowsIn}
+use Rattle.types.proofs.Equal.{and-inv, same-sound}
 use Rattle.valid.specs.Program.{Program, typeOf}
 use Rattle.valid.specs.Rules.{junks, Context, withSp}
 use Rattle.valid.specs.PassThree.{asPointer, itemAt, replaced, under, above, formed, pointerAt, assign, judge}
-use Rattle.types_rows.specs.Read.{tab}
 use Rattle.valid_context.specs.Context.{linked, regsOf, spOf, spAbove, areValues, contextOf}
 use Rattle.valid_context.specs.Told.{toldOf, answer}
 use Rattle.valid_context.proofs.Sp.{items-is, item-is, put-is, tail-is}

@@ -1,10 +1,10 @@
 -- What the ways through this crate's functions come to.
-use Prim.Native.Nat.{ℕ, zero, suc, _+_, _-_, _≤_, _<_}
+use Prim.Native.Nat.{ℕ, zero, suc, _+_, _-_}
 use native.Mathlib.Omega.{arith}
 use mathlib.Core.Path.{_≡_, refl, ap, ap₂, sym, _∙_}
 use mathlib.Core.Bool.{Bool, true, false, cond}
 use mathlib.Core.Option.{Option, none, some}
-use mathlib.Core.List.{List, []}
+use mathlib.Core.List.{List}
 use Rattle.syntax.specs.Partial.{bind, when}
 use Rattle.syntax.specs.Syntax.{Kind, value, stack, slp, ssp}
 use Rattle.syntax.proofs.Least.{least}

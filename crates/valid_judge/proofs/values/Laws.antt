@@ -1,18 +1,16 @@
 -- What the ways through this crate's functions come to.
-use Prim.Native.Nat.{ℕ, zero, suc, _+_, _-_, _≤_, _<_}
+use Prim.Native.Nat.{ℕ, suc, _+_, _-_, _<_}
 use native.Mathlib.Omega.{arith}
-use mathlib.Core.Path.{_≡_, refl, ap, ap₂, sym, _∙_}
+use mathlib.Core.Path.{_≡_, refl, ap, sym, _∙_}
 use mathlib.Core.Bool.{Bool, true, false, cond}
-use mathlib.Core.Option.{Option, none, some}
-use mathlib.Core.List.{List, []}
+use mathlib.Core.List.{List}
 use Rattle.syntax.specs.Partial.{when}
 use Rattle.syntax.specs.Syntax.{Kind, value, stack, Operand, Arith, aop, malloc}
 use Rattle.syntax.specs.Fault.{fault}
 use Rattle.syntax.proofs.Least.{least, least-none}
-use Rattle.types.specs.Types.{Ty, int, tuple, Arg}
+use Rattle.types.specs.Types.{Ty, int, tuple}
 use Rattle.types.specs.Rows.{typeAt}
 use Rattle.types.specs.Equal.{same}
-use Rattle.tables.specs.Tables.{cell}
 use Rattle.valid.specs.Program.{Program, typeOf}
 use Rattle.valid.specs.Rules.{Context}
 use Rattle.valid.specs.PassThree.{Judged, _▹_, orFault, asInt, formed, integerAt, operand, operands, assign, judge}
@@ -20,11 +18,9 @@ use Rattle.types_rows.specs.Read.{tab, valueAt, valueWith, meanV, meanS, buildV
 use Rattle.types_rows.specs.declared.Val.the-variants.{ValVar, Int}
 use Rattle.types_rows.proofs.Laws.{value-is}
 use Rattle.types_rows.proofs.Bridge.{type-in}
-use Rattle.valid_context.specs.Context.{regsOf}
 use Rattle.valid_context.specs.Told.{toldOf, answer}
 use Rattle.valid_typing.specs.Typing.{typesIn, Ready}
 use Rattle.valid_typing.proofs.Judging.{told-when, told-next, stops, aop-stops, aop-goes, malloc-stops, malloc-differs, malloc-goes}
-use Rattle.valid_judge.specs.heap.Forms.{held}
 use Rattle.valid_typing.specs.plain_components.Makes.{Makes}
 use Rattle.types.proofs.Equal.{same-refl}
 

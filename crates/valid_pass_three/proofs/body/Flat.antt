@@ -54,11 +54,16 @@ module _ (rows parts : List ℕ) (n : ℕ) (int-row : cell 4 rows n 0 ≡ 0) (ju
             let s : cell 4 rows r 1 < 64 = subst SmallRow (variable-row r k) (small r l) in
             omega arith
 
-        go : (b c : Bool) → eqb (cell 4 rows r 0) 7 ≡ c → (d : Bool) → SmallVars (buildS (meanV τ) (meanS τ) (cond b Nil (cond c (StkVar (cell 4 rows r 1)) (cond d (Push (lower (suc r) (cell 4 rows r 1)) (lower (suc r) (cell 4 rows r 2))) (Join (lower (suc r) (cell 4 rows r 1)) (lower (suc r) (cell 4 rows r 2)))))))
+        go : (b c : Bool) → eqb (cell 4 rows r 0) 7 ≡ c → (d : Bool) → SmallVars (buildS (meanV τ) (meanS τ)
+            (cond b Nil (cond c (StkVar (cell 4 rows r 1)) (cond d (Push (lower (suc r) (cell 4 rows r 1))
+            (lower (suc r) (cell 4 rows r 2))) (Join (lower (suc r) (cell 4 rows r 1)) (lower (suc r) (cell 4 rows r 2)))))))
         go true c e d = tt
         go false true e d = (var-small e, tt)
         go false false e true = h (lower (suc r) (cell 4 rows r 2)) (lower-low (suc r) (cell 4 rows r 2) (omega arith))
-        go false false e false = small-join (meanS τ (lower (suc r) (cell 4 rows r 1))) (meanS τ (lower (suc r) (cell 4 rows r 2))) (h (lower (suc r) (cell 4 rows r 1)) (lower-low (suc r) (cell 4 rows r 1) (omega arith))) (h (lower (suc r) (cell 4 rows r 2)) (lower-low (suc r) (cell 4 rows r 2) (omega arith)))
+        go false false e false =
+            small-join (meanS τ (lower (suc r) (cell 4 rows r 1))) (meanS τ (lower (suc r) (cell 4 rows r 2)))
+            (h (lower (suc r) (cell 4 rows r 1)) (lower-low (suc r) (cell 4 rows r 1) (omega arith))) (h (lower (suc r) (cell 4 rows r 2))
+            (lower-low (suc r) (cell 4 rows r 2) (omega arith)))
 
     small-to : (m x : ℕ) → x < m → x ≤ n → SmallVars (meanS τ x)
     small-to zero x h l = absurd (not-suc-le-zero h)

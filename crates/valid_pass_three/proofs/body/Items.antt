@@ -146,7 +146,10 @@ module _ (P : Program) (Δ : List Kind) where
 
   target-low : (Γ : Context) (v : Operand) → items (Γ .regs) ≤ 8 → Low (faultsOf (targetOf P Δ Γ v))
   unfolding targetOf
-  target-low Γ v l = then _ _ (operand-low (unfit 99) (one-low 99 (omega arith)) (Γ .regs) v) (λ u. then (orFault 9 (asCode u)) _ (or-low 9 _) (λ c. then _ _ (need-low (fault 9) _ (numbered 9)) (λ z. then _ _ (beside _ _ (need-low (unfit 0) _ (one-low 0 (omega arith))) (none-low (unfits P Δ 1 (c .regs) (Γ .regs)) (unfits-low 1 (c .regs) (Γ .regs) (omega arith)))) (λ y. held tt))))
+  target-low Γ v l =
+      then _ _ (operand-low (unfit 99) (one-low 99 (omega arith)) (Γ .regs) v) (λ u. then (orFault 9 (asCode u)) _ (or-low 9 _)
+      (λ c. then _ _ (need-low (fault 9) _ (numbered 9)) (λ z. then _ _ (beside _ _ (need-low (unfit 0) _ (one-low 0 (omega arith)))
+      (none-low (unfits P Δ 1 (c .regs) (Γ .regs)) (unfits-low 1 (c .regs) (Γ .regs) (omega arith)))) (λ y. held tt))))
 
   tail-low : (Γ : Context) (b : Ty stack) (i s t : ℕ) → Low (faultsOf (newTail P Δ Γ b i s t))
   unfolding newTail

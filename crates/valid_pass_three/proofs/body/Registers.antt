@@ -28,7 +28,9 @@ use Rattle.valid_verdict.specs.finding.Found.{Refuses}
 use Rattle.valid_verdict.proofs.finding.Laws.{refuses-as}
 
 -- a register that is named
-pub link-known : (n t u : ℕ) {s : Slot} → s ≡ Known t → ((rows parts : List ℕ) → Ready rows parts n → typeAt value (typesIn rows parts n) u ≡ meanV (tab rows parts) t) → (rows parts : List ℕ) (a : Ty stack) → Ready rows parts n → onLink (typesIn rows parts n) (u + 1) a ≡ onSlot (meanV (tab rows parts)) s a
+pub link-known : (n t u : ℕ) {s : Slot} → s ≡ Known t → ((rows parts : List ℕ) → Ready rows parts n → typeAt value (typesIn rows parts n)
+    u ≡ meanV (tab rows parts) t) → (rows parts : List ℕ) (a : Ty stack) → Ready rows parts n → onLink (typesIn rows parts n) (u + 1)
+    a ≡ onSlot (meanV (tab rows parts)) s a
 link-known n t u e h rows parts a r =
     let q : u + 1 ≡ suc u = omega arith in
     ap (λ (x : ℕ). onLink (typesIn rows parts n) x a) q ∙ ap (λ (x : Ty value). push x a) (h rows parts r) ∙ ap (λ (s : Slot). onSlot (meanV (tab rows parts)) s a) (sym e)
@@ -77,7 +79,11 @@ module _ (rows parts : List ℕ) (n h p : ℕ) where
   right-all regs i l r = all-right regs (λ k q. r k (omega arith)) 0 8 (omega arith) ∙ ap (λ (j : ℕ). partsOf v parts true h j 8) (add-zero p)
 
 -- ---- the context at a block's start
-pub entered : (P : Program) (rows parts regs sp : List ℕ) (n h x p d k m : ℕ) (xs : List Instr) (f : Finding) → Refuses f (lowestLine m (bodyFaults P (map letterOf (span parts (p + 9) k)) (holds (contextOf (typesIn rows parts n) regs sp d)) xs)) → k ≡ getD parts (p + 8) 0 → regsOf (typesIn rows parts n) regs ≡ partsOf (meanV (tab rows parts)) parts true h p 8 → spOf (typesIn rows parts n) sp (items (meanS (tab rows parts) x)) ≡ meanS (tab rows parts) x → d ≡ items (meanS (tab rows parts) x) → Refuses f (lowestLine m (bodyFaults P (lettersAt parts p) (holds (atStart (blockAt (tab rows parts) h x p xs))) xs))
+pub entered : (P : Program) (rows parts regs sp : List ℕ) (n h x p d k m : ℕ) (xs : List Instr) (f : Finding)
+    → Refuses f (lowestLine m (bodyFaults P (map letterOf (span parts (p + 9) k)) (holds (contextOf (typesIn rows parts n) regs sp d))
+    xs)) → k ≡ getD parts (p + 8) 0 → regsOf (typesIn rows parts n) regs ≡ partsOf (meanV (tab rows parts)) parts true h p 8
+    → spOf (typesIn rows parts n) sp (items (meanS (tab rows parts) x)) ≡ meanS (tab rows parts) x → d ≡ items (meanS (tab rows parts) x)
+    → Refuses f (lowestLine m (bodyFaults P (lettersAt parts p) (holds (atStart (blockAt (tab rows parts) h x p xs))) xs))
 unfolding lettersAt
 entered P rows parts regs sp n h x p d k m xs f r e g s w =
     refuses-as f

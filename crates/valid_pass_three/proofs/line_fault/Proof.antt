@@ -11,8 +11,8 @@ block-fault-requires : tie.Need-block-fault-requires
 unfolding part
 block-fault-requires c κs =
     let s : tie.Start = search in
-    let t = s .pre .1 in
-    (t .ready .few, s .pre .2, (λ y k. counted-to (rowTable (s .args .p) (s .args .image .now)) (s .args .n + 2) (t .ready .counted) y (omega arith)), t .scoped)
+    let t = s .pre .0 .tables in
+    (t .ready .few, s .pre .1, (λ y k. counted-to (rowTable (s .args .p) (s .args .image .now)) (s .args .n + 2) (t .ready .counted) y (omega arith)), t .scoped)
 
 returns : tie.Need-returns
 unfolding part
@@ -22,8 +22,6 @@ returns c =
 
 pub line-fault-spec : {M : Type 1} → statement M
 line-fault-spec =
-    tie.close
-    (tie.spec
+    tie.close (tie.spec (λ c. search needs) (λ c. search needs) (λ c. search needs) (λ c. search needs) (λ c. search needs)
     (λ c. search needs) (λ c. search needs) (λ c. search needs) (λ c. search needs) (λ c. search needs) (λ c. search needs)
-    (λ c. search needs) (λ c. search needs) (λ c. search needs) (λ c. search needs) (λ c. search needs) (λ c. search needs)
-    (λ c. search needs) (λ c. search needs) (λ c. search needs) (λ c. search needs) block-fault-requires returns)
+    (λ c. search needs) (λ c. search needs) (λ c. search needs) (λ c. search needs) (λ c. search needs) block-fault-requires returns)

@@ -4,7 +4,6 @@ use native.Mathlib.Nat.{pos-of-ne-zero}
 use native.Mathlib.Omega.{arith}
 use mathlib.Core.Path.{_≡_, sym, subst, refl, _∙_}
 use mathlib.Core.List.{List}
-use lib.ListN.{length}
 use Rattle.syntax.specs.Fault.{lowestLine}
 use Rattle.types.specs.Types.{Arg}
 use Rattle.types.specs.Rows.{typesOf}
@@ -17,6 +16,7 @@ use Rattle.valid_typing.specs.Image.{rowTable, operandsIn, HoldsAt}
 use Rattle.valid_verdict.specs.finding.Found.{Refuses}
 use Rattle.valid_verdict.proofs.finding.Laws.{refuses-as, none-found}
 use Rattle.valid_pass_three.specs.Blocks.{blocksIn}
+use Rattle.valid_pass_three.proofs.body.Arrays.{AsLong, still}
 use Rattle.valid_pass_three.proofs.Blocks.{blocksLeft, block-next, block-found, blocks-end, whole, no-block, length-all}
 use Rattle.valid_pass_three.proofs.pass_three.Statement.{statement}
 use Rattle.valid_pass_three.proofs.pass_three.Tie as tie
@@ -27,8 +27,10 @@ types p l n = typesOf (rowsIn (rowTable p l) n)
 
 abbrev Inv-loop : tie.InvT-loop
 Inv-loop image literals regs₀ sp₀ work₀ pending₀ t k b₀ regs sp work pending b =
-    ((length regs ≡ length regs₀) × (length sp ≡ length sp₀) × (length work ≡ length work₀) × (length pending ≡ length pending₀))
-    × ((P : Program) → HoldsAt t image k P → P .blocks ≡ blocksOf (types t image (k .rows)) (blocksIn t image literals k) → blocksLeft P (types t image (k .rows)) (blockSection t image) (instrSection t image) (operandsIn t image literals) (k .instrs) (k .rows) (k .blocks) b ≡ lowestLine 0 (passThree P))
+    AsLong regs sp work pending regs₀ sp₀ work₀ pending₀
+    × ((P : Program) → HoldsAt t image k P → P .blocks ≡ blocksOf (types t image (k .rows)) (blocksIn t image literals k) → blocksLeft P
+    (types t image (k .rows)) (blockSection t image) (instrSection t image) (operandsIn t image literals) (k .instrs) (k .rows)
+    (k .blocks) b ≡ lowestLine 0 (passThree P))
 
 abbrev μ-loop : tie.MeasureT-loop
 μ-loop image literals regs₀ sp₀ work₀ pending₀ t k b₀ regs sp work pending b = k .blocks - b
@@ -54,7 +56,7 @@ one-more t = search
 add-on-line : tie.Need-add-on-line Inv-loop μ-loop
 add-on-line c =
     let s : Start = search in
-    let u = s .pre .1 .ready .few in
+    let u = s .pre .0 .tables .ready .few in
     omega arith
 
 returns : tie.Need-returns Inv-loop μ-loop
@@ -63,7 +65,9 @@ returns c =
     let o : tie.After-on-line Inv-loop μ-loop = search in
     let a = s .args in
     let l = a .image .now in
-    λ P h e. subst (λ f. Refuses f (lowestLine 0 (passThree P))) (sym (o .on-line .ensures)) (no-block P (types (a .p) l (a .c .rows)) (blockSection (a .p) l) (instrSection (a .p) l) (operandsIn (a .p) l (a .literals .now)) (a .c .instrs) (a .c .rows) (a .c .blocks) (length-all (rowTable (a .p) l) (a .c .rows)) (h .types) e (search))
+    λ P h e. subst (λ f. Refuses f (lowestLine 0 (passThree P))) (sym (o .on-line .ensures)) (no-block P (types (a .p) l (a .c .rows))
+    (blockSection (a .p) l) (instrSection (a .p) l) (operandsIn (a .p) l (a .literals .now)) (a .c .instrs) (a .c .rows) (a .c .blocks)
+    (length-all (rowTable (a .p) l) (a .c .rows)) (h .types) e (search))
 
 loop-holds : tie.Need-loop-holds Inv-loop μ-loop
 loop-holds c =
@@ -71,8 +75,12 @@ loop-holds c =
     let k : tie.Else1 Inv-loop μ-loop = search in
     let a = s .args in
     let l = a .image .now in
-    let z = pos-of-ne-zero (k .if1 .left) in
-    ((refl, refl, refl, refl), λ P h e. sym (whole P (types (a .p) l (a .c .rows)) (blockSection (a .p) l) (instrSection (a .p) l) (operandsIn (a .p) l (a .literals .now)) (a .c .instrs) (a .c .rows) (a .c .blocks) (length-all (rowTable (a .p) l) (a .c .rows)) (h .types) e z (s .pre .5 z)))
+    let z = pos-of-ne-zero (k .if1 .left) in (
+      record { registers = refl; items = refl; work = refl; pending = refl },
+      λ P h e. sym (whole P (types (a .p) l (a .c .rows))
+          (blockSection (a .p) l) (instrSection (a .p) l) (operandsIn (a .p) l (a .literals .now)) (a .c .instrs) (a .c .rows) (a .c .blocks)
+          (length-all (rowTable (a .p) l) (a .c .rows)) (h .types) e z (s .pre .1 .first z)),
+    )
 
 block-requires : tie.Need-block-requires Inv-loop μ-loop
 block-requires c κs =
@@ -80,33 +88,16 @@ block-requires c κs =
     let k : tie.Else1 Inv-loop μ-loop = search in
     let g : At-loop = search in
     let w : g .loop .b < s .args .c .blocks = search in
-    let i = g .loop .inv .0 in
-    let m = s .pre .4 in
-    (s .pre .0, s .pre .1, s .pre .2 (pos-of-ne-zero (k .if1 .left)), s .pre .3, omega arith, s .pre .6 (g .loop .b) w .1, omega (arith, i .0, s .pre .7), omega (arith, i .1, s .pre .8), omega (arith, i .2, s .pre .9), omega (arith, i .3, s .pre .10))
-
-same-length : tie.Need-same-length Inv-loop μ-loop
-same-length c =
-    let g : At-loop = search in
-    let t : After-block = search in
-    t .block .kept .1 .1 .1 .1 .1 .0 ∙ g .loop .inv .0 .0
-
-same-length-2 : tie.Need-same-length-2 Inv-loop μ-loop
-same-length-2 c =
-    let g : At-loop = search in
-    let t : After-block = search in
-    t .block .kept .1 .1 .1 .1 .1 .1 .0 ∙ g .loop .inv .0 .1
-
-same-length-3 : tie.Need-same-length-3 Inv-loop μ-loop
-same-length-3 c =
-    let g : At-loop = search in
-    let t : After-block = search in
-    t .block .kept .1 .1 .1 .1 .1 .1 .1 .0 ∙ g .loop .inv .0 .2
-
-same-length-4 : tie.Need-same-length-4 Inv-loop μ-loop
-same-length-4 c =
-    let g : At-loop = search in
-    let t : After-block = search in
-    t .block .kept .1 .1 .1 .1 .1 .1 .1 .1 .0 ∙ g .loop .inv .0 .3
+    let q = s .pre .1 in (
+      s .pre .0,
+      record {
+        small = q .small (pos-of-ne-zero (k .if1 .left));
+        instrs = q .instrs;
+        number = omega arith;
+        end = q .ends (g .loop .b) w .1;
+      },
+      still (s .pre .2) (g .loop .inv .0),
+    )
 
 returns-2 : tie.Need-returns-2 Inv-loop μ-loop
 returns-2 c =
@@ -116,7 +107,9 @@ returns-2 c =
     let w = one-more t in
     let a = s .args in
     let l = a .image .now in
-    λ P h e. refuses-as (t .block .result) (g .loop .inv .1 P h e) (block-found P (types (a .p) l (a .c .rows)) (blockSection (a .p) l) (instrSection (a .p) l) (operandsIn (a .p) l (a .literals .now)) (a .c .instrs) (a .c .rows) (a .c .blocks) (g .loop .b) w (s .pre .6 (g .loop .b) w .0) (t .block .result) (t .block .ensures P h) (search))
+    λ P h e. refuses-as (t .block .result) (g .loop .inv .1 P h e) (block-found P (types (a .p) l (a .c .rows)) (blockSection (a .p) l)
+    (instrSection (a .p) l) (operandsIn (a .p) l (a .literals .now)) (a .c .instrs) (a .c .rows) (a .c .blocks) (g .loop .b) w
+    (s .pre .1 .ends (g .loop .b) w .0) (t .block .result) (t .block .ensures P h) (search))
 
 loop-again : tie.Need-loop-again Inv-loop μ-loop
 loop-again c =
@@ -126,8 +119,12 @@ loop-again c =
     let w = one-more t in
     let i = g .loop .inv .0 in
     let a = s .args in
-    let l = a .image .now in
-    ((t .block .kept .1 .1 .1 .1 .1 .0 ∙ i .0, t .block .kept .1 .1 .1 .1 .1 .1 .0 ∙ i .1, t .block .kept .1 .1 .1 .1 .1 .1 .1 .0 ∙ i .2, t .block .kept .1 .1 .1 .1 .1 .1 .1 .1 .0 ∙ i .3), λ P h e. sym (block-next P (types (a .p) l (a .c .rows)) (blockSection (a .p) l) (instrSection (a .p) l) (operandsIn (a .p) l (a .literals .now)) (a .c .instrs) (a .c .rows) (a .c .blocks) (g .loop .b) w (s .pre .6 (g .loop .b) w .0) (t .block .result) (t .block .ensures P h) (search)) ∙ g .loop .inv .1 P h e)
+    let l = a .image .now in (
+      record { registers = t .block .kept .1 .1 .1 .1 .1 .0 ∙ i .registers; items = t .block .kept .1 .1 .1 .1 .1 .1 .0 ∙ i .items; work = cc; pending = cc },
+      λ P h e. sym (block-next P (types (a .p) l (a .c .rows)) (blockSection (a .p) l) (instrSection (a .p) l) (operandsIn (a .p) l
+          (a .literals .now)) (a .c .instrs) (a .c .rows) (a .c .blocks) (g .loop .b) w (s .pre .1 .ends (g .loop .b) w .0) (t .block .result)
+          (t .block .ensures P h) (search)) ∙ g .loop .inv .1 P h e,
+    )
 
 returns-3 : tie.Need-returns-3 Inv-loop μ-loop
 returns-3 c =
@@ -140,9 +137,6 @@ returns-3 c =
 
 pub pass-three-spec : {M : Type 1} → statement M
 pass-three-spec =
-    tie.close
-    (tie.spec
-    Inv-loop μ-loop add-on-line (λ c κs. search needs) returns loop-holds block-requires same-length same-length-2 same-length-3 same-length-4 returns-2
-    (λ c. search needs) (λ c. search needs) loop-again (λ c κs. search needs)
-    (λ c. let g : At-loop = search in g .loop .inv .0 .0) (λ c. let g : At-loop = search in g .loop .inv .0 .1)
-    (λ c. let g : At-loop = search in g .loop .inv .0 .2) (λ c. let g : At-loop = search in g .loop .inv .0 .3) returns-3)
+    tie.close (tie.spec Inv-loop μ-loop add-on-line (λ c κs. search needs) returns loop-holds block-requires (λ c. (cc)) (λ c. (cc))
+    (λ c. (cc)) (λ c. (cc)) returns-2 (λ c. search needs) (λ c. search needs) loop-again (λ c κs. search needs) (λ c. search)
+    (λ c. search) (λ c. search) (λ c. search) returns-3)

@@ -1,16 +1,18 @@
 -- What pass three relies on.
 use Prim.Native.Nat.{ℕ, _+_, _≤_, _<_}
 use mathlib.Core.List.{List}
+use lib.ListN.{length}
 use Rattle.image.specs.declared.Places.{Places}
-use Rattle.image.specs.Sections.{instrSection, useSection, topSection, sharedSection, slotSection}
+use Rattle.image.specs.Sections.{Ordered, instrSection, useSection, topSection, sharedSection, slotSection}
 use Rattle.syntax.specs.Syntax.{Instr}
 use Rattle.types.specs.Types.{items}
 use Rattle.tables.specs.Tables.{rowAt, instrsFrom}
 use Rattle.types_rows.specs.Read.{tab, meanS}
 use Rattle.valid_scope.specs.Scoped.{Scoped}
 use Rattle.valid_typing.specs.Typing.{Ready}
-use Rattle.valid_typing.specs.Image.{operandsIn}
-use Rattle.valid_context.specs.premises.Bounds.{SmallRow}
+use Rattle.valid_typing.specs.Image.{rowTable, operandsIn, instrIn}
+use Rattle.valid_context.specs.premises.Bounds.{SmallRow, SmallInstr}
+use Rattle.valid_pass_three.specs.declared.body.CodeBlock.{CodeBlock}
 
 -- what the tables of rows hold: every row's count, its uses of variables, small numbers
 pub record Tables (rows parts : List ℕ) (n : ℕ) (uses tops : List ℕ) : Type 0 where
@@ -22,6 +24,32 @@ pub record Tables (rows parts : List ℕ) (n : ℕ) (uses tops : List ℕ) : Typ
 -- the same of an image, its rows as the checker shares them
 abbrev pub TablesAt : Places → List ℕ → ℕ → Type 0
 TablesAt p l n = Tables (sharedSection p l) (slotSection p l) n (useSection p l) (topSection p l)
+
+-- the same, with the image's sections in order
+pub record Tabled (p : Places) (image : List ℕ) (n : ℕ) : Type 0 where
+  pub ordered : Ordered p (length image)
+  pub tables : TablesAt p image n
+
+-- the instructions from first to end - 1, behind line base, have small numbers
+pub record SmallInstrs (p : Places) (image literals : List ℕ) (first end base : ℕ) : Type 0 where
+  pub small : (i : ℕ) → first ≤ i → i < end → SmallInstr (instrIn p image literals i)
+  pub last : end ≤ 65535
+  pub lines : base ≤ 262144
+
+-- room in the arrays of registers, of sp's items, of those behind a pointer, and of what a comparison keeps pending
+pub record Arrays (γ σ ω π : List ℕ) : Type 0 where
+  pub registers : 8 ≤ length γ
+  pub items : 64 ≤ length σ
+  pub work : 4096 ≤ length ω
+  pub pending : 1543 ≤ length π
+
+-- the code row of a block is one of the n, its stack stands below it and has few items
+pub record CodeRow (p : Places) (image : List ℕ) (n : ℕ) (x : CodeBlock) : Type 0 where
+  pub some : 0 < x .link
+  pub row : x .link ≤ n + 1
+  pub below : x .stack < x .link
+  pub start : x .start ≤ 65535
+  pub few : items (meanS (rowTable p image) (x .stack)) ≤ 64
 
 -- the k instructions of an image from i on
 abbrev pub instrsIn : Places → List ℕ → List ℕ → ℕ → ℕ → List Instr

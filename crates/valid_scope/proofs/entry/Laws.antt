@@ -215,7 +215,9 @@ module _ (rows parts : List ℕ) (h x p : ℕ) (xs : List Instr) where
       ∙ ap (λ (b : Bool). sameLetters (lettersAt parts p) [] && b) (false-left (same (meanS τ x) nil))
       ∙ entry-is (sameLetters (lettersAt parts p) []) (same (meanS τ x) nil) false refl refl (ap (λ (b : Bool). b && same (partsOf (meanV τ) parts true h (p + 1) 7) (gaps 7)) (sym z) ∙ registers-fit s _ d refl)
 
-  pub entry-fit : (k j : ℕ) (s : Samples) (b : Bool) → k ≡ getD parts (p + 8) 0 → k ≡ 0 → j ≡ itemsAt rows x → CountedTo τ x → j ≡ 0 → Declares (onSlot (meanV τ) (slotAt true h (getD parts p 0))) s → s .fit ≡ true → b ≡ same (partsOf (meanV τ) parts true h (p + 1) 7) (gaps 7) → b ≡ isEntry (blockAt τ h x p xs)
+  pub entry-fit : (k j : ℕ) (s : Samples) (b : Bool) → k ≡ getD parts (p + 8) 0 → k ≡ 0 → j ≡ itemsAt rows x → CountedTo τ x → j ≡ 0
+      → Declares (onSlot (meanV τ) (slotAt true h (getD parts p 0))) s → s .fit ≡ true → b ≡ same (partsOf (meanV τ) parts true h (p + 1)
+      7) (gaps 7) → b ≡ isEntry (blockAt τ h x p xs)
   entry-fit k j s b e z f c y d t g =
       entry-is true true b (sym (eq-eqb k 0 z) ∙ binds k e) (sym (eq-eqb j 0 y) ∙ holds-none j f c) (ap (λ (a : Bool). a && b) (sym t) ∙ registers-fit s b d g)
 
@@ -321,12 +323,17 @@ module _ (rows parts : List ℕ) (n c h : ℕ) {v : Val} {x p : ℕ} (e : h ≡ 
       ∙ ap (formedArg []) (arg-at (tab rows parts) n c (code-in .0) ∙ ap (λ (z : Bool). cond z (arg stack (meanS (tab rows parts) (suc c))) (arg value (meanV (tab rows parts) (suc c)))) no-stack)
       ∙ ap (λ (t : Ty value). isFormed [] aStack t) (ap (meanV (tab rows parts)) (sym (code-in .1)) ∙ sym (form-is rows parts h f q))
 
-  pub block-least : (first a b : Bool) (k out : ℕ) (xs : List Instr) → a ≡ formedArg (map letterOf (span parts 0 0)) (getD (typesOf (rowsIn (tab rows parts) n)) c (arg value junk)) → not b ≡ first && not (isEntry (blockAt (tab rows parts) h x p xs)) → k ≡ itemsAt rows x → CountedTo (tab rows parts) n → out ≡ leastOf (given (not a) 7 ++ given (not b) 8 ++ given (ltb 64 k) 13) → out ≡ leastOf (blockFaults first (blockOf (typeAt value (typesOf (rowsIn (tab rows parts) n)) c) xs))
+  pub block-least : (first a b : Bool) (k out : ℕ) (xs : List Instr) → a ≡ formedArg (map letterOf (span parts 0 0))
+      (getD (typesOf (rowsIn (tab rows parts) n)) c (arg value junk)) → not b ≡ first && not (isEntry (blockAt (tab rows parts) h x p xs))
+      → k ≡ itemsAt rows x → CountedTo (tab rows parts) n → out ≡ leastOf (given (not a) 7 ++ given (not b) 8 ++ given (ltb 64 k) 13)
+      → out ≡ leastOf (blockFaults first (blockOf (typeAt value (typesOf (rowsIn (tab rows parts) n)) c) xs))
   unfolding blockFaults
   block-least first a b k out xs g i j l r =
       r
       ∙ ap₂ (λ (y z : Bool). leastOf (given (not y) 7 ++ given z 8 ++ given (ltb 64 k) 13)) (formed-is a g) i
-      ∙ ap (λ (z : ℕ). leastOf (given (not (isFormed [] aStack (code (lettersAt parts p) (meanS (tab rows parts) x) (partsOf (meanV (tab rows parts)) parts true h p 8)))) 7 ++ given (first && not (isEntry (blockAt (tab rows parts) h x p xs))) 8 ++ given (ltb 64 z) 13)) (j ∙ l x (let w = code-low .0 in let y = code-in in omega (arith, y .0, y .1)))
+      ∙ ap (λ (z : ℕ). leastOf (given (not (isFormed [] aStack (code (lettersAt parts p) (meanS (tab rows parts) x)
+      (partsOf (meanV (tab rows parts)) parts true h p 8)))) 7 ++ given (first && not (isEntry (blockAt (tab rows parts) h x p xs))) 8
+      ++ given (ltb 64 z) 13)) (j ∙ l x (let w = code-low .0 in let y = code-in in omega (arith, y .0, y .1)))
       ∙ ap (λ (B : Block). leastOf (blockFaults first B)) (sym (block-is rows parts n c h e f {x = x} {p = p} xs q))
 
   pub counted-stack : CountedTo (tab rows parts) n → CountedTo (tab rows parts) x

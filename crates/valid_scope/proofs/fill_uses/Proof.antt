@@ -31,9 +31,6 @@ Limit = tie.After-limit-of Inv-loop μ-loop
 abbrev At-loop : Type 0
 At-loop = tie.At-loop Inv-loop μ-loop
 
-loop-holds : tie.Need-loop-holds Inv-loop μ-loop
-loop-holds c = filling-first _ (search)
-
 loop-again : tie.Need-loop-again Inv-loop μ-loop
 unfolding part
 loop-again c =
@@ -47,7 +44,7 @@ loop-again c =
     let f = l .loop .inv in
     let parts = partSection (a .p) (a .image .now) in
     let same : partSection (a .p) (l .loop .image) ≡ parts = before _ _ _ _ (omega (arith, h .0)) (f .out) _ _ (h .0 .parts) (omega (arith, h .0)) in
-    let e = use-now _ _ _ _ (h .2) (f .free) (g .form-at .ensures .0 _) (rw same at (u .use-in .ensures)) in
+    let e = use-now _ _ _ _ (h .2 .checked) (f .free) (g .form-at .ensures .0 _) (rw same at (u .use-in .ensures)) in
     filling-next f (omega (arith, h .0)) (h .1) (m .limit-of .ensures .1) (omega arith) e (search)
 
 returns : tie.Need-returns Inv-loop μ-loop
@@ -63,8 +60,13 @@ returns c =
     let n = m .limit-of .result in
     let e : l .loop .k ≡ n = omega arith in
     let x = g .form-at .result in
-    let past = past-limit _ _ _ _ (h .2) (h .3) (h .5) (x .kind) (x .first) (x .second) n (g .form-at .ensures .0 _) (m .limit-of .ensures .0) in
-    (f .highest ∙ ap (topOf (λ j. freeIn j _)) e ∙ top-bound (λ j. freeIn j _) n 64 (64 - n) (omega arith) past, filling-last f (omega (arith, h .0)) (h .1) (m .limit-of .ensures .1) (t .clear .last .0) e (h .2) past (t .clear .kept .0) (t .clear .ensures), filling-out f (omega (arith, h .0)) (h .1) (m .limit-of .ensures .1) (t .clear .last .0) (t .clear .kept .0))
+    let past = past-limit _ _ _ _ (h .2 .checked) (h .3) (h .2 .within) (x .kind) (x .first) (x .second) n (g .form-at .ensures .0 _) (m .limit-of .ensures .0) in (
+      f .highest ∙ ap (topOf (λ j. freeIn j _)) e ∙ top-bound (λ j. freeIn j _) n 64 (64 - n) (omega arith) past,
+      filling-last f
+          (omega (arith, h .0)) (h .1) (m .limit-of .ensures .1) (t .clear .last .0) e (h .2 .checked) past (t .clear .kept .0)
+          (t .clear .ensures),
+      filling-out f (omega (arith, h .0)) (h .1) (m .limit-of .ensures .1) (t .clear .last .0) (t .clear .kept .0),
+    )
 
 pub fill-uses-spec : {M : Type 1} → statement M
 fill-uses-spec =
@@ -74,7 +76,7 @@ fill-uses-spec =
     -- the row's form
     (λ c. search needs) (λ c. search needs) (λ c. search needs) (λ c. search needs) (λ c κs. search needs)
     (λ c κs. search needs)
-    loop-holds
+    (λ c. filling-first _ (search))
     (λ c κs. search needs)
     -- the entry
     (λ c. search needs) (λ c. search needs) (λ c. search needs) (λ c. search needs) (λ c. search needs)

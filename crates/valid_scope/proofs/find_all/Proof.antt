@@ -27,7 +27,7 @@ find-uses-requires c κs =
     let o = s .pre .0 in
     let e0 = same-rows o f in
     let e1 = same-parts o f in
-    (rw (f .out .size) o, omega arith, omega arith, rw (e0, e1) (s .pre .3 _ (omega arith)), rw (e0, e1) (f .scoped), f .small, rw (e0, e1) (f .within))
+    (rw (f .out .size) o, search needs, record { checked = rw (e0, e1) (s .pre .3 _ (omega arith)); few = f .small; within = rw (e0, e1) (f .within) }, rw (e0, e1) (f .scoped))
 
 loop-again : tie.Need-loop-again Inv-loop μ-loop
 loop-again c =

@@ -28,8 +28,15 @@ returns c =
     let q : tie.After-row-respected = search in
     let t : tie.After-fill-uses = search in
     let h = s .pre in
-    let f = t .fill-uses .ensures in
-    (row-scoped _ (h .0 .uses) (h .0 .tops) (omega (arith, h .0)) (f .2) _ (h .1) (h .2) _ _ (h .3) (h .4) (q .row-respected .ensures) (f .0) (search) (f .1), within-small _ _ _ _ (h .3) (h .4 .free) (h .6) _ _ (h .5) (f .0) (search), within-more _ _ _ _ (h .3) (h .4 .free) (h .6) _ _ (f .0) (search), row-out _ (h .0 .uses) (h .0 .tops) (omega (arith, h .0)) (f .2) _ (h .1) (h .2))
+    let f = t .fill-uses .ensures in (
+      row-scoped _ (h .0 .uses) (h .0 .tops) (omega (arith, h .0)) (f .2) _ (h .1 .uses) (h .1 .tops) _ _ (h .2 .checked) (h .3)
+          (q .row-respected .ensures) (f .0) (search) (f .1),
+      within-small _ _ _ _ (h .2 .checked) (h .3 .free) (h .2 .within) _ _ (h .2 .few)
+          (f .0) (search),
+      within-more _ _ _ _ (h .2 .checked) (h .3 .free) (h .2 .within) _ _ (f .0) (search),
+      row-out _ (h .0 .uses)
+          (h .0 .tops) (omega (arith, h .0)) (f .2) _ (h .1 .uses) (h .1 .tops),
+    )
 
 pub find-uses-spec : {M : Type 1} → statement M
 find-uses-spec =

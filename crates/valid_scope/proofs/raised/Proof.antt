@@ -5,11 +5,8 @@ use borrow.Author.Needs.{needs}
 use Rattle.valid_scope.proofs.raised.Statement.{statement}
 use Rattle.valid_scope.proofs.raised.Tie as tie
 
-returns : tie.Need-returns
-returns c = simp (eq-eqb _ _ (c .if1 .taken))
-
 returns-2 : tie.Need-returns-2
 returns-2 c = simp (ne-eqb _ _ (c .if1 .left), add-one)
 
 pub raised-spec : {M : Type 1} → statement M
-raised-spec = tie.close (tie.spec returns (λ c. search needs) returns-2)
+raised-spec = tie.close (tie.spec (λ c. simp (eq-eqb _ _ (c .if1 .taken))) (λ c. search needs) returns-2)

@@ -96,7 +96,9 @@ module _ (tops ps : List ℕ) (p n off : ℕ) where
   pub respected-start : partsRespected tops (partsAt ps (p + 0) (n - 0) off) ≡ partsRespected tops (partsAt ps p n off)
   respected-start = rw (add-zero, sub-zero)
 
-  pub respected-more : (i : ℕ) {x : Bool} → i < n → x ≡ partRespected tops (knownOf (getD ps (p + i) 0 + off)) → not x ≡ false → partsRespected tops (partsAt ps (p + i) (n - i) off) ≡ partsRespected tops (partsAt ps p n off) → partsRespected tops (partsAt ps (p + (i + 1)) (n - (i + 1)) off) ≡ partsRespected tops (partsAt ps p n off)
+  pub respected-more : (i : ℕ) {x : Bool} → i < n → x ≡ partRespected tops (knownOf (getD ps (p + i) 0 + off)) → not x ≡ false
+      → partsRespected tops (partsAt ps (p + i) (n - i) off) ≡ partsRespected tops (partsAt ps p n off) → partsRespected tops
+      (partsAt ps (p + (i + 1)) (n - (i + 1)) off) ≡ partsRespected tops (partsAt ps p n off)
   respected-more i h e t g = sym (ap (λ z. z && partsRespected tops (partsAt ps (p + (i + 1)) (n - (i + 1)) off)) (sym e ∙ not-false _ t)) ∙ sym (respected-front i h) ∙ g
 
   pub respected-not : (i : ℕ) {x : Bool} → i < n → x ≡ partRespected tops (knownOf (getD ps (p + i) 0 + off)) → not x ≡ true → partsRespected tops (partsAt ps (p + i) (n - i) off) ≡ partsRespected tops (partsAt ps p n off) → false ≡ partsRespected tops (partsAt ps p n off)
@@ -199,7 +201,19 @@ module _ (uses ps : List ℕ) (c a b k : ℕ) where
 
   pub use-two : {u v w : ℕ} → u ≡ both v w → v ≡ useAt uses k a → w ≡ useAt uses k b → 7 < c → u ≡ rowUse uses k (rowFrom ps c a b)
   unfolding rowUse rowFrom
-  use-two p q e h = p ∙ ap₂ both q e ∙ rw (ne-eqb c 0 (λ e. omega arith), ne-eqb c 1 (λ e. omega arith), ne-eqb c 2 (λ e. omega arith), ne-eqb c 3 (λ e. omega arith), ne-eqb c 4 (λ e. omega arith), ne-eqb c 5 (λ e. omega arith), ne-eqb c 6 (λ e. omega arith), ne-eqb c 7 (λ e. omega arith)) (go (eqb c 8))
+  use-two p q e h =
+      p ∙ ap₂ both q e ∙ rw (
+        ne-eqb c 0 (λ e. omega arith),
+        ne-eqb c 1 (λ e. omega arith),
+        ne-eqb c 2 (λ e. omega arith),
+        ne-eqb c 3
+            (λ e. omega arith),
+        ne-eqb c 4 (λ e. omega arith),
+        ne-eqb c 5 (λ e. omega arith),
+        ne-eqb c 6 (λ e. omega arith),
+        ne-eqb c 7
+            (λ e. omega arith),
+      ) (go (eqb c 8))
     where
       go : (t : Bool) → both (useAt uses k a) (useAt uses k b) ≡ rowUse uses k (cond t (rowK a b) (rowA a b))
       go true = refl

@@ -5,9 +5,6 @@ use borrow.Author.Needs.{needs}
 use Rattle.valid_share.proofs.alike.Statement.{statement}
 use Rattle.valid_share.proofs.alike.Tie as tie
 
-returns : tie.Need-returns
-returns c = λ z. none-true z
-
 returns-2 : tie.Need-returns-2
 returns-2 c =
     let n : tie.Else1 = search in
@@ -16,5 +13,5 @@ returns-2 c =
 
 pub alike-spec : {M : Type 1} → statement M
 alike-spec =
-    tie.close (tie.spec (λ c κs. search needs) (λ c κs. search needs) returns (λ c κs. search needs) (λ c κs. search needs)
-    (λ c κs. search needs) (λ c κs. search needs) (λ c κs. search) returns-2)
+    tie.close (tie.spec (λ c κs. search needs) (λ c κs. search needs) (λ c. λ z. none-true z) (λ c κs. search needs)
+    (λ c κs. search needs) (λ c κs. search needs) (λ c κs. search needs) (λ c κs. search) returns-2)

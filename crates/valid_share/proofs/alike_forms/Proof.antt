@@ -9,17 +9,11 @@ use Rattle.valid_share.proofs.alike_forms.Tie as tie
 returns : tie.Need-returns
 returns c = λ z. alike-tuple _ _ _ _ _ _ _ (search) (search) (c .alike-parts .ensures z)
 
-returns-2 : tie.Need-returns-2
-returns-2 c = λ z. none-true z
-
 returns-3 : tie.Need-returns-3
 returns-3 c = λ z. alike-value _ _ _ _ _ _ _ (search) (eqb-true _ _ z)
 
 returns-4 : tie.Need-returns-4
 returns-4 c = λ z. alike-stack _ _ _ _ _ _ _ (search) (eqb-true _ _ z)
-
-returns-5 : tie.Need-returns-5
-returns-5 c = λ z. none-true z
 
 returns-6 : tie.Need-returns-6
 returns-6 c =
@@ -38,5 +32,6 @@ returns-7 c =
 
 pub alike-forms-spec : {M : Type 1} → statement M
 alike-forms-spec =
-    tie.close (tie.spec (λ c κs. search needs) returns returns-2 returns-3 returns-4 (λ c κs. search) (λ c κs. search) returns-5
-    (λ c κs. search) (λ c. search needs) (λ c κs. search needs) returns-6 (λ c κs. search) (λ c κs. search) returns-7)
+    tie.close (tie.spec (λ c κs. search needs) returns (λ c. λ z. none-true z) returns-3 returns-4 (λ c κs. search) (λ c κs. search)
+    (λ c. λ z. none-true z) (λ c κs. search) (λ c. search needs) (λ c κs. search needs) returns-6 (λ c κs. search) (λ c κs. search)
+    returns-7)

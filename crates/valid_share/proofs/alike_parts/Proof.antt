@@ -14,9 +14,6 @@ Inv-loop parts first k a b x y c j₀ j = (j ≤ c) × ((i : ℕ) → i < j → 
 abbrev μ-loop : tie.MeasureT-loop
 μ-loop parts first k a b x y c j₀ j = c - j
 
-returns : tie.Need-returns Inv-loop μ-loop
-returns c = λ z. none-true z
-
 loop-again : tie.Need-loop-again Inv-loop μ-loop
 loop-again c =
     let n2 : tie.After-new-part2 Inv-loop μ-loop = search in
@@ -30,5 +27,5 @@ returns-2 c =
 
 pub alike-parts-spec : {M : Type 1} → statement M
 alike-parts-spec =
-    tie.close (tie.spec Inv-loop μ-loop (λ c. search needs) (λ c κs. search needs) (λ c κs. search needs) returns (λ c. search needs)
-    (λ c. search needs) loop-again returns-2)
+    tie.close (tie.spec Inv-loop μ-loop (λ c. search needs) (λ c κs. search needs) (λ c κs. search needs) (λ c. λ z. none-true z)
+    (λ c. search needs) (λ c. search needs) loop-again returns-2)

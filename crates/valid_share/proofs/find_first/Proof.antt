@@ -39,7 +39,7 @@ first-like-requires c κs =
     let i = loop2 .loop .inv .0 .0 in
     let t = loopt .loop-test .taken in
     let p = s .pre .0 in
-    (omega arith, search, omega arith, search, (λ x l. (s .pre) .3 x (omega arith)), omega arith)
+    (record { few = omega arith; within = omega arith; firsts = search; lower = λ x l. s .pre .2 x (omega arith) }, search, omega arith)
 
 loop-again : tie.Need-loop-again Inv-loop μ-loop
 loop-again c =
@@ -50,7 +50,7 @@ loop-again c =
     let putha = put-hash-of first2 in
     let loop2 = at-loop-of first2 in
     let l = loop2 .loop .inv in
-    (naming-next _ _ _ (s .args .first .now) (loop2 .loop .first) _ _ _ (search) (s .pre .2) (first2 .first-like .ensures .0) (narro .narrow .ensures) (loop2 .loop .inv .0), first2 .first-like .kept .1 .1 .1 .1 .0 ∙ putha .put-hash .kept .1 .1 .1 .0 ∙ l .1, chain2 .chain-row .kept .0 ∙ l .2)
+    (naming-next _ _ _ (s .args .first .now) (loop2 .loop .first) _ _ _ (search) (s .pre .3 .names) (first2 .first-like .ensures .0) (narro .narrow .ensures) (loop2 .loop .inv .0), first2 .first-like .kept .1 .1 .1 .1 .0 ∙ putha .put-hash .kept .1 .1 .1 .0 ∙ l .1, chain2 .chain-row .kept .0 ∙ l .2)
 
 returns : tie.Need-returns Inv-loop μ-loop
 returns c =

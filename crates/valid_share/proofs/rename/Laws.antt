@@ -135,7 +135,9 @@ rows-next g before l r h F s e m k = go (eqb s r) refl
         let q : s < r = omega (arith, z) in
         F .1 (4 * s + e) (omega arith) ∙ h s e q k
 
-parts-next : (kind : ℕ → ℕ) (g : ℕ → ℕ → ℕ) (at : ℕ) (before l : List ℕ) (r : ℕ) → ((s j : ℕ) → s < r → HasParts (kind s) → j < 17 → getD before (at + 17 * s + j) 0 ≡ g s j) → FilledIf (kind r) (at + 17 * r) 17 (g r) before l → (s j : ℕ) → s < r + 1 → HasParts (kind s) → j < 17 → getD l (at + 17 * s + j) 0 ≡ g s j
+parts-next : (kind : ℕ → ℕ) (g : ℕ → ℕ → ℕ) (at : ℕ) (before l : List ℕ) (r : ℕ) → ((s j : ℕ) → s < r → HasParts (kind s) → j < 17
+    → getD before (at + 17 * s + j) 0 ≡ g s j) → FilledIf (kind r) (at + 17 * r) 17 (g r) before l → (s j : ℕ) → s < r + 1
+    → HasParts (kind s) → j < 17 → getD l (at + 17 * s + j) 0 ≡ g s j
 parts-next kind g at before l r h F s j m p k = go (eqb s r) refl
   where
     go : (b : Bool) → eqb s r ≡ b → getD l (at + 17 * s + j) 0 ≡ g s j
@@ -214,7 +216,9 @@ module _ {first l₀ : List ℕ} {a b c d s n : ℕ} {l : List ℕ} {r : ℕ} (t
           sym (entry-in s e l (17 * q + j) (omega arith)) ∙ ap (λ (i : ℕ). getD l i 0) z
 
 -- both tables, the rows first
-pub both : {p : Places} {l l₁ l₂ : List ℕ} (first : List ℕ) (m n : ℕ) → Ordered p (length l) → FilledRows first (rowSection p l) m (sharedSection p l₁) → Outside (p .shared) (p .slots) l l₁ → FilledParts first (rowSection p l₁) (partSection p l₁) n (slotSection p l₂) → Outside (p .slots) (p .end) l₁ l₂
+pub both : {p : Places} {l l₁ l₂ : List ℕ} (first : List ℕ) (m n : ℕ) → Ordered p (length l) → FilledRows first (rowSection p l) m
+    (sharedSection p l₁) → Outside (p .shared) (p .slots) l l₁ → FilledParts first (rowSection p l₁) (partSection p l₁) n
+    (slotSection p l₂) → Outside (p .slots) (p .end) l₁ l₂
     → FilledRows first (rowSection p l) m (sharedSection p l₂) × FilledParts first (rowSection p l) (partSection p l) n (slotSection p l₂) × Outside (p .shared) (p .end) l l₂
 both {p} {l} {l₁} {l₂} first m n o F u G v =
     let x : rowSection p l₁ ≡ rowSection p l = before (p .shared) (p .slots) l l₁ (omega arith) u (p .rows) (p .blocks) (o .rows) (omega arith) in

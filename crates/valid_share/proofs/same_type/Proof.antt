@@ -10,12 +10,6 @@ returns c =
     let issta2 : tie.After-is-stack2 = search in
     like-stacks _ _ _ _ (search) (search) (issta .is-stack .ensures) (issta2 .is-stack2 .ensures) (search) (search) (search)
 
-returns-2 : tie.Need-returns-2
-returns-2 c = λ z. none-true z
-
-returns-3 : tie.Need-returns-3
-returns-3 c = λ z. none-true z
-
 returns-4 : tie.Need-returns-4
 returns-4 c =
     let issta : tie.After-is-stack = search in
@@ -24,5 +18,5 @@ returns-4 c =
 
 pub same-type-spec : {M : Type 1} → statement M
 same-type-spec =
-    tie.close (tie.spec (λ c κs. search needs) (λ c κs. search needs) (λ c κs. search needs) (λ c. search needs) returns returns-2
-    returns-3 (λ c κs. search needs) (λ c. search needs) returns-4)
+    tie.close (tie.spec (λ c κs. search needs) (λ c κs. search needs) (λ c κs. search needs) (λ c. search needs) returns
+    (λ c. λ z. none-true z) (λ c. λ z. none-true z) (λ c κs. search needs) (λ c. search needs) returns-4)

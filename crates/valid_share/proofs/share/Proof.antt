@@ -7,7 +7,7 @@ use Rattle.valid_share.proofs.share.Tie as tie
 
 find-first-requires : tie.Need-find-first-requires
 unfolding part
-find-first-requires c κs = (search, search, search, lower-rows _ _ (search), search)
+find-first-requires c κs = (search, search, lower-rows _ _ (search), search)
 
 returns : tie.Need-returns
 unfolding part

@@ -3,12 +3,6 @@ use borrow.Author.Needs.{needs}
 use Rattle.valid_share.proofs.stands_for.Statement.{statement}
 use Rattle.valid_share.proofs.stands_for.Tie as tie
 
-returns : tie.Need-returns
-returns c = λ z. none-true z
-
-returns-2 : tie.Need-returns-2
-returns-2 c = λ z. none-true z
-
 returns-3 : tie.Need-returns-3
 returns-3 c =
     let alike2 : tie.After-alike = search in
@@ -16,6 +10,6 @@ returns-3 c =
 
 pub stands-for-spec : {M : Type 1} → statement M
 stands-for-spec =
-    tie.close (tie.spec (λ c. search needs) (λ c κs. search needs) (λ c. search needs) (λ c κs. search needs) (λ c. search needs) returns
-    (λ c κs. search needs) (λ c. search needs) returns-2 (λ c κs. search) (λ c. search needs) returns-3 (λ c. search needs)
-    (λ c. search needs) (λ c. search needs) (λ c κs. search needs) (λ c. search needs) (λ c. search))
+    tie.close (tie.spec (λ c. search needs) (λ c κs. search needs) (λ c. search needs) (λ c κs. search needs) (λ c. search needs)
+    (λ c. λ z. none-true z) (λ c κs. search needs) (λ c. search needs) (λ c. λ z. none-true z) (λ c κs. search) (λ c. search needs)
+    returns-3 (λ c. search needs) (λ c. search needs) (λ c. search needs) (λ c κs. search needs) (λ c. search needs) (λ c. search))

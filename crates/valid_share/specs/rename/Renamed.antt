@@ -1,5 +1,5 @@
 -- The renamed table: each reference replaced by the row that stands for it, and the parts of row r at 17 r.
-use Prim.Native.Nat.{ℕ, suc, _+_, _-_, _*_, _<_}
+use Prim.Native.Nat.{ℕ, suc, _+_, _-_, _*_, _≤_, _<_}
 use mathlib.Core.Path.{_≡_}
 use mathlib.Core.Bool.{cond}
 use mathlib.Core.Logic.{_⊎_}
@@ -58,6 +58,12 @@ HasParts k = (k ≡ 3) ⊎ (k ≡ 5)
 -- the new table of parts is filled up to a row: the parts of the rows that have them
 abbrev pub FilledParts : List ℕ → List ℕ → List ℕ → ℕ → List ℕ → Type 0
 FilledParts first rows ps n l = (r j : ℕ) → r < n → HasParts (cell 4 rows r 0) → j < 17 → cell 17 l r j ≡ partAt first rows ps r j
+
+-- a section of parts stands before `base`, and 17 parts from there on within n entries
+pub record InOrder (parts operands base n : ℕ) : Type 0 where
+  pub section : parts ≤ operands
+  pub behind : operands ≤ base
+  pub room : base + 17 ≤ n
 
 -- entry base + j of a table is g j, for j below n, and those before are as they were
 abbrev pub FilledRow : ℕ → ℕ → (ℕ → ℕ) → List ℕ → List ℕ → Type 0

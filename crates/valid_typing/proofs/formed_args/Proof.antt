@@ -9,7 +9,7 @@ use Rattle.tables.specs.Tables.{span, letterOf}
 use Rattle.valid.specs.PassThree.{formedArg}
 use Rattle.valid_typing.specs.Typing.{givenArg}
 use Rattle.valid_typing.proofs.Args.{RestFormed, rest-first, rest-next, rest-fails, rest-done}
-use Rattle.image.specs.Sections.{part, argSection, sharedSection, slotSection}
+use Rattle.image.specs.Sections.{part, sharedSection, slotSection}
 use Rattle.valid_typing.proofs.formed_args.Statement.{statement}
 use Rattle.valid_typing.proofs.formed_args.Tie as tie
 
@@ -21,15 +21,7 @@ abbrev μ-loop : tie.MeasureT-loop
 
 loop-holds : tie.Need-loop-holds Inv-loop μ-loop
 unfolding part
-loop-holds c =
-    let s : tie.Start Inv-loop μ-loop = search in
-    let a = s .args in
-    let l = a .image .now in
-    (omega arith, rest-first (sharedSection (a .p) l) (slotSection (a .p) l) (a .n) (lettersIn (a .p) l (a .w)) (argSection (a .p) l) (a .a) (a .c))
-
-add-at : tie.Need-add-at Inv-loop μ-loop
-add-at c =
-    omega arith
+loop-holds c = (omega arith, rest-first _ _ _ _ _ _ _)
 
 formed-arg-requires : tie.Need-formed-arg-requires Inv-loop μ-loop
 unfolding part
@@ -41,56 +33,33 @@ returns : tie.Need-returns Inv-loop μ-loop
 unfolding part
 returns c =
     let s : tie.Start Inv-loop μ-loop = search in
-    let g : tie.At-loop Inv-loop μ-loop = search in
     let k : tie.In-loop Inv-loop μ-loop = search in
     let t-formed-arg : tie.After-formed-arg Inv-loop μ-loop = search in
     let t-at : tie.After-at Inv-loop μ-loop = search in
-    let i1 : tie.Then1 Inv-loop μ-loop = search in
     let a = s .args in
     let l = a .image .now in
-    rest-fails (sharedSection (a .p) l) (slotSection (a .p) l) (a .n) (lettersIn (a .p) l (a .w)) (argSection (a .p) l) (a .a) (a .c) (g .loop .i) (k .loop-test .taken) (g .loop .inv .1)
-    (t-formed-arg .formed-arg .ensures ∙ ap (λ (t : ℕ). formedArg (lettersIn (a .p) l (a .w)) (givenArg (sharedSection (a .p) l) (slotSection (a .p) l) (a .n) t)) (t-at .at .ensures .0)) (not-true _ (i1 .if1 .taken))
-
-add-i : tie.Need-add-i Inv-loop μ-loop
-add-i c =
-    omega arith
-
-loop-less : tie.Need-loop-less Inv-loop μ-loop
-loop-less c =
-    omega arith
+    rest-fails _ _ _ _ _ _ _ _ (k .loop-test .taken) (search) (t-formed-arg .formed-arg .ensures ∙ ap (λ (t : ℕ). formedArg (lettersIn (a .p) l (a .w)) (givenArg (sharedSection (a .p) l) (slotSection (a .p) l) (a .n) t)) (t-at .at .ensures .0)) (not-true _ (search))
 
 loop-again : tie.Need-loop-again Inv-loop μ-loop
 unfolding part
 loop-again c =
     let s : tie.Start Inv-loop μ-loop = search in
-    let g : tie.At-loop Inv-loop μ-loop = search in
-    let k : tie.In-loop Inv-loop μ-loop = search in
     let t-formed-arg : tie.After-formed-arg Inv-loop μ-loop = search in
     let t-at : tie.After-at Inv-loop μ-loop = search in
-    let i1 : tie.Else1 Inv-loop μ-loop = search in
     let a = s .args in
-    let l = a .image .now in (
-      omega arith,
-      rest-next (sharedSection (a .p) l) (slotSection (a .p) l) (a .n) (lettersIn (a .p) l (a .w)) (argSection (a .p) l) (a .a) (a .c) (g .loop .i) (k .loop-test .taken) (g .loop .inv .1)
-          (t-formed-arg .formed-arg .ensures ∙ ap (λ (t : ℕ). formedArg (lettersIn (a .p) l (a .w)) (givenArg (sharedSection (a .p) l) (slotSection (a .p) l) (a .n) t)) (t-at .at .ensures .0)) (not-false _ (i1 .if1 .left)),
-    )
+    let l = a .image .now in
+    (omega arith, rest-next _ _ _ _ _ _ _ _ (search) (search) (t-formed-arg .formed-arg .ensures ∙ ap (λ (t : ℕ). formedArg (lettersIn (a .p) l (a .w)) (givenArg (sharedSection (a .p) l) (slotSection (a .p) l) (a .n) t)) (t-at .at .ensures .0)) (not-false _ (search)))
 
 returns-2 : tie.Need-returns-2 Inv-loop μ-loop
 unfolding part
 returns-2 c =
-    let s : tie.Start Inv-loop μ-loop = search in
-    let g : tie.At-loop Inv-loop μ-loop = search in
     let k : tie.After-loop Inv-loop μ-loop = search in
-    let a = s .args in
-    let l = a .image .now in
-    rest-done (sharedSection (a .p) l) (slotSection (a .p) l) (a .n) (lettersIn (a .p) l (a .w)) (argSection (a .p) l) (a .a) (a .c) (g .loop .i) (k .loop-test .left) (g .loop .inv .1)
+    rest-done _ _ _ _ _ _ _ _ (k .loop-test .left) (search)
 
 pub formed-args-spec : {M : Type 1} → statement M
 formed-args-spec =
-    tie.close
-    (tie.spec
-    Inv-loop μ-loop (λ c. search needs) (λ c. search needs) (λ c. search needs) (λ c. search needs) (λ c. search needs)
+    tie.close (tie.spec Inv-loop μ-loop (λ c. search needs) (λ c. search needs) (λ c. search needs) (λ c. search needs)
     (λ c. search needs) (λ c. search needs) (λ c. search needs) (λ c. search needs) (λ c. search needs) (λ c. search needs)
     (λ c. search needs) (λ c. search needs) (λ c. search needs) (λ c. search needs) (λ c. search needs) (λ c. search needs)
-    (λ c. search needs) (λ c. search needs) (λ c. search needs) loop-holds add-at (λ c κs. search needs) formed-arg-requires returns
-    add-i loop-less loop-again returns-2)
+    (λ c. search needs) (λ c. search needs) (λ c. search needs) (λ c. search needs) loop-holds (λ c. search needs) (λ c κs. search needs)
+    formed-arg-requires returns (λ c. search needs) (λ c. search needs) loop-again returns-2)

@@ -1,21 +1,14 @@
 use borrow.Author.Needs.{needs}
-use Prim.Native.Nat.{ℕ, _-_, _≤_, _<_}
+use Prim.Native.Nat.{_-_, _≤_}
 use native.Mathlib.Omega.{arith}
-use mathlib.Core.Path.{_≡_, sym, ap, ap₂, _∙_}
-use mathlib.Core.Bool.{Bool, true, false}
-use lib.ListN.{length, length-map}
+use mathlib.Core.Path.{ap, _∙_}
+use mathlib.Core.Bool.{true, false}
 use borrow.Author.Tests.{not-true, not-false}
-use Rattle.valid_typing.specs.Typing.{fitsLetter, lettersLess}
+use Rattle.valid_typing.specs.Typing.{fitsLetter}
 use Rattle.types_rows.specs.Read.{isStackAt}
 use Rattle.valid_typing.proofs.Args.{RestFit, fit-first, fit-next, fit-fails, fit-all, left-few, left-is}
 use Rattle.valid_typing.proofs.letters_fit.Statement.{statement}
 use Rattle.valid_typing.proofs.letters_fit.Tie as tie
-use Rattle.valid_typing.proofs.letters_fit.Reads as reads
-use Rattle.valid_typing.proofs.letters_fit.Lts as lts
-use Rattle.types_rows.proofs.at.Reads as at-reads
-use Rattle.types_rows.proofs.is_stack.Reads as is-stack-reads
-use Rattle.types_rows.proofs.letter_count.Reads as letter-count-reads
-use Rattle.valid_typing.proofs.letter_fits.Reads as letter-fits-reads
 
 abbrev Inv-loop : tie.InvT-loop
 Inv-loop rows parts n args p c k j₀ j = (j ≤ c) × RestFit rows parts n args p k j
@@ -23,69 +16,51 @@ Inv-loop rows parts n args p c k j₀ j = (j ≤ c) × RestFit rows parts n args
 abbrev μ-loop : tie.MeasureT-loop
 μ-loop rows parts n args p c k j₀ j = c - j
 
-letter-count-requires : tie.Need-letter-count-requires Inv-loop μ-loop
-letter-count-requires c κs = (c .before .before .before .pre) .1
-
 returns : tie.Need-returns Inv-loop μ-loop
-returns c = λ P Δ. left-few ((c .before .before .before .before .before .args) .rows .now) ((c .before .before .before .before .before .args) .parts .now) ((c .before .before .before .before .before .args) .n) ((c .before .before .before .before .before .args) .args .now) ((c .before .before .before .before .before .args) .p) ((c .before .letter-count) .result) ((c .before .before .before .before .before .pre) .2) ((c .before .letter-count) .ensures .0) P Δ ((c .if1) .taken)
+returns c =
+    let l : tie.After-letter-count Inv-loop μ-loop = search in
+    let s : tie.Start Inv-loop μ-loop = search in
+    λ P Δ. left-few _ _ _ _ _ _ (s .pre .2) (l .letter-count .ensures .0) P Δ (search)
 
 loop-holds : tie.Need-loop-holds Inv-loop μ-loop
-loop-holds c = (omega arith, fit-first ((c .before .before .before .before .before .args) .rows .now) ((c .before .before .before .before .before .args) .parts .now) ((c .before .before .before .before .before .args) .n) ((c .before .before .before .before .before .args) .args .now) ((c .before .before .before .before .before .args) .p) ((c .before .letter-count) .result))
-
-add-at : tie.Need-add-at Inv-loop μ-loop
-add-at c = omega (arith, (c .before .before .before .before .before .before .before .pre) .1)
-
-add-at-2 : tie.Need-add-at-2 Inv-loop μ-loop
-add-at-2 c = omega (arith, (c .before .before .if1) .left, (c .before .before .before .letter-count) .ensures .1, (c .loop-test) .taken)
-
-add-at-3 : tie.Need-add-at-3 Inv-loop μ-loop
-add-at-3 c = omega (arith, (c .before .before .if1) .left, (c .before .before .before .letter-count) .ensures .1, (c .loop-test) .taken, (c .before .before .before .before .before .before .before .pre) .1)
-
-at-requires : tie.Need-at-requires Inv-loop μ-loop
-at-requires c κs = search needs
-
-at-requires-2 : tie.Need-at-requires-2 Inv-loop μ-loop
-at-requires-2 c κs = search needs
-
-is-stack-requires : tie.Need-is-stack-requires Inv-loop μ-loop
-is-stack-requires c κs = omega (arith, (c .at2) .ensures .1)
-
-letter-fits-requires : tie.Need-letter-fits-requires Inv-loop μ-loop
-letter-fits-requires c κs = search needs
+loop-holds c =
+    let l : tie.After-letter-count Inv-loop μ-loop = search in
+    let s : tie.Start Inv-loop μ-loop = search in
+    (omega arith, fit-first (s .args .rows .now) (s .args .parts .now) (s .args .n) (s .args .args .now) (s .args .p) (l .letter-count .result))
 
 returns-2 : tie.Need-returns-2 Inv-loop μ-loop
-returns-2 c = λ P Δ. left-is ((c .before .before .before .before .before .before .before .before .before .before .before .before .args) .rows .now) ((c .before .before .before .before .before .before .before .before .before .before .before .before .args) .parts .now) ((c .before .before .before .before .before .before .before .before .before .before .before .before .args) .n) ((c .before .before .before .before .before .before .before .before .before .before .before .before .args) .args .now) ((c .before .before .before .before .before .before .before .before .before .before .before .before .args) .p) ((c .before .before .before .before .before .before .before .before .letter-count) .result) ((c .before .before .before .before .before .before .before .before .before .before .before .before .pre) .2) ((c .before .before .before .before .before .before .before .before .letter-count) .ensures .0) P Δ false ((c .before .before .before .before .before .before .before .if1) .left) (fit-fails ((c .before .before .before .before .before .before .before .before .before .before .before .before .args) .rows .now) ((c .before .before .before .before .before .before .before .before .before .before .before .before .args) .parts .now) ((c .before .before .before .before .before .before .before .before .before .before .before .before .args) .n) ((c .before .before .before .before .before .before .before .before .before .before .before .before .args) .args .now) ((c .before .before .before .before .before .before .before .before .before .before .before .before .args) .p) ((c .before .before .before .before .before .before .before .before .letter-count) .result) ((c .before .before .before .before .before .before .before .before .before .before .before .before .pre) .2) ((c .before .before .before .before .before .before .before .before .letter-count) .ensures .0) ((c .before .before .before .before .before .before .loop) .j) ((c .before .before .is-stack) .result) ((c .before .before .before .before .before .loop-test) .taken) ((c .before .before .before .before .before .before .before .if1) .left) ((c .before .before .is-stack) .ensures ∙ ap (isStackAt ((c .before .before .before .before .before .before .before .before .before .before .before .before .args) .rows .now)) ((c .before .before .before .at2) .ensures .0)) ((c .before .before .before .before .before .before .loop) .inv .1) ((c .before .letter-fits) .ensures ∙ ap (fitsLetter ((c .before .before .is-stack) .result)) ((c .before .before .before .before .at) .ensures .0)) (not-true _ ((c .if2) .taken)))
-
-add-j : tie.Need-add-j Inv-loop μ-loop
-add-j c = omega (arith, (c .before .before .before .before .before .loop-test) .taken)
-
-loop-less : tie.Need-loop-less Inv-loop μ-loop
-loop-less c = omega (arith, (c .before .before .before .before .before .loop-test) .taken)
+returns-2 c =
+    let l3 : tie.After-letter-fits Inv-loop μ-loop = search in
+    let i : tie.After-is-stack Inv-loop μ-loop = search in
+    let a : tie.After-at2 Inv-loop μ-loop = search in
+    let i2 : tie.In-loop Inv-loop μ-loop = search in
+    let n2 : tie.Else1 Inv-loop μ-loop = search in
+    let l : tie.After-letter-count Inv-loop μ-loop = search in
+    let s : tie.Start Inv-loop μ-loop = search in
+    λ P Δ. left-is _ _ _ _ _ _ (s .pre .2) (l .letter-count .ensures .0) P Δ false (n2 .if1 .left) (fit-fails _ _ _ _ _ _ (s .pre .2)
+    (search) _ _ (i2 .loop-test .taken) (search) (i .is-stack .ensures ∙ ap (isStackAt (s .args .rows .now)) (a .at2 .ensures .0))
+    (search) (l3 .letter-fits .ensures ∙ ap (fitsLetter _) (search)) (not-true _ (search)))
 
 loop-again : tie.Need-loop-again Inv-loop μ-loop
-loop-again c = (omega (arith, (c .before .before .before .before .before .loop-test) .taken), fit-next ((c .before .before .before .before .before .before .before .before .before .before .before .before .args) .rows .now) ((c .before .before .before .before .before .before .before .before .before .before .before .before .args) .parts .now) ((c .before .before .before .before .before .before .before .before .before .before .before .before .args) .n) ((c .before .before .before .before .before .before .before .before .before .before .before .before .args) .args .now) ((c .before .before .before .before .before .before .before .before .before .before .before .before .args) .p) ((c .before .before .before .before .before .before .before .before .letter-count) .result) ((c .before .before .before .before .before .before .before .before .before .before .before .before .pre) .2) ((c .before .before .before .before .before .before .before .before .letter-count) .ensures .0) ((c .before .before .before .before .before .before .loop) .j) ((c .before .before .is-stack) .result) ((c .before .before .before .before .before .loop-test) .taken) ((c .before .before .before .before .before .before .before .if1) .left) ((c .before .before .is-stack) .ensures ∙ ap (isStackAt ((c .before .before .before .before .before .before .before .before .before .before .before .before .args) .rows .now)) ((c .before .before .before .at2) .ensures .0)) ((c .before .before .before .before .before .before .loop) .inv .1) ((c .before .letter-fits) .ensures ∙ ap (fitsLetter ((c .before .before .is-stack) .result)) ((c .before .before .before .before .at) .ensures .0)) (not-false _ ((c .if2) .left)))
+loop-again c =
+    let l3 : tie.After-letter-fits Inv-loop μ-loop = search in
+    let i2 : tie.After-is-stack Inv-loop μ-loop = search in
+    let a : tie.After-at2 Inv-loop μ-loop = search in
+    let i : tie.In-loop Inv-loop μ-loop = search in
+    let n2 : tie.Else1 Inv-loop μ-loop = search in
+    let l : tie.After-letter-count Inv-loop μ-loop = search in
+    let s : tie.Start Inv-loop μ-loop = search in
+    (omega arith, fit-next _ _ _ _ _ _ (s .pre .2) (l .letter-count .ensures .0) _ _ (i .loop-test .taken) (n2 .if1 .left) (i2 .is-stack .ensures ∙ ap (isStackAt (s .args .rows .now)) (a .at2 .ensures .0)) (search) (l3 .letter-fits .ensures ∙ ap (fitsLetter _) (search)) (not-false _ (search)))
 
 returns-3 : tie.Need-returns-3 Inv-loop μ-loop
-returns-3 c = λ P Δ. left-is ((c .before .before .before .before .before .before .before .args) .rows .now) ((c .before .before .before .before .before .before .before .args) .parts .now) ((c .before .before .before .before .before .before .before .args) .n) ((c .before .before .before .before .before .before .before .args) .args .now) ((c .before .before .before .before .before .before .before .args) .p) ((c .before .before .before .letter-count) .result) ((c .before .before .before .before .before .before .before .pre) .2) ((c .before .before .before .letter-count) .ensures .0) P Δ true ((c .before .before .if1) .left) (fit-all ((c .before .before .before .before .before .before .before .args) .rows .now) ((c .before .before .before .before .before .before .before .args) .parts .now) ((c .before .before .before .before .before .before .before .args) .n) ((c .before .before .before .before .before .before .before .args) .args .now) ((c .before .before .before .before .before .before .before .args) .p) ((c .before .before .before .letter-count) .result) ((c .before .before .before .before .before .before .before .pre) .2) ((c .before .before .before .letter-count) .ensures .0) ((c .before .loop) .j) ((c .before .loop) .inv .0) ((c .loop-test) .left) ((c .before .before .if1) .left) ((c .before .loop) .inv .1))
+returns-3 c =
+    let l2 : tie.At-loop Inv-loop μ-loop = search in
+    let l : tie.After-letter-count Inv-loop μ-loop = search in
+    let s : tie.Start Inv-loop μ-loop = search in
+    λ P Δ. left-is _ _ _ _ _ _ (s .pre .2) (l .letter-count .ensures .0) P Δ true (search) (fit-all _ _ _ _ _ _ (s .pre .2) (search) _ (l2 .loop .inv .0) (search) (search) (search))
 
 pub letters-fit-spec : {M : Type 1} → statement M
 letters-fit-spec =
-    tie.close
-    (tie.spec
-    Inv-loop
-    μ-loop
-    letter-count-requires
-    returns
-    loop-holds
-    add-at
-    add-at-2
-    add-at-3
-    at-requires
-    at-requires-2
-    is-stack-requires
-    letter-fits-requires
-    returns-2
-    add-j
-    loop-less
-    loop-again
+    tie.close (tie.spec Inv-loop μ-loop (λ c κs. search) returns loop-holds (λ c. search needs) (λ c. search needs) (λ c. search needs)
+    (λ c κs. search) (λ c κs. search) (λ c κs. search needs) (λ c κs. search) returns-2 (λ c. search needs) (λ c. search needs) loop-again
     returns-3)

@@ -1,17 +1,16 @@
 -- Laws of the answer of a target.
-use Prim.Native.Nat.{ℕ, zero, suc}
+use Prim.Native.Nat.{ℕ}
 use native.Mathlib.Omega.{arith}
 use mathlib.Core.Path.{_≡_, refl, ap, sym, subst, _∙_}
 use mathlib.Core.Bool.{Bool, true, false, cond}
 use mathlib.Core.Option.{Option, none, some}
 use mathlib.Core.Logic.{_⊎_, inl, inr}
 use mathlib.Core.List.{List, [], _∷_, List·Memᴰ, List·Memᴰ·not-nil, List·Memᴰ·cases-cons}
-use lib.Dec.{eqb}
 use borrow.Author.Tests.{ne-eqb}
 use Rattle.syntax.specs.Partial.{when}
-use Rattle.syntax.specs.Syntax.{Kind, value, stack, Operand}
+use Rattle.syntax.specs.Syntax.{Kind, value, Operand}
 use Rattle.syntax.specs.Fault.{unfit, numberOf}
-use Rattle.types.specs.Types.{Ty, Arg}
+use Rattle.types.specs.Types.{Ty}
 use Rattle.types.specs.Equal.{same, sameLetters}
 use Rattle.valid.specs.Program.{Program}
 use Rattle.valid.specs.Rules.{Context}

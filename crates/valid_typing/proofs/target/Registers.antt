@@ -3,12 +3,12 @@ use Prim.Native.Nat.{ℕ, zero, suc, _+_, _-_, _≤_, _<_}
 use native.Mathlib.Omega.{arith}
 use mathlib.Core.Path.{_≡_, refl, ap, ap₂, sym, _∙_}
 use mathlib.Core.Bool.{Bool, true, false, not, cond}
-use mathlib.Core.List.{List, [], _∷_, _++_, map}
+use mathlib.Core.List.{List, [], map}
 use lib.Dec.{ltb}
 use lib.ListN.{getD}
 use borrow.Author.Tests.{ltb-true}
 use Rattle.syntax.specs.Syntax.{Kind, value, stack}
-use Rattle.syntax.specs.Fault.{Fault, unfit, itemsOf}
+use Rattle.syntax.specs.Fault.{itemsOf}
 use Rattle.types.specs.Types.{Ty, Arg}
 use Rattle.types.specs.Rows.{typeAt}
 use Rattle.types.specs.Equal.{same, sameLetters}

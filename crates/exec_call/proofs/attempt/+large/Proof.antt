@@ -1,6 +1,6 @@
 -- The call of itself is not reached: every text fits the image. It is there for the compiler.
 use mathlib.Core.Path.{_≡_, sym, _∙_}
-use mathlib.Core.Bool.{true, false, true≢false}
+use mathlib.Core.Bool.{false, true≢false}
 use Prim.Native.Nat.{ℕ, _<_}
 use native.Mathlib.Omega.{arith}
 use lib.ListN.{replicate}
@@ -25,11 +25,14 @@ large-at t = and 8 large-kinds.ps (is 8 large-kinds.ps μ-large t) large.Pre
 abbrev large-below : ℕ → In 8 large-kinds.ps
 large-below t = and 8 large-kinds.ps (falls 8 large-kinds.ps _<_ μ-large t) large.Pre
 
+abbrev large-claims : ℕ → large-lts.Claims
+large-claims t = (call-in-reads.Asked, call-in-reads.Learnt, large-below t, large.Post)
+
 abbrev After-call-in : ℕ → Type 0
-After-call-in t = large-lts.After-call-in (call-in-reads.Asked, call-in-reads.Learnt, large-below t, large.Post) (large-at t) large.Post
+After-call-in t = large-lts.After-call-in (large-claims t) (large-at t) large.Post
 
 abbrev After-large : ℕ → Type 0
-After-large t = large-lts.After-large (call-in-reads.Asked, call-in-reads.Learnt, large-below t, large.Post) (large-at t) large.Post
+After-large t = large-lts.After-large (large-claims t) (large-at t) large.Post
 
 abbrev call-of : (t : ℕ) → After-large t → After-call-in t
 call-of t w = search
@@ -40,201 +43,56 @@ unfitted t w = search
 never : (t : ℕ) (w : After-call-in t) → w .call-in .result .fits ≡ false → ⊥
 never t w z = true≢false (sym (w .call-in .ensures .0 (enough (replicate 150900 0) (replicate 16400 0) (omega (arith, zeros-are 150900)) (omega (arith, zeros-are 16400)))) ∙ z)
 
-large-slice-aggregate-call-in : (t : ℕ) → large-lts.Need-slice-aggregate-call-in (
-  call-in-reads.Asked,
-  call-in-reads.Learnt,
-  large-below t,
-  large.Post,
-) (large-at t) large.Post
-large-slice-aggregate-call-in t c = search needs
-
-large-slice-aggregate-call-in-2 : (t : ℕ) → large-lts.Need-slice-aggregate-call-in-2 (
-  call-in-reads.Asked,
-  call-in-reads.Learnt,
-  large-below t,
-  large.Post,
-) (large-at t) large.Post
-large-slice-aggregate-call-in-2 t c = search needs
-
-large-slice-aggregate-call-in-3 : (t : ℕ) → large-lts.Need-slice-aggregate-call-in-3 (
-  call-in-reads.Asked,
-  call-in-reads.Learnt,
-  large-below t,
-  large.Post,
-) (large-at t) large.Post
-large-slice-aggregate-call-in-3 t c = search needs
-
-large-call-in-requires : (t : ℕ) → large-lts.Need-call-in-requires (
-  call-in-reads.Asked,
-  call-in-reads.Learnt,
-  large-below t,
-  large.Post,
-) (large-at t) large.Post
+large-call-in-requires : (t : ℕ) → large-lts.Need-call-in-requires (large-claims t) (large-at t) large.Post
 large-call-in-requires t c κs = plan-large _ _ (omega (arith, zeros-are 150900)) (omega (arith, zeros-are 8208))
 
-large-same-length : (t : ℕ) → large-lts.Need-same-length (
-  call-in-reads.Asked,
-  call-in-reads.Learnt,
-  large-below t,
-  large.Post,
-) (large-at t) large.Post
-large-same-length t c = search
-
-large-same-length-2 : (t : ℕ) → large-lts.Need-same-length-2 (
-  call-in-reads.Asked,
-  call-in-reads.Learnt,
-  large-below t,
-  large.Post,
-) (large-at t) large.Post
-large-same-length-2 t c = search
-
-large-same-length-3 : (t : ℕ) → large-lts.Need-same-length-3 (
-  call-in-reads.Asked,
-  call-in-reads.Learnt,
-  large-below t,
-  large.Post,
-) (large-at t) large.Post
-large-same-length-3 t c = search
-
-large-same-length-4 : (t : ℕ) → large-lts.Need-same-length-4 (
-  call-in-reads.Asked,
-  call-in-reads.Learnt,
-  large-below t,
-  large.Post,
-) (large-at t) large.Post
-large-same-length-4 t c = search
-
-large-same-length-5 : (t : ℕ) → large-lts.Need-same-length-5 (
-  call-in-reads.Asked,
-  call-in-reads.Learnt,
-  large-below t,
-  large.Post,
-) (large-at t) large.Post
-large-same-length-5 t c = search
-
-large-same-length-6 : (t : ℕ) → large-lts.Need-same-length-6 (
-  call-in-reads.Asked,
-  call-in-reads.Learnt,
-  large-below t,
-  large.Post,
-) (large-at t) large.Post
-large-same-length-6 t c = search
-
-large-returns : (t : ℕ) → large-lts.Need-returns (
-  call-in-reads.Asked,
-  call-in-reads.Learnt,
-  large-below t,
-  large.Post,
-) (large-at t) large.Post
+large-returns : (t : ℕ) → large-lts.Need-returns (large-claims t) (large-at t) large.Post
 large-returns t c =
     let w : After-call-in t = search in
     w .call-in .ensures .1 .done (search)
 
-large-large-requires : (t : ℕ) → large-lts.Need-large-requires (
-  call-in-reads.Asked,
-  call-in-reads.Learnt,
-  large-below t,
-  large.Post,
-) (large-at t) large.Post
+large-large-requires : (t : ℕ) → large-lts.Need-large-requires (large-claims t) (large-at t) large.Post
 large-large-requires t c κs =
     let w : After-call-in t = search in
     absurd (never t w (search))
 
-large-same-length-7 : (t : ℕ) → large-lts.Need-same-length-7 (
-  call-in-reads.Asked,
-  call-in-reads.Learnt,
-  large-below t,
-  large.Post,
-) (large-at t) large.Post
+large-same-length-7 : (t : ℕ) → large-lts.Need-same-length-7 (large-claims t) (large-at t) large.Post
 large-same-length-7 t c =
     let w : After-large t = search in
     absurd (never t (call-of t w) (unfitted t w))
 
-large-same-length-8 : (t : ℕ) → large-lts.Need-same-length-8 (
-  call-in-reads.Asked,
-  call-in-reads.Learnt,
-  large-below t,
-  large.Post,
-) (large-at t) large.Post
+large-same-length-8 : (t : ℕ) → large-lts.Need-same-length-8 (large-claims t) (large-at t) large.Post
 large-same-length-8 t c =
     let w : After-large t = search in
     absurd (never t (call-of t w) (unfitted t w))
 
-large-same-length-9 : (t : ℕ) → large-lts.Need-same-length-9 (
-  call-in-reads.Asked,
-  call-in-reads.Learnt,
-  large-below t,
-  large.Post,
-) (large-at t) large.Post
+large-same-length-9 : (t : ℕ) → large-lts.Need-same-length-9 (large-claims t) (large-at t) large.Post
 large-same-length-9 t c =
     let w : After-large t = search in
     absurd (never t (call-of t w) (unfitted t w))
 
-large-same-length-10 : (t : ℕ) → large-lts.Need-same-length-10 (
-  call-in-reads.Asked,
-  call-in-reads.Learnt,
-  large-below t,
-  large.Post,
-) (large-at t) large.Post
+large-same-length-10 : (t : ℕ) → large-lts.Need-same-length-10 (large-claims t) (large-at t) large.Post
 large-same-length-10 t c =
     let w : After-large t = search in
     absurd (never t (call-of t w) (unfitted t w))
 
-large-same-length-11 : (t : ℕ) → large-lts.Need-same-length-11 (
-  call-in-reads.Asked,
-  call-in-reads.Learnt,
-  large-below t,
-  large.Post,
-) (large-at t) large.Post
+large-same-length-11 : (t : ℕ) → large-lts.Need-same-length-11 (large-claims t) (large-at t) large.Post
 large-same-length-11 t c =
     let w : After-large t = search in
     absurd (never t (call-of t w) (unfitted t w))
 
-large-same-length-12 : (t : ℕ) → large-lts.Need-same-length-12 (
-  call-in-reads.Asked,
-  call-in-reads.Learnt,
-  large-below t,
-  large.Post,
-) (large-at t) large.Post
+large-same-length-12 : (t : ℕ) → large-lts.Need-same-length-12 (large-claims t) (large-at t) large.Post
 large-same-length-12 t c =
     let w : After-large t = search in
     absurd (never t (call-of t w) (unfitted t w))
 
-large-returns-2 : (t : ℕ) → large-lts.Need-returns-2 (
-  call-in-reads.Asked,
-  call-in-reads.Learnt,
-  large-below t,
-  large.Post,
-) (large-at t) large.Post
+large-returns-2 : (t : ℕ) → large-lts.Need-returns-2 (large-claims t) (large-at t) large.Post
 large-returns-2 t c =
     let w : After-large t = search in
     absurd (never t (call-of t w) (unfitted t w))
 
 pub +large-spec : {M : Type 1} → statement M
-+large-spec = close μ-large λ t. large-lts.spec (
-  call-in-reads.Asked,
-  call-in-reads.Learnt,
-  large-below t,
-  large.Post,
-)
-    (large-at t)
-    large.Post
-    (large-slice-aggregate-call-in t)
-    (large-slice-aggregate-call-in-2 t)
-    (large-slice-aggregate-call-in-3 t)
-    (large-call-in-requires t)
-    (large-same-length t)
-    (large-same-length-2 t)
-    (large-same-length-3 t)
-    (large-same-length-4 t)
-    (large-same-length-5 t)
-    (large-same-length-6 t)
-    (large-returns t)
-    (large-large-requires t)
-    (large-same-length-7 t)
-    (large-same-length-8 t)
-    (large-same-length-9 t)
-    (large-same-length-10 t)
-    (large-same-length-11 t)
-    (large-same-length-12 t)
-    (large-returns-2 t)
++large-spec = close μ-large λ t. large-lts.spec (large-claims t) (large-at t) large.Post (λ c. search needs) (λ c. search needs)
+    (λ c. search needs) (large-call-in-requires t) (λ c. search) (λ c. search) (λ c. search) (λ c. search) (λ c. search) (λ c. search)
+    (large-returns t) (large-large-requires t) (large-same-length-7 t) (large-same-length-8 t) (large-same-length-9 t)
+    (large-same-length-10 t) (large-same-length-11 t) (large-same-length-12 t) (large-returns-2 t)

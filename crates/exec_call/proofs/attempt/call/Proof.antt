@@ -1,6 +1,5 @@
-use mathlib.Core.Path.{_≡_, ap, _∙_}
+use mathlib.Core.Path.{_≡_, _∙_}
 use mathlib.Core.Bool.{false}
-use Rattle.exec_call.specs.Tries.{called}
 use borrow.Author.Needs.{needs}
 use Rattle.exec_call.proofs.attempt.call.Statement.{statement}
 use Rattle.exec_call.proofs.attempt.call.Tie as tie
@@ -15,9 +14,6 @@ returns-2 c =
     let t : tie.After-small = search in
     t .small .ensures .done (search)
 
-abbrev start-of : tie.After-small → tie.Start
-start-of t = search
-
 abbrev small-of : tie.After-large2 → tie.After-small
 small-of t = search
 
@@ -28,10 +24,18 @@ returns-3 : tie.Need-returns-3
 returns-3 c =
     let t : tie.After-large2 = search in
     let s = small-of t in
-    let a = start-of s .args in
-    t .large2 .ensures ∙ ap (called (a .first) (a .text .now) (a .samples .now) (a .budget)) (s .small .ensures .kept (unfitted t))
+    rw (s .small .ensures .kept (unfitted t)) at (t .large2 .ensures)
 
 pub call-spec : {M : Type 1} → statement M
 call-spec =
     tie.close
-    (tie.spec (λ c κs. search needs) (λ c. search) (λ c. search) (λ c. search) (λ c. search) (λ c. search) (λ c. search) returns (λ c κs. search needs) (λ c. search) (λ c. search) (λ c. search) (λ c. search) (λ c. search) (λ c. search) returns-2 (λ c κs. search needs) (λ c. let t : tie.After-large2 = search in t .large2 .kept .1 .1 .1 .1 .0 ∙ small-of t .small .kept .1 .1 .1 .1 .0) (λ c. let t : tie.After-large2 = search in t .large2 .kept .1 .1 .1 .1 .1 .0 ∙ small-of t .small .kept .1 .1 .1 .1 .1 .0) (λ c. let t : tie.After-large2 = search in t .large2 .kept .1 .1 .1 .1 .1 .1 .0 ∙ small-of t .small .kept .1 .1 .1 .1 .1 .1 .0) (λ c. let t : tie.After-large2 = search in t .large2 .kept .1 .1 .1 .1 .1 .1 .1 .0 ∙ small-of t .small .kept .1 .1 .1 .1 .1 .1 .1 .0) (λ c. let t : tie.After-large2 = search in t .large2 .kept .1 .1 .1 .1 .1 .1 .1 .1 .0 ∙ small-of t .small .kept .1 .1 .1 .1 .1 .1 .1 .1 .0) (λ c. let t : tie.After-large2 = search in t .large2 .kept .1 .1 .1 .1 .1 .1 .1 .1 .1 .0 ∙ small-of t .small .kept .1 .1 .1 .1 .1 .1 .1 .1 .1 .0) returns-3)
+    (tie.spec (λ c κs. search needs) (λ c. search) (λ c. search) (λ c. search) (λ c. search) (λ c. search) (λ c. search) returns
+    (λ c κs. search needs) (λ c. search) (λ c. search) (λ c. search) (λ c. search) (λ c. search) (λ c. search) returns-2
+    (λ c κs. search needs) (λ c. let t : tie.After-large2 = search in t .large2 .kept .1 .1 .1 .1 .0
+    ∙ small-of t .small .kept .1 .1 .1 .1 .0) (λ c. let t : tie.After-large2 = search in t .large2 .kept .1 .1 .1 .1 .1 .0
+    ∙ small-of t .small .kept .1 .1 .1 .1 .1 .0) (λ c. let t : tie.After-large2 = search in t .large2 .kept .1 .1 .1 .1 .1 .1 .0
+    ∙ small-of t .small .kept .1 .1 .1 .1 .1 .1 .0) (λ c. let t : tie.After-large2 = search in t .large2 .kept .1 .1 .1 .1 .1 .1 .1 .0
+    ∙ small-of t .small .kept .1 .1 .1 .1 .1 .1 .1 .0) (λ c. let t : tie.After-large2 = search in
+    t .large2 .kept .1 .1 .1 .1 .1 .1 .1 .1 .0 ∙ small-of t .small .kept .1 .1 .1 .1 .1 .1 .1 .1 .0)
+    (λ c. let t : tie.After-large2 = search in t .large2 .kept .1 .1 .1 .1 .1 .1 .1 .1 .1 .0
+    ∙ small-of t .small .kept .1 .1 .1 .1 .1 .1 .1 .1 .1 .0) returns-3)

@@ -1,16 +1,11 @@
-use mathlib.Core.Path.{_≡_, refl, ap, sym, _∙_}
-use mathlib.Core.Bool.{Bool, true, false, true≢false}
+use mathlib.Core.Path.{_≡_, refl, sym, _∙_}
+use mathlib.Core.Bool.{true, false, true≢false}
 use native.Mathlib.Omega.{arith}
 use lib.ListN.{length}
 use borrow.Author.Tests.{not-true, not-false}
-use Rattle.exec.specs.Run as spec
-use Rattle.exec_machine.specs.Step.{stateOf}
-use Rattle.exec_outcome.specs.declared.Outcome.{Outcome}
-use Rattle.exec_outcome.specs.Answers.{outcomeIs}
 use Rattle.load.proofs.Laws as load
 use Rattle.image.specs.Enough.{enough}
 use Rattle.image.proofs.Enough.{enough-is}
-use Rattle.exec_call.specs.Tries.{calledIn}
 use Rattle.exec_call.proofs.Laws.{plan-large}
 use borrow.Author.Needs.{needs}
 use Rattle.exec_call.proofs.lent.call.Statement.{statement}
@@ -22,17 +17,12 @@ start-of t = search
 abbrev test-of : tie.After-call-in → tie.After-is-enough
 test-of t = search
 
--- the answer by whether the memory is long enough
-abbrev by : (t : tie.After-is-enough) → Bool → spec.Outcome
-by t b = let a = start-of t .args in calledIn b (a .first) (a .text .now) (a .samples .now) (a .budget) (stateOf (a .rk .now) (a .rn .now) (a .sk .now) (a .sn .now) (a .hk .now) (a .hn .now) (a .place))
-
 returns : tie.Need-returns
 returns c =
     let t : tie.After-is-enough = search in
     let f : tie.After-refuse = search in
-    let e = not-true (t .is-enough .result) (search) in
-    let a = start-of t .args in
-    (ap (λ (o : Outcome). outcomeIs o (a .rk .now) (a .rn .now) (a .sk .now) (a .sn .now) (a .hk .now) (a .hn .now)) (f .refuse .ensures) ∙ sym (ap (by t) (sym (t .is-enough .ensures) ∙ e)), λ w. refl)
+    let z = sym (t .is-enough .ensures) ∙ not-true (t .is-enough .result) (search) in
+    (record { enough = λ w. absurd (true≢false (sym w ∙ z)); short = λ w. rw (f .refuse .ensures) refl }, λ w. refl)
 
 long : (t : tie.After-call-in) → enough (length (start-of (test-of t) .args .image .now)) (length (start-of (test-of t) .args .numbers .now)) (length (start-of (test-of t) .args .plan .now)) ≡ true
 long t = sym (test-of t .is-enough .ensures) ∙ not-false (test-of t .is-enough .result) (search)
@@ -46,7 +36,7 @@ call-in-requires c κs =
 returns-2 : tie.Need-returns-2
 returns-2 c =
     let t : tie.After-call-in = search in
-    (t .call-in .ensures .1 .done (search) ∙ sym (ap (by (test-of t)) (long t)), λ w. absurd (true≢false (sym (long t) ∙ w)))
+    (record { enough = λ w. t .call-in .ensures .1 .done (search); short = λ w. absurd (true≢false (sym (long t) ∙ w)) }, λ w. absurd (true≢false (sym (long t) ∙ w)))
 
 returns-3 : tie.Need-returns-3
 returns-3 c =
@@ -58,5 +48,6 @@ returns-3 c =
 
 pub call-spec : {M : Type 1} → statement M
 call-spec =
-    tie.close
-    (tie.spec (λ c κs. search needs) (λ c κs. search needs) returns call-in-requires (λ c. search) (λ c. search) (λ c. search) (λ c. search) (λ c. search) (λ c. search) (λ c. search) (λ c. search) (λ c. search) returns-2 (λ c κs. search needs) (λ c. search) (λ c. search) (λ c. search) (λ c. search) (λ c. search) (λ c. search) (λ c. search) (λ c. search) (λ c. search) returns-3)
+    tie.close (tie.spec (λ c κs. search needs) (λ c κs. search needs) returns call-in-requires (λ c. search) (λ c. search) (λ c. search)
+    (λ c. search) (λ c. search) (λ c. search) (λ c. search) (λ c. search) (λ c. search) returns-2 (λ c κs. search needs) (λ c. search)
+    (λ c. search) (λ c. search) (λ c. search) (λ c. search) (λ c. search) (λ c. search) (λ c. search) (λ c. search) returns-3)

@@ -58,7 +58,12 @@ returns-4 c =
     let s = start-of-else2 n3 in
     let H : List Word = inUse (lent (s .args .hk .now) (s .args .hn .now)) (s .args .p .used) in
     let m : (take (s .args .p .used) (m2 .mark-starts .last .1 .1 .1 .0)) ≡ marksFrom H 0 = marks-are (m2 .mark-starts .result) (take (s .args .p .used) (m2 .mark-starts .last .1 .1 .1 .0)) (marksFrom H 0) (was-true (m2 .mark-starts .result) (n .if3 .left)) (m2 .mark-starts .ensures .1) in
-    λ P e. bad-registers (s .args .rk .now) (s .args .rn .now) (s .args .sk .now) (s .args .sn .now) (s .args .hk .now) (s .args .hn .now) (s .args .p) P (s .args .count) e (sym (l .long-enough .ensures) ∙ was-true (l .long-enough .result) (n2 .if1 .left)) (sym (i .in-limits .ensures) ∙ was-true (i .in-limits .result) (n3 .if2 .left)) (sym (m2 .mark-starts .ensures .0) ∙ (was-true (m2 .mark-starts .result) (n .if3 .left))) (sym (by-marks (take (s .args .p .used) (m2 .mark-starts .last .1 .1 .1 .0)) H (inUse (lent (s .args .rk .now) (s .args .rn .now)) 8) m (g .good-words .ensures)) ∙ was-false (g .good-words .result) (c .if4 .taken))
+    λ P e. bad-registers (s .args .rk .now) (s .args .rn .now) (s .args .sk .now) (s .args .sn .now) (s .args .hk .now) (s .args .hn .now)
+    (s .args .p) P (s .args .count) e (sym (l .long-enough .ensures) ∙ was-true (l .long-enough .result) (n2 .if1 .left))
+    (sym (i .in-limits .ensures) ∙ was-true (i .in-limits .result) (n3 .if2 .left)) (sym (m2 .mark-starts .ensures .0)
+    ∙ (was-true (m2 .mark-starts .result) (n .if3 .left))) (sym (by-marks (take (s .args .p .used) (m2 .mark-starts .last .1 .1 .1 .0)) H
+    (inUse (lent (s .args .rk .now) (s .args .rn .now)) 8) m (g .good-words .ensures)) ∙ was-false (g .good-words .result)
+    (c .if4 .taken))
 
 good-words-requires-2 : tie.Need-good-words-requires-2
 good-words-requires-2 c κs =
@@ -82,7 +87,12 @@ returns-5 c =
     let s = start-of-starts4 s2 in
     let H : List Word = inUse _ _ in
     let m : (take (s .args .p .used) (m2 .mark-starts .last .1 .1 .1 .0)) ≡ marksFrom H 0 = marks-are (m2 .mark-starts .result) _ (marksFrom H 0) (was-true _ (n2 .if3 .left)) (m2 .mark-starts .ensures .1) in
-    λ P e. bad-stack _ _ _ _ _ _ _ P _ e (sym (l .long-enough .ensures) ∙ was-true _ (n3 .if1 .left)) (sym (i .in-limits .ensures) ∙ was-true _ (n4 .if2 .left)) (sym (m2 .mark-starts .ensures .0) ∙ (was-true _ (n2 .if3 .left))) (sym (by-marks _ H _ m (g .good-words .ensures)) ∙ was-true (g .good-words .result) (n5 .if4 .left)) (sym (by-marks _ H _ m (g2 .good-words2 .ensures ∙ ap (λ (n : ℕ). allGoodBy (take (s .args .p .used) (m2 .mark-starts .last .1 .1 .1 .0)) (inUse (lent (s .args .sk .now) (s .args .sn .now)) n)) (w .wide .ensures .0))) ∙ was-false (g2 .good-words2 .result) (c .if5 .taken))
+    λ P e. bad-stack _ _ _ _ _ _ _ P _ e (sym (l .long-enough .ensures) ∙ was-true _ (n3 .if1 .left)) (sym (i .in-limits .ensures)
+    ∙ was-true _ (n4 .if2 .left)) (sym (m2 .mark-starts .ensures .0) ∙ (was-true _ (n2 .if3 .left)))
+    (sym (by-marks _ H _ m (g .good-words .ensures)) ∙ was-true (g .good-words .result) (n5 .if4 .left))
+    (sym (by-marks _ H _ m (g2 .good-words2 .ensures ∙ ap (λ (n : ℕ). allGoodBy (take (s .args .p .used)
+    (m2 .mark-starts .last .1 .1 .1 .0)) (inUse (lent (s .args .sk .now) (s .args .sn .now)) n)) (w .wide .ensures .0)))
+    ∙ was-false (g2 .good-words2 .result) (c .if5 .taken))
 
 good-words-requires-3 : tie.Need-good-words-requires-3
 good-words-requires-3 c κs =
@@ -108,7 +118,12 @@ returns-6 c =
     let s = start-of-starts4 s2 in
     let H : List Word = inUse _ _ in
     let m : (take (s .args .p .used) (m2 .mark-starts .last .1 .1 .1 .0)) ≡ marksFrom H 0 = marks-are (m2 .mark-starts .result) _ (marksFrom H 0) (was-true _ (n2 .if3 .left)) (m2 .mark-starts .ensures .1) in
-    λ P e. by-marks _ H H m (c .good-words3 .ensures) ∙ by-heap-words _ _ _ _ _ _ _ P _ e (sym (l .long-enough .ensures) ∙ was-true _ (n3 .if1 .left)) (sym (i .in-limits .ensures) ∙ was-true _ (n4 .if2 .left)) (sym (m2 .mark-starts .ensures .0) ∙ (was-true _ (n2 .if3 .left))) (sym (by-marks _ H _ m (g .good-words .ensures)) ∙ was-true (g .good-words .result) (n5 .if4 .left)) (sym (by-marks _ H _ m (g2 .good-words2 .ensures ∙ ap (λ (n : ℕ). allGoodBy (take (s .args .p .used) (m2 .mark-starts .last .1 .1 .1 .0)) (inUse (lent (s .args .sk .now) (s .args .sn .now)) n)) (w .wide .ensures .0))) ∙ was-true (g2 .good-words2 .result) (n6 .if5 .left))
+    λ P e. by-marks _ H H m (c .good-words3 .ensures) ∙ by-heap-words _ _ _ _ _ _ _ P _ e (sym (l .long-enough .ensures)
+    ∙ was-true _ (n3 .if1 .left)) (sym (i .in-limits .ensures) ∙ was-true _ (n4 .if2 .left)) (sym (m2 .mark-starts .ensures .0)
+    ∙ (was-true _ (n2 .if3 .left))) (sym (by-marks _ H _ m (g .good-words .ensures)) ∙ was-true (g .good-words .result) (n5 .if4 .left))
+    (sym (by-marks _ H _ m (g2 .good-words2 .ensures ∙ ap (λ (n : ℕ). allGoodBy (take (s .args .p .used)
+    (m2 .mark-starts .last .1 .1 .1 .0)) (inUse (lent (s .args .sk .now) (s .args .sn .now)) n)) (w .wide .ensures .0)))
+    ∙ was-true (g2 .good-words2 .result) (n6 .if5 .left))
 
 pub good-form-spec : {M : Type 1} → statement M
 good-form-spec =

@@ -16,9 +16,6 @@ Inv-loop starts used kinds numbers n i₀ i = (i ≤ n) × (allGoodBy (take used
 abbrev μ-loop : tie.MeasureT-loop
 μ-loop starts used kinds numbers n i₀ i = n - i
 
-loop-holds : tie.Need-loop-holds Inv-loop μ-loop
-loop-holds c = (search needs, rw sub-zero)
-
 returns : tie.Need-returns Inv-loop μ-loop
 returns c =
     let g : tie.After-good-word Inv-loop μ-loop = search in
@@ -37,5 +34,5 @@ returns-2 c =
 
 pub good-words-spec : {M : Type 1} → statement M
 good-words-spec =
-    tie.close (tie.spec Inv-loop μ-loop loop-holds (λ c κs. search) (λ c κs. search) returns (λ c. search needs) (λ c. search needs)
-    loop-again returns-2)
+    tie.close (tie.spec Inv-loop μ-loop (λ c. (search needs, rw sub-zero)) (λ c κs. search) (λ c κs. search) returns (λ c. search needs)
+    (λ c. search needs) loop-again returns-2)

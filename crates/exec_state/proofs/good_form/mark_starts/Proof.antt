@@ -18,9 +18,6 @@ Inv-loop hk hn used starts₀ k₀ i₀ starts k i = Marking (lent hk hn) used s
 abbrev μ-loop : tie.MeasureT-loop
 μ-loop hk hn used starts₀ k₀ i₀ starts k i = used - i
 
-loop-holds : tie.Need-loop-holds Inv-loop μ-loop
-loop-holds c = record { passed = search needs; few = search needs; size = refl; rest = rw sub-zero; marks = rw sub-zero }
-
 returns : tie.Need-returns Inv-loop μ-loop
 returns c =
     let l2 : tie.After-left-after Inv-loop μ-loop = search in
@@ -50,5 +47,7 @@ returns-2 c =
 
 pub mark-starts-spec : {M : Type 1} → statement M
 mark-starts-spec =
-    tie.close (tie.spec Inv-loop μ-loop loop-holds (λ c κs. search) (λ c. search needs) (λ c κs. search) (λ c κs. search)
-    (λ c. search needs) returns (λ c. search needs) (λ c. search needs) loop-again (λ c. search) returns-2)
+    tie.close (tie.spec Inv-loop μ-loop
+    (λ c. record { passed = search needs; few = search needs; size = refl; rest = rw sub-zero; marks = rw sub-zero }) (λ c κs. search)
+    (λ c. search needs) (λ c κs. search) (λ c κs. search) (λ c. search needs) returns (λ c. search needs) (λ c. search needs) loop-again
+    (λ c. search) returns-2)

@@ -1,7 +1,6 @@
-use Prim.Native.Nat.{ℕ, _+_, _-_}
+use Prim.Native.Nat.{ℕ, _+_}
 use native.Mathlib.Omega.{arith}
 use mathlib.Core.Path.{refl, ap}
-use Rattle.exec_machine.specs.declared.Stop.the-variants.{Stuck}
 use Rattle.exec_step.proofs.moved.Laws.{named, ended, to-register}
 use Rattle.exec_machine.proofs.Leaves.{load-kind, load-past, load-done}
 use Rattle.exec_step.proofs.heap.Laws.{start-lent, component-lent}
@@ -15,13 +14,13 @@ start-of-assign-arg2 x = search
 returns : tie.Need-returns
 returns c =
     let g : tie.After-get = search in
-    λ ω S p m j et lp. ended ω m _ _ S _ _ _ j Stuck _ (c .stuck .ensures) (load-kind _ _ p _ _ _ _ (named _ (g .get .ensures) (search)) refl (search))
+    λ ω S p m j et lp. ended ω (c .stuck .ensures) (load-kind _ _ p _ _ _ _ (named _ (g .get .ensures) (search)) refl (search))
 
 get-requires-2 : tie.Need-get-requires-2
 get-requires-2 c κs =
     let g : tie.After-get = search in
     let s : tie.Start = search in
-    start-lent _ _ _ (s .pre .8) (search) (search) _ (s .pre .3 .second) _ (named _ (g .get .ensures) (search)) (search) _ (search)
+    start-lent _ _ _ (s .pre .3) (s .pre .2) _ (s .pre .0 .low .second) _ (named _ (g .get .ensures) (search)) (search) _ (search)
 
 returns-2 : tie.Need-returns-2
 returns-2 c =
@@ -29,20 +28,22 @@ returns-2 c =
     let g2 : tie.After-get2 = search in
     let w : tie.After-wide = search in
     let g : tie.After-get = search in
-    λ ω S p m j et lp. ended ω m _ _ S _ _ _ j Stuck _ (c .stuck2 .ensures) (load-past _ _ p _ _ _ _ (named _ (g .get .ensures) (search)) _ (w .wide .ensures .0) (search) _ (g2 .get2 .ensures) refl (w2 .wide2 .ensures .0) (omega arith))
+    λ ω S p m j et lp. ended ω (c .stuck2 .ensures) (load-past _ _ p _ _ _ _ (named _ (g .get .ensures) (search)) _ (w .wide .ensures .0)
+    (search) _ (g2 .get2 .ensures) refl (w2 .wide2 .ensures .0) (omega arith))
 
 get-requires-3 : tie.Need-get-requires-3
 get-requires-3 c κs =
     let g2 : tie.After-get2 = search in
     let g : tie.After-get = search in
     let s : tie.Start = search in
-    component-lent _ _ _ (s .pre .8) (search) (search) _ (s .pre .3 .second) _ (named _ (g .get .ensures) (search)) (search) _ (search) _ _ (g2 .get2 .ensures) (omega arith)
+    component-lent _ _ _ (s .pre .3) (s .pre .2) _ (s .pre .0 .low .second) _ (named _ (g .get .ensures) (search)) (search) _ (search) _ _
+    (g2 .get2 .ensures) (omega arith)
 
 assign-requires : tie.Need-assign-requires
 assign-requires c κs =
     let a : tie.After-assign-arg2 = search in
     let s = start-of-assign-arg2 a in
-    (search, search, search, s .pre .3 .first)
+    (search, search, s .pre .0 .low .first)
 
 returns-3 : tie.Need-returns-3
 returns-3 c =
@@ -58,7 +59,11 @@ returns-3 c =
     let i : tie.After-index = search in
     let a3 : tie.After-assign-arg2 = search in
     let s = start-of-assign-arg2 a3 in
-    λ ω S p m j et lp. to-register ω m _ _ S _ _ _ j _ p et lp (s .pre .4) (s .pre .5) _ _ _ (load-done _ _ p _ _ _ _ (named _ (g2 .get .ensures) (i .index .ensures .0)) _ (w .wide .ensures .0) (n .if1 .left) _ (g3 .get2 .ensures) _ (w2 .wide2 .ensures .0) (omega (arith, n2 .if2 .left, i2 .index2 .ensures .0)) (named _ (g .get3 .ensures) (ap (λ (k : ℕ). (w .wide) .result + k + 1) (i2 .index2 .ensures .0)))) (a2 .assign .ensures .0) (a2 .assign .ensures .1)
+    λ ω S p m j et lp. to-register ω et lp (s .pre .0 .depth) (s .pre .0 .used)
+    (load-done _ _ p _ _ _ _ (named _ (g2 .get .ensures) (i .index .ensures .0)) _ (w .wide .ensures .0) (n .if1 .left) _
+    (g3 .get2 .ensures) _ (w2 .wide2 .ensures .0) (omega (arith, n2 .if2 .left, i2 .index2 .ensures .0))
+    (named _ (g .get3 .ensures) (ap (λ (k : ℕ). (w .wide) .result + k + 1) (i2 .index2 .ensures .0)))) (a2 .assign .ensures .0)
+    (a2 .assign .ensures .1)
 
 pub load-spec : {M : Type 1} → statement M
 load-spec =

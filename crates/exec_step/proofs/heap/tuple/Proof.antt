@@ -1,12 +1,11 @@
-use Prim.Native.Nat.{ℕ, _+_, _-_, _<_, _≤_}
+use Prim.Native.Nat.{ℕ, _+_, _<_, _≤_}
 use native.Mathlib.Omega.{arith}
-use mathlib.Core.Path.{_≡_, refl, ap, ap₂, sym, subst, _∙_}
+use mathlib.Core.Path.{_≡_, refl, ap, ap₂, _∙_}
 use lib.ListN.{getD}
 use Rattle.exec.specs.Machine.{put, puts, handle}
-use Rattle.exec_words.specs.memory.Lent.{lent, operandTable, tupleOf, Sourced}
-use Rattle.exec_machine.specs.declared.Stop.the-variants.{HeapFull}
+use Rattle.exec_words.specs.memory.Lent.{lent, operandTable, tupleOf}
 use borrow.Author.Tests.{not-true, not-false}
-use Rattle.exec_step.specs.declared.moved.Moved.the-variants.{To, Paused}
+use Rattle.exec_step.specs.declared.moved.Moved.the-variants.{To}
 use Rattle.exec_step.proofs.moved.Laws.{ended, to-tuple, moves, waits, written, as-before}
 use Rattle.exec_machine.proofs.Leaves.{tuple-full, tuple-done}
 use borrow.Author.Needs.{needs}
@@ -27,28 +26,29 @@ wide-of-hk x = search
 
 returns : tie.Need-returns
 returns c =
-    let s : tie.Start = search in
-    λ S p m j et lp. ended _ m (s .args .more) _ S _ _ _ j HeapFull _ refl (tuple-full _ p _ _ _ (omega arith))
+    λ S p m j et lp. ended _ refl (tuple-full _ p _ _ _ (omega arith))
 
 returns-2 : tie.Need-returns-2
 returns-2 c =
     let s : tie.Start = search in
     let e = not-true (s .args .more) (c .if2 .taken) in
     let l : (s .args .u) + (getD (s .args .plan .now) (s .args .at + 4) 0) + 1 ≤ 2048 = omega arith in
-    λ S p m j et lp. to-tuple _ m _ _ S _ _ _ j _ p et lp (search) (search) Paused _ _ _ l (tuple-done _ p _ _ _ l) (waits _ ((s .args .at) + 8) (s .args .h) ((s .args .u) + (getD (s .args .plan .now) (s .args .at + 4) 0) + 1) e) (as-before _ (put _ _ _) _ e) (as-before _ (puts _ _ _) _ e)
+    λ S p m j et lp. to-tuple _ et lp (search) (search) l (tuple-done _ p _ _ _ l)
+    (waits _ ((s .args .at) + 8) (s .args .h) ((s .args .u) + (getD (s .args .plan .now) (s .args .at + 4) 0) + 1) e)
+    (as-before _ (put _ _ _) _ e) (as-before _ (puts _ _ _) _ e)
 
 put-tuple-requires : tie.Need-put-tuple-requires
 put-tuple-requires c κs =
     let r : tie.After-read = search in
     let s : tie.Start = search in
     let l : (s .args .u) + getD (s .args .plan .now) ((s .args .at) + 4) 0 < 2048 = omega arith in
-    (omega (arith, l), omega (arith, l), search, search, subst (λ (k : ℕ). Sourced (s .args .operands .now) (s .args .bases .now) (c .read2 .result) k) (sym (r .read .ensures)) (subst (λ (v : ℕ). Sourced (s .args .operands .now) (s .args .bases .now) v (getD (s .args .plan .now) ((s .args .at) + 4) 0)) (sym (c .read2 .ensures)) (s .pre .8)))
+    (omega arith, search, rw (c .read2 .ensures, r .read .ensures) (s .pre .3))
 
 add-t16 : tie.Need-add-t16
 add-t16 c =
     let h : tie.After-hk = search in
     let s = start-of-hk h in
-    omega (arith, s .pre .0, s .good .0 .0)
+    omega (arith, s .pre .0 .whole, s .good .0 .0)
 
 returns-3 : tie.Need-returns-3
 returns-3 c =
@@ -65,10 +65,18 @@ returns-3 c =
     let e = not-false (s .args .more) (n .if2 .left) in
     let l : (s .args .u) + (getD (s .args .plan .now) (s .args .at + 4) 0) + 1 ≤ 2048 = omega (arith, n2 .if1 .left, w .wide .ensures .0, r .read .ensures) in
     let q : w .wide .result ≡ (getD (s .args .plan .now) (s .args .at + 4) 0) = w .wide .ensures .0 ∙ r .read .ensures in
-    λ S p m j et lp. to-tuple _ m _ _ S _ _ _ j _ p et lp (s .pre .4) (s .pre .5) _ _ _ _ l (tuple-done _ p _ _ _ l) (ap (λ (k : ℕ). To ((s .args .at) + 8) (s .args .h) ((s .args .u) + k + 1)) q ∙ moves _ _ _ _ e) (written _ _ (lent (s .args .rk .now) (s .args .rn .now)) e (s2 .set .ensures ∙ ap (λ (k : ℕ). put (lent (s .args .rk .now) (s .args .rn .now)) k (handle (s .args .u))) (i2 .index .ensures .0))) (written _ _ (lent (s .args .hk .now) (s .args .hn .now)) e (p2 .put-tuple .ensures ∙ ap₂ (λ (i k : ℕ). puts (lent (s .args .hk .now) (s .args .hn .now)) (s .args .u) (tupleOf (operandTable (s .args .operands .now) (s .args .bases .now)) (lent (s .args .rk .now) (s .args .rn .now)) i k)) (r2 .read2 .ensures) (r .read .ensures)))
+    λ S p m j et lp. to-tuple _ et lp (s .pre .0 .depth) (s .pre .0 .used) l (tuple-done _ p _ _ _ l)
+    (ap (λ (k : ℕ). To ((s .args .at) + 8) (s .args .h) ((s .args .u) + k + 1)) q ∙ moves _ _ _ _ e)
+    (written _ _ (lent (s .args .rk .now) (s .args .rn .now)) e (s2 .set .ensures ∙ ap
+    (λ (k : ℕ). put (lent (s .args .rk .now) (s .args .rn .now)) k (handle (s .args .u))) (i2 .index .ensures .0)))
+    (written _ _ (lent (s .args .hk .now) (s .args .hn .now)) e (p2 .put-tuple .ensures ∙ ap₂
+    (λ (i k : ℕ). puts (lent (s .args .hk .now) (s .args .hn .now)) (s .args .u)
+    (tupleOf (operandTable (s .args .operands .now) (s .args .bases .now)) (lent (s .args .rk .now) (s .args .rn .now)) i k))
+    (r2 .read2 .ensures) (r .read .ensures)))
 
 pub tuple-spec : {M : Type 1} → statement M
 tuple-spec =
     tie.close (tie.spec (λ c κs. search needs) (λ c κs. search) (λ c. search needs) returns returns-2 (λ c. search needs)
-    (λ c κs. search needs) put-tuple-requires (λ c κs. search needs) (λ c κs. search needs) add-t16 (λ c. search needs)
-    (λ c. search needs) (λ c. search) (λ c. search) (λ c. search) (λ c. search) returns-3)
+    (λ c κs. search needs) put-tuple-requires (λ c κs. search needs)
+    (λ c κs. let h : tie.After-hk = search in omega (arith, start-of-hk h .pre))
+    add-t16 (λ c. search needs) (λ c. search needs) (λ c. search) (λ c. search) (λ c. search) (λ c. search) returns-3)

@@ -1,7 +1,5 @@
 use Rattle.exec_machine.specs.Step.{Go}
 use borrow.Author.Needs.{needs}
-use Prim.Native.Nat.{_-_}
-use Rattle.exec_machine.specs.declared.Stop.the-variants.{Stuck}
 use mathlib.Core.Bool.{cond}
 use Rattle.exec.specs.Machine.{signOf, taken}
 use Rattle.exec_step.proofs.moved.Laws.{named, ended, to-position}
@@ -12,13 +10,15 @@ use Rattle.exec_step.proofs.registers.branch_nowhere.Tie as tie
 returns : tie.Need-returns
 returns c =
     let g : tie.After-get = search in
-    λ ω S H p m j et lp. ended ω m _ _ S H _ _ j Stuck _ (c .stuck .ensures) (given-not 0 _ _ (λ x. cond (taken _ (signOf x)) _ (Go p)) _ (named _ (g .get .ensures) (search)) (search))
+    λ ω S H p m j et lp. ended ω (c .stuck .ensures) (given-not 0 _ _ (λ x. cond (taken _ (signOf x)) _ (Go p)) _
+    (named _ (g .get .ensures) (search)) (search))
 
 returns-2 : tie.Need-returns-2
 returns-2 c =
     let b : tie.After-branches = search in
     let g : tie.After-get = search in
-    λ ω S H p m j et lp. ended ω m _ _ S H _ _ j Stuck _ (c .stuck2 .ensures) (branch-on _ _ _ _ p _ (named _ (g .get .ensures) (search)) (search) _ _ (b .branches .ensures) (search) (search))
+    λ ω S H p m j et lp. ended ω (c .stuck2 .ensures) (branch-on _ _ _ _ p _ (named _ (g .get .ensures) (search)) (search) _ _
+    (b .branches .ensures) (search) (search))
 
 returns-3 : tie.Need-returns-3
 returns-3 c =
@@ -29,7 +29,9 @@ returns-3 c =
     let g : tie.After-get = search in
     let i : tie.After-index = search in
     let s : tie.Start = search in
-    λ ω S H p m j et lp. to-position ω m _ _ S H _ _ j _ p et lp (s .pre .4) (s .pre .5) _ (branch-off _ _ _ _ p _ (named _ (g .get .ensures) (i .index .ensures .0)) (n .if1 .left) _ _ (b .branches .ensures) (i2 .index2 .ensures .0) (n2 .if2 .left)) (c .goes .ensures)
+    λ ω S H p m j et lp. to-position ω et lp (s .pre .0 .depth) (s .pre .0 .used)
+    (branch-off _ _ _ _ p _ (named _ (g .get .ensures) (i .index .ensures .0)) (n .if1 .left) _ _ (b .branches .ensures)
+    (i2 .index2 .ensures .0) (n2 .if2 .left)) (c .goes .ensures)
 
 pub branch-nowhere-spec : {M : Type 1} → statement M
 branch-nowhere-spec =

@@ -1,8 +1,6 @@
 use borrow.Author.Needs.{needs}
-use Prim.Native.Nat.{_-_}
 use mathlib.Core.Path.{ap, sym, _∙_}
 use Rattle.exec_words.specs.memory.Lent.{lent}
-use Rattle.exec_machine.specs.declared.Stop.the-variants.{Stuck}
 use mathlib.Core.Bool.{cond}
 use Rattle.exec.specs.Machine.{signOf, taken}
 use Rattle.exec_machine.specs.Step.{resultOf, nextJump, Go}
@@ -15,7 +13,8 @@ use Rattle.exec_step.proofs.registers.branch_register.Tie as tie
 returns : tie.Need-returns
 returns c =
     let g : tie.After-get = search in
-    λ ω S H m j p starts et lp. ended ω m _ _ S H _ _ j Stuck _ (c .stuck .ensures) (given-not 0 _ _ (λ x. cond (taken _ (signOf x)) _ (Go p)) _ (named _ (g .get .ensures) (search)) (search))
+    λ ω S H m j p starts et lp. ended ω (c .stuck .ensures) (given-not 0 _ _ (λ x. cond (taken _ (signOf x)) _ (Go p)) _
+    (named _ (g .get .ensures) (search)) (search))
 
 returns-2 : tie.Need-returns-2
 returns-2 c =
@@ -25,7 +24,10 @@ returns-2 c =
     let g : tie.After-get = search in
     let i : tie.After-index = search in
     let s : tie.Start = search in
-    λ ω S H m j p starts et lp. as-turned m (s .args .more) (held (lent _ _) S H (s .args .h) (s .args .u) j) (c .jump .result) (lent _ _) S H (ap (resultOf ω (held (lent _ _) S H (s .args .h) (s .args .u) j)) (sym (branch-on _ _ _ _ p _ (named _ (g .get .ensures) (i .index .ensures .0)) (search) _ _ (b .branches .ensures) (i2 .index2 .ensures .0) (search)) ∙ ap (nextJump (s .args .blocks .now) (s .args .labels)) (sym (r .register .ensures)))) (c .jump .ensures ω (lent _ _) S H m j starts)
+    λ ω S H m j p starts et lp. as-turned (ap (resultOf ω (held (lent _ _) S H (s .args .h) (s .args .u) j))
+    (sym (branch-on _ _ _ _ p _ (named _ (g .get .ensures) (i .index .ensures .0)) (search) _ _ (b .branches .ensures)
+    (i2 .index2 .ensures .0) (search)) ∙ ap (nextJump (s .args .blocks .now) (s .args .labels)) (sym (r .register .ensures))))
+    (c .jump .ensures ω (lent _ _) S H m j starts)
 
 returns-3 : tie.Need-returns-3
 returns-3 c =
@@ -36,7 +38,9 @@ returns-3 c =
     let g : tie.After-get = search in
     let i : tie.After-index = search in
     let s : tie.Start = search in
-    λ ω S H m j p starts et lp. to-position ω m _ _ S H _ _ j _ p et lp (s .pre .4) (s .pre .5) _ (branch-off _ _ _ _ p _ (named _ (g .get .ensures) (i .index .ensures .0)) (n .if1 .left) _ _ (b .branches .ensures) (i2 .index2 .ensures .0) (n2 .if2 .left)) (c .goes .ensures)
+    λ ω S H m j p starts et lp. to-position ω et lp (s .pre .0 .depth) (s .pre .0 .used)
+    (branch-off _ _ _ _ p _ (named _ (g .get .ensures) (i .index .ensures .0)) (n .if1 .left) _ _ (b .branches .ensures)
+    (i2 .index2 .ensures .0) (n2 .if2 .left)) (c .goes .ensures)
 
 pub branch-register-spec : {M : Type 1} → statement M
 branch-register-spec =

@@ -3,8 +3,6 @@ use borrow.Author.Needs.{needs}
 use Rattle.exec_step.proofs.registers.constant.Statement.{statement}
 use Rattle.exec_step.proofs.registers.constant.Tie as tie
 
-returns : tie.Need-returns
-returns c = word-constant (search) (search)
-
 pub constant-spec : {M : Type 1} → statement M
-constant-spec = tie.close (tie.spec (λ c κs. search needs) (λ c. search needs) (λ c κs. search needs) returns)
+constant-spec =
+    tie.close (tie.spec (λ c κs. search needs) (λ c. search needs) (λ c κs. search needs) (λ c. word-constant (search) (search)))

@@ -4,8 +4,5 @@ use Rattle.exec_step.proofs.registers.Laws.{word-lit}
 use Rattle.exec_step.proofs.registers.literal.Statement.{statement}
 use Rattle.exec_step.proofs.registers.literal.Tie as tie
 
-returns : tie.Need-returns
-returns c = λ R. word-lit R (search)
-
 pub literal-spec : {M : Type 1} → statement M
-literal-spec = tie.close (tie.spec (λ c κs. search needs) returns)
+literal-spec = tie.close (tie.spec (λ c κs. search needs) (λ c. λ R. word-lit R (search)))

@@ -1,7 +1,5 @@
 use borrow.Author.Needs.{needs}
-use Prim.Native.Nat.{_-_}
 use mathlib.Core.Path.{refl}
-use Rattle.exec_machine.specs.declared.Stop.the-variants.{Stuck}
 use Rattle.exec_step.proofs.moved.Laws.{named, ended, to-register}
 use Rattle.exec_machine.proofs.Leaves.{arith-left, arith-right, arith-done}
 use Rattle.exec_step.proofs.registers.reckon.Statement.{statement}
@@ -13,12 +11,13 @@ start-of-rn x = search
 returns : tie.Need-returns
 returns c =
     let g : tie.After-get = search in
-    λ ω b S H ew p m j et lp. ended ω m _ _ S H _ _ j Stuck _ (c .stuck .ensures) (arith-left _ p _ _ _ b _ (named _ (g .get .ensures) (search)) refl (search))
+    λ ω b S H ew p m j et lp. ended ω (c .stuck .ensures) (arith-left _ p _ _ _ b _ (named _ (g .get .ensures) (search)) refl (search))
 
 returns-2 : tie.Need-returns-2
 returns-2 c =
     let g : tie.After-get = search in
-    λ ω b S H ew p m j et lp. ended ω m _ _ S H _ _ j Stuck _ (c .stuck2 .ensures) (arith-right _ p _ _ _ b _ (named _ (g .get .ensures) (search)) _ ew (search) refl (search))
+    λ ω b S H ew p m j et lp. ended ω (c .stuck2 .ensures) (arith-right _ p _ _ _ b _ (named _ (g .get .ensures) (search)) _ ew (search)
+    refl (search))
 
 returns-3 : tie.Need-returns-3
 returns-3 c =
@@ -30,7 +29,9 @@ returns-3 c =
     let i : tie.After-index = search in
     let r : tie.After-rn = search in
     let s = start-of-rn r in
-    λ ω b S H ew p m j et lp. to-register ω m _ _ S H _ _ j _ p et lp (s .pre .4) (s .pre .5) _ _ (record { kind = 0; number = c2 .compute .result }) (arith-done _ p _ _ _ b _ (named _ (g .get .ensures) (i .index .ensures .0)) _ ew (n .if1 .left) (n2 .if2 .left) (c2 .compute .ensures) refl) (a2 .assign .ensures .0) (a2 .assign .ensures .1)
+    λ ω b S H ew p m j et lp. to-register ω et lp (s .pre .0 .depth) (s .pre .0 .used)
+    (arith-done _ p _ _ _ b _ (named _ (g .get .ensures) (i .index .ensures .0)) _ ew (n .if1 .left) (n2 .if2 .left) (c2 .compute .ensures)
+    refl) (a2 .assign .ensures .0) (a2 .assign .ensures .1)
 
 pub reckon-spec : {M : Type 1} → statement M
 reckon-spec =

@@ -5,7 +5,6 @@ use mathlib.Core.Path.{refl, ap₂, _∙_}
 use lib.ListN.{getD}
 use Rattle.exec.specs.Machine.{put}
 use Rattle.exec_words.specs.memory.Lent.{wordIs, lent}
-use Rattle.exec_machine.specs.declared.Stop.the-variants.{Stuck}
 use mathlib.Core.Bool.{cond}
 use Rattle.exec_step.proofs.moved.Laws.{named, ended, to-stack}
 use Rattle.exec_machine.proofs.Leaves.{write-past, write-done}
@@ -19,7 +18,7 @@ abbrev wide-of-get : tie.After-get → tie.After-wide
 wide-of-get x = search
 
 returns : tie.Need-returns
-returns c = λ ω H p m j et lp. ended ω m _ _ _ H _ _ j Stuck _ (c .stuck .ensures) (write-past _ _ p _ _ refl (omega arith))
+returns c = λ ω H p m j et lp. ended ω (c .stuck .ensures) (write-past _ _ p _ _ refl (omega arith))
 
 returns-2 : tie.Need-returns-2
 returns-2 c =
@@ -30,7 +29,14 @@ returns-2 c =
     let i2 : tie.After-index = search in
     let w2 = wide-of-get g in
     let s = start-of-get g in
-    λ ω H p m j et lp. to-stack ω m (s .args .more) (lent (s .args .rk .now) (s .args .rn .now)) (lent (s .args .sk .now) (s .args .sn .now)) H (s .args .h) (s .args .u) j ((s .args .at) + 8) p et lp (s .pre .6) (s .pre .7) (w .write .result) ((s .args .h) - (getD (s .args .plan .now) (s .args .at + 3) 0) - 1) (g .get .result) (write-done (lent (s .args .rk .now) (s .args .rn .now)) (s .args .h) p (getD (s .args .plan .now) (s .args .at + 3) 0) (getD (s .args .plan .now) (s .args .at + 2) 0) (g .get .result) (omega (arith, n .if1 .left, w2 .wide .ensures .0, i2 .index .ensures .0)) (named (lent (s .args .rk .now) (s .args .rn .now)) (g .get .ensures) (i3 .index2 .ensures .0))) (w .write .ensures .0) (w .write .ensures .1 ∙ ap₂ (λ (i k : ℕ). cond (s .args .more) (put (lent (s .args .sk .now) (s .args .sn .now)) (i - k - 1) (wordIs (g .get .result))) (lent (s .args .sk .now) (s .args .sn .now))) (w2 .wide .ensures .0) (i2 .index .ensures .0))
+    λ ω H p m j et lp. to-stack ω et lp (s .pre .0 .depth) (s .pre .0 .used)
+    (write-done (lent (s .args .rk .now) (s .args .rn .now)) (s .args .h) p (getD (s .args .plan .now) (s .args .at + 3) 0)
+    (getD (s .args .plan .now) (s .args .at + 2) 0) (g .get .result)
+    (omega (arith, n .if1 .left, w2 .wide .ensures .0, i2 .index .ensures .0))
+    (named (lent (s .args .rk .now) (s .args .rn .now)) (g .get .ensures) (i3 .index2 .ensures .0))) (w .write .ensures .0)
+    (w .write .ensures .1 ∙ ap₂ (λ (i k : ℕ). cond (s .args .more)
+    (put (lent (s .args .sk .now) (s .args .sn .now)) (i - k - 1) (wordIs (g .get .result))) (lent (s .args .sk .now) (s .args .sn .now)))
+    (w2 .wide .ensures .0) (i2 .index .ensures .0))
 
 pub poke-spec : {M : Type 1} → statement M
 poke-spec =

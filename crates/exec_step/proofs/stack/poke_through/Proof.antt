@@ -4,7 +4,6 @@ use native.Mathlib.Omega.{arith}
 use mathlib.Core.Path.{refl, ap, _∙_}
 use Rattle.exec.specs.Machine.{put}
 use Rattle.exec_words.specs.memory.Lent.{wordIs, lent}
-use Rattle.exec_machine.specs.declared.Stop.the-variants.{Stuck}
 use mathlib.Core.Bool.{cond}
 use Rattle.exec_step.proofs.moved.Laws.{named, ended, to-stack}
 use Rattle.exec_machine.proofs.Leaves.{into-kind, into-above, into-past, into-done}
@@ -17,18 +16,20 @@ start-of-write-arg2 x = search
 returns : tie.Need-returns
 returns c =
     let g : tie.After-get = search in
-    λ ω H p m j et lp. ended ω m _ _ _ H _ _ j Stuck _ (c .stuck .ensures) (into-kind _ _ p _ _ _ _ (named _ (g .get .ensures) (search)) refl (search))
+    λ ω H p m j et lp. ended ω (c .stuck .ensures) (into-kind _ _ p _ _ _ _ (named _ (g .get .ensures) (search)) refl (search))
 
 returns-2 : tie.Need-returns-2
 returns-2 c =
     let g : tie.After-get = search in
-    λ ω H p m j et lp. ended ω m _ _ _ H _ _ j Stuck _ (c .stuck2 .ensures) (into-above _ _ p _ _ _ _ (named _ (g .get .ensures) (search)) _ refl (search) refl (search))
+    λ ω H p m j et lp. ended ω (c .stuck2 .ensures) (into-above _ _ p _ _ _ _ (named _ (g .get .ensures) (search)) _ refl (search) refl
+    (search))
 
 returns-3 : tie.Need-returns-3
 returns-3 c =
     let w : tie.After-wide = search in
     let g : tie.After-get = search in
-    λ ω H p m j et lp. ended ω m _ _ _ H _ _ j Stuck _ (c .stuck3 .ensures) (into-past _ _ p _ _ _ _ (named _ (g .get .ensures) (search)) _ (w .wide .ensures .0) (search) refl (omega arith) (omega arith))
+    λ ω H p m j et lp. ended ω (c .stuck3 .ensures) (into-past _ _ p _ _ _ _ (named _ (g .get .ensures) (search)) _ (w .wide .ensures .0)
+    (search) refl (omega arith) (omega arith))
 
 returns-4 : tie.Need-returns-4
 returns-4 c =
@@ -44,7 +45,12 @@ returns-4 c =
     let i : tie.After-index = search in
     let w3 : tie.After-write-arg2 = search in
     let s = start-of-write-arg2 w3 in
-    λ ω H p m j et lp. to-stack ω m _ _ _ H _ _ j _ p et lp (s .pre .6) (s .pre .7) _ _ _ (into-done _ _ p _ _ _ _ (named _ (g2 .get .ensures) (i .index .ensures .0)) _ (w2 .wide .ensures .0) (n .if1 .left) _ (omega (arith, w2 .wide .ensures .0, n2 .if2 .left)) (omega (arith, n3 .if3 .left, i2 .index2 .ensures .0)) (named _ (g .get2 .ensures) (i3 .index3 .ensures .0))) (w .write .ensures .0) (w .write .ensures .1 ∙ ap (λ (k : ℕ). cond (s .args .more) (put (lent (s .args .sk .now) (s .args .sn .now)) (w2 .wide .result - k - 1) (wordIs (g .get2 .result))) (lent (s .args .sk .now) (s .args .sn .now))) (i2 .index2 .ensures .0))
+    λ ω H p m j et lp. to-stack ω et lp (s .pre .0 .depth) (s .pre .0 .used)
+    (into-done _ _ p _ _ _ _ (named _ (g2 .get .ensures) (i .index .ensures .0)) _ (w2 .wide .ensures .0) (n .if1 .left) _
+    (omega (arith, w2 .wide .ensures .0, n2 .if2 .left)) (omega (arith, n3 .if3 .left, i2 .index2 .ensures .0))
+    (named _ (g .get2 .ensures) (i3 .index3 .ensures .0))) (w .write .ensures .0)
+    (w .write .ensures .1 ∙ ap (λ (k : ℕ). cond (s .args .more) (put (lent (s .args .sk .now) (s .args .sn .now))
+    (w2 .wide .result - k - 1) (wordIs (g .get2 .result))) (lent (s .args .sk .now) (s .args .sn .now))) (i2 .index2 .ensures .0))
 
 pub poke-through-spec : {M : Type 1} → statement M
 poke-through-spec =

@@ -3,8 +3,5 @@ use borrow.Author.Needs.{needs}
 use Rattle.exec_words.proofs.arith.is_taken.Statement.{statement}
 use Rattle.exec_words.proofs.arith.is_taken.Tie as tie
 
-returns : tie.Need-returns
-returns c = taken-is _ _ (search) (search)
-
 pub is-taken-spec : {M : Type 1} → statement M
-is-taken-spec = tie.close (tie.spec (λ c. search needs) (λ c. search) (λ c. search) returns)
+is-taken-spec = tie.close (tie.spec (λ c. search needs) (λ c. search) (λ c. search) (λ c. taken-is _ _ (search) (search)))

@@ -3,11 +3,7 @@ use borrow.Author.Needs.{needs}
 use Rattle.exec_words.proofs.arith.wrapping_mul_u32.Statement.{statement}
 use Rattle.exec_words.proofs.arith.wrapping_mul_u32.Tie as tie
 
-mul-result : tie.Need-mul-result
-mul-result c = record { fits = below 32 (search) (search) }
-
-returns : tie.Need-returns
-returns c = cc
-
 pub wrapping-mul-u32-spec : {M : Type 1} → statement M
-wrapping-mul-u32-spec = tie.close (tie.spec (λ c κs. search) (λ c κs. search) mul-result (λ c. search needs) returns)
+wrapping-mul-u32-spec =
+    tie.close (tie.spec (λ c κs. search) (λ c κs. search) (λ c. record { fits = below 32 (search) (search) }) (λ c. search needs)
+    (λ c. cc))

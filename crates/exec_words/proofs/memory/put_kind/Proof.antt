@@ -4,8 +4,5 @@ use borrow.Author.Needs.{needs}
 use Rattle.exec_words.proofs.memory.put_kind.Statement.{statement}
 use Rattle.exec_words.proofs.memory.put_kind.Tie as tie
 
-returns-2 : tie.Need-returns-2
-returns-2 c = sym (set-out _ _ _ (search))
-
 pub put-kind-spec : {M : Type 1} → statement M
-put-kind-spec = tie.close (tie.spec (λ c. search) (λ c. search needs) (λ c. search) returns-2)
+put-kind-spec = tie.close (tie.spec (λ c. search) (λ c. search needs) (λ c. search) (λ c. sym (set-out _ _ _ (search))))

@@ -15,7 +15,7 @@ start-of-set-arg x = search
 get-requires : tie.Need-get-requires
 get-requires c κs =
     let s : tie.Start = search in
-    let q : getD (s .args .bases .now) (s .args .v) 0 < 8 = s .pre .6 (search) in
+    let q : getD (s .args .bases .now) (s .args .v) 0 < 8 = s .pre .2 .low (search) in
     (omega (arith, q), omega (arith, q))
 
 returns : tie.Need-returns

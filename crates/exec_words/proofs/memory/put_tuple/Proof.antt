@@ -1,7 +1,7 @@
 use native.Mathlib.Omega.{arith}
 use Prim.Native.Nat.{_≤_}
 use lib.ListN.{length}
-use Rattle.exec_words.proofs.memory.Puts.{room-in, in-tail}
+use Rattle.exec_words.proofs.memory.Puts.{word-in-part, in-tail}
 use borrow.Author.Needs.{needs}
 use Rattle.exec_words.proofs.memory.put_tuple.Statement.{statement}
 use Rattle.exec_words.proofs.memory.put_tuple.Tie as tie
@@ -10,7 +10,7 @@ write-tuple-requires : tie.Need-write-tuple-requires
 write-tuple-requires c κs =
     let w : tie.After-wide = search in
     let s : tie.Start = search in
-    (room-in (s .args .hk .now) _ _ _ (w .wide .ensures .0) (s .pre .0), room-in (s .args .hn .now) _ _ _ (w .wide .ensures .0) (s .pre .1), search, search, search)
+    (word-in-part (w .wide .ensures .0) (s .pre .0), search, search)
 
 returns : tie.Need-returns
 returns c =

@@ -6,7 +6,7 @@ use lib.ListN.{length}
 use Rattle.exec.specs.Machine.{Memory, Word, puts, wordOf}
 use Rattle.tables.specs.Tables.{OperandTable, operandAt, operandsAt}
 use Rattle.exec_words.specs.memory.Lent.{lent, operandTable}
-use Rattle.exec_words.proofs.memory.Laws.{low-at}
+use Rattle.exec_words.proofs.memory.Laws.{operand-at}
 use Rattle.exec_words.proofs.memory.Puts.{nothing-left, one-written, length-word, components, next-component}
 use Rattle.exec_words.proofs.memory.write_tuple.Statement.{statement}
 use Rattle.exec_words.proofs.memory.write_tuple.Tie as tie
@@ -35,7 +35,7 @@ put-operand-requires c κs =
     let s = start-of-put-operand-arg p2 in
     let w = w2 .wide .ensures .0 in
     let h : l2 .loop .i < s .args .n = omega (arith, i2 .loop-test .taken, w3 .wide2 .ensures .0) in
-    (omega (arith, h, s .pre .0, l2 .loop .inv .1, s2 .set .kept .0), omega (arith, h, s .pre .1, l2 .loop .inv .2, s2 .set .kept .1 .0), search, search, omega (arith, w, h, s .pre .4 .operands), omega (arith, w, h, s .pre .4 .bases), low-at _ _ _ _ _ _ (s .pre .4) w h)
+    (omega (arith, h, s .pre .0, l2 .loop .inv .1, l2 .loop .inv .2, s2 .set .kept), search, operand-at (s .pre .2) w h)
 
 loop-again : tie.Need-loop-again Inv-loop μ-loop
 loop-again c =
@@ -47,8 +47,14 @@ loop-again c =
     let ω : OperandTable = operandTable _ _ in
     let R : Memory = lent _ _ in
     let e : (l2 .loop .i + 1) + 1 ≡ suc (l2 .loop .i + 1) = omega arith in
-    let w : Word = wordOf R (operandAt ω _) in
-    (search needs, p2 .put-operand .kept .0 ∙ l2 .loop .inv .1, p2 .put-operand .kept .1 .0 ∙ l2 .loop .inv .2, one-written _ _ _ (λ t. components ω R (s + l2 .loop .i) t) (λ t. components ω R _ t) w _ _ (i2 .loop-test .taken) e (λ t. next-component ω R s _ t) (p2 .put-operand .ensures) (l2 .loop .inv .3))
+    let w : Word = wordOf R (operandAt ω _) in (
+      search needs,
+      p2 .put-operand .kept .0 ∙ l2 .loop .inv .1,
+      p2 .put-operand .kept .1 .0 ∙ l2 .loop .inv .2,
+      one-written _ _ _
+          (λ t. components ω R (s + l2 .loop .i) t) (λ t. components ω R _ t) w _ _ (i2 .loop-test .taken) e (λ t. next-component ω R s _ t)
+          (p2 .put-operand .ensures) (l2 .loop .inv .3),
+    )
 
 returns : tie.Need-returns Inv-loop μ-loop
 unfolding operandsAt

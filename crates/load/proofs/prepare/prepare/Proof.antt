@@ -15,7 +15,7 @@ count-items-requires c κs =
     let h = s .pre .0 in
     let y = t .put-two .last .0 in
     let e = t .put-two .ensures in
-    (omega arith, image-room (a .p) (a .image .now) (a .n) (h .0) (h .2) y e, (partSection (a .p) (a .image .now), image-sizes (a .p) (a .image .now) (a .n) (h .0) (h .2) y e (s .pre .1 .0)))
+    (omega arith, image-room (a .p) (a .image .now) (a .n) (h .0) (h .2 .rows) y e, (partSection (a .p) (a .image .now), image-sizes (a .p) (a .image .now) (a .n) (h .0) (h .2 .rows) y e (s .pre .1 .0)))
 
 find-all-requires : tie.Need-find-all-requires
 unfolding part
@@ -29,11 +29,11 @@ find-all-requires c κs =
     let e = t .put-two .ensures in
     let z = u .count-items .last .0 in
     let g = u .count-items .kept .0 in
-    let f = u .count-items .ensures (partSection (a .p) (a .image .now)) (image-sizes (a .p) (a .image .now) (a .n) (h .0) (h .2) y e (s .pre .1 .0)) in (
-      image-ordered (a .p) (a .image .now) (a .n) (h .0) (h .2) y e z g f,
-      h .3,
-      h .4,
-      image-checked (a .p) (a .image .now) (a .n) (h .0) (h .2) y e z g f (s .pre .1 .0) (s .pre .1 .1),
+    let f = u .count-items .ensures (partSection (a .p) (a .image .now)) (image-sizes (a .p) (a .image .now) (a .n) (h .0) (h .2 .rows) y e (s .pre .1 .0)) in (
+      image-ordered (a .p) (a .image .now) (a .n) (h .0) (h .2 .rows) y e z g f,
+      h .2 .uses,
+      h .2 .tops,
+      image-checked (a .p) (a .image .now) (a .n) (h .0) (h .2 .rows) y e z g f (s .pre .1 .0) (s .pre .1 .1),
     )
 
 returns : tie.Need-returns
@@ -49,11 +49,11 @@ returns c =
     let e = t .put-two .ensures in
     let z = u .count-items .last .0 in
     let g = u .count-items .kept .0 in
-    let f = u .count-items .ensures (partSection (a .p) (a .image .now)) (image-sizes (a .p) (a .image .now) (a .n) (h .0) (h .2) y e (s .pre .1 .0)) in
+    let f = u .count-items .ensures (partSection (a .p) (a .image .now)) (image-sizes (a .p) (a .image .now) (a .n) (h .0) (h .2 .rows) y e (s .pre .1 .0)) in
     let l = w .find-all .last .0 in
     let q = w .find-all .ensures in (
-      image-prepared (a .p) (a .image .now) (a .n) (h .0) (h .2) y e z g f l (q .1) (h .1) (q .0),
-      image-kept (a .p) (a .image .now) (a .n) (h .0) (h .2) y e z g f l (q .1),
+      image-prepared (a .p) (a .image .now) (a .n) (h .0) (h .2 .rows) y e z g f l (q .1) (h .1) (q .0),
+      image-kept (a .p) (a .image .now) (a .n) (h .0) (h .2 .rows) y e z g f l (q .1),
     )
 
 pub prepare-spec : {M : Type 1} → statement M

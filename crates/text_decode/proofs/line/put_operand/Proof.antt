@@ -6,20 +6,12 @@ use borrow.Author.Needs.{needs}
 use Rattle.text_decode.proofs.line.put_operand.Statement.{statement}
 use Rattle.text_decode.proofs.line.put_operand.Tie as tie
 
-slice-write-operands-2 : tie.Need-slice-write-operands-2
-slice-write-operands-2 c = simp length-set (omega arith)
-
-slice-write-operands-3 : tie.Need-slice-write-operands-3
-slice-write-operands-3 c = simp length-set (omega arith)
-
-slice-write-operands-4 : tie.Need-slice-write-operands-4
-slice-write-operands-4 c = simp length-set (omega arith)
-
 returns : tie.Need-returns
 returns c = (simp (add-one, add-two, add-three), refl)
 
 pub put-operand-spec : {M : Type 1} → statement M
 put-operand-spec =
     tie.close (tie.spec (λ c. search needs) (λ c. search needs) (λ c. search needs) (λ c. search needs) (λ c. search needs)
-    slice-write-operands-2 (λ c. search needs) (λ c. search needs) slice-write-operands-3 (λ c. search needs) (λ c. search needs)
-    slice-write-operands-4 (λ c. search needs) (λ c. search) (λ c. search needs) (λ c. search needs) returns)
+    (λ c. simp length-set (omega arith)) (λ c. search needs) (λ c. search needs) (λ c. simp length-set (omega arith)) (λ c. search needs)
+    (λ c. search needs) (λ c. simp length-set (omega arith)) (λ c. search needs) (λ c. search) (λ c. search needs) (λ c. search needs)
+    returns)

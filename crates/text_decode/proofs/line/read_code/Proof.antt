@@ -26,9 +26,6 @@ start-of-letters-arg2 x = search
 returns : tie.Need-returns
 returns c = (code-past _ _ _ _ _ (search) (line-over _ _ (search) (search)), entry-end _ _ (c .no-entry .ensures))
 
-field-end-requires : tie.Need-field-end-requires
-field-end-requires c κs = (stop-on _ _ (search) (search))
-
 read-slot-requires : tie.Need-read-slot-requires
 read-slot-requires c κs =
     let s : tie.Start = search in
@@ -78,8 +75,15 @@ returns-5 c =
     let l2 : tie.After-letters-arg2 = search in
     let f2 = field-end-of-letters-arg2 l2 in
     let n = else1-of-letters-arg2 l2 in
-    let s = start-of-letters-arg2 l2 in
-    (code-no-letters _ _ _ _ ((stop-on _ _ (s .pre .2) (n .if1 .left)) .within) _ (f2 .field-end .ensures) (r .read-slot .result) (r .read-slot .ensures .says) (not-false _ (n2 .if2 .left)) _ _ (r2 .read-parts .ensures .0) (not-false _ (n3 .if3 .left)) (n4 .if4 .left) _ _ (l .letters .ensures .0 ∙ ap (λ (f : List ℕ). countOf (letters f)) (same-field _ _ _ (stop-on _ _ (s .pre .2) (n .if1 .left)) (f2 .field-end .ensures))) (l .letters .ensures .1 ∙ ap (λ (f : List ℕ). sets (r2 .read-parts .last .1 .1 .1 .1 .0) ((s .args .p) + 9) (codesOf (letters f))) (same-field _ _ _ (stop-on _ _ (s .pre .2) (n .if1 .left)) (f2 .field-end .ensures))) _ (c .no-entry5 .ensures) (e .enum-told .given .1), entry-end _ _ (c .no-entry5 .ensures))
+    let s = start-of-letters-arg2 l2 in (
+      code-no-letters _ _ _ _ ((stop-on _ _ (s .pre .2) (n .if1 .left)) .within) _ (f2 .field-end .ensures) (r .read-slot .result)
+          (r .read-slot .ensures .says) (not-false _ (n2 .if2 .left)) _ _ (r2 .read-parts .ensures .0) (not-false _ (n3 .if3 .left))
+          (n4 .if4 .left) _ _ (l .letters .ensures .0 ∙ ap (λ (f : List ℕ). countOf (letters f)) (same-field _ _ _ (stop-on _ _ (s .pre .2)
+          (n .if1 .left)) (f2 .field-end .ensures))) (l .letters .ensures .1 ∙ ap (λ (f : List ℕ). sets (r2 .read-parts .last .1 .1 .1 .1 .0)
+          ((s .args .p) + 9) (codesOf (letters f))) (same-field _ _ _ (stop-on _ _ (s .pre .2) (n .if1 .left)) (f2 .field-end .ensures))) _
+          (c .no-entry5 .ensures) (e .enum-told .given .1),
+      entry-end _ _ (c .no-entry5 .ensures),
+    )
 
 cast-parts : tie.Need-cast-parts
 cast-parts c =
@@ -133,12 +137,21 @@ returns-6 c =
     let l2 : tie.After-letters-arg2 = search in
     let f2 = field-end-of-letters-arg2 l2 in
     let n = else1-of-letters-arg2 l2 in
-    let s = start-of-letters-arg2 l2 in
-    (code-is _ _ _ _ ((stop-on _ _ (s .pre .2) (n .if1 .left)) .within) _ (f2 .field-end .ensures) (r .read-slot .result) (r .read-slot .ensures .says) (not-false _ (n2 .if2 .left)) _ _ (r2 .read-parts .ensures .0) (not-false _ (n3 .if3 .left)) (n4 .if4 .left) _ _ (l .letters .ensures .0 ∙ ap (λ (f : List ℕ). countOf (letters f)) (same-field _ _ _ (stop-on _ _ (s .pre .2) (n .if1 .left)) (f2 .field-end .ensures))) (l .letters .ensures .1 ∙ ap (λ (f : List ℕ). sets (r2 .read-parts .last .1 .1 .1 .1 .0) ((s .args .p) + 9) (codesOf (letters f))) (same-field _ _ _ (stop-on _ _ (s .pre .2) (n .if1 .left)) (f2 .field-end .ensures))) (q2 .q .given .0 .0) (q2 .q .given .1) (omega (arith, s .pre .0, r2 .read-parts .kept .1 .1 .1 .1 .0)), λ q. (r2 .read-parts) .ensures .1 (not-false _ (n3 .if3 .left)))
+    let s = start-of-letters-arg2 l2 in (
+      code-is _ _ _ _ ((stop-on _ _ (s .pre .2) (n .if1 .left)) .within) _ (f2 .field-end .ensures) (r .read-slot .result)
+          (r .read-slot .ensures .says) (not-false _ (n2 .if2 .left)) _ _ (r2 .read-parts .ensures .0) (not-false _ (n3 .if3 .left))
+          (n4 .if4 .left) _ _ (l .letters .ensures .0 ∙ ap (λ (f : List ℕ). countOf (letters f)) (same-field _ _ _ (stop-on _ _ (s .pre .2)
+          (n .if1 .left)) (f2 .field-end .ensures))) (l .letters .ensures .1 ∙ ap (λ (f : List ℕ). sets (r2 .read-parts .last .1 .1 .1 .1 .0)
+          ((s .args .p) + 9) (codesOf (letters f))) (same-field _ _ _ (stop-on _ _ (s .pre .2) (n .if1 .left)) (f2 .field-end .ensures)))
+          (q2 .q .given .0 .0) (q2 .q .given .1) (omega (arith, s .pre .0, r2 .read-parts .kept .1 .1 .1 .1 .0)),
+      λ q.
+          (r2 .read-parts) .ensures .1 (not-false _ (n3 .if3 .left)),
+    )
 
 pub read-code-spec : {M : Type 1} → statement M
 read-code-spec =
-    tie.close (tie.spec (λ c. search needs) (λ c κs. search) returns (λ c. search needs) field-end-requires read-slot-requires
-    (λ c κs. search) returns-2 (λ c κs. search needs) (λ c κs. search) (λ c. search) returns-3 (λ c κs. search) (λ c. search) returns-4
-    (λ c. search needs) (λ c. search needs) part-letters-end (λ c. search needs) (λ c κs. search) (λ c. search) (λ c. search)
-    (λ c κs. search) (λ c. search needs) returns-5 cast-parts add-parts mul-parts slice-write-parts cast-t23 same-length-4 returns-6)
+    tie.close (tie.spec (λ c. search needs) (λ c κs. search) returns (λ c. search needs) (λ c κs. (stop-on _ _ (search) (search)))
+    read-slot-requires (λ c κs. search) returns-2 (λ c κs. search needs) (λ c κs. search) (λ c. search) returns-3 (λ c κs. search)
+    (λ c. search) returns-4 (λ c. search needs) (λ c. search needs) part-letters-end (λ c. search needs) (λ c κs. search) (λ c. search)
+    (λ c. search) (λ c κs. search) (λ c. search needs) returns-5 cast-parts add-parts mul-parts slice-write-parts cast-t23 same-length-4
+    returns-6)

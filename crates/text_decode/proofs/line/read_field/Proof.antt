@@ -11,9 +11,6 @@ use Rattle.text_decode.proofs.line.read_field.Tie as tie
 returns : tie.Need-returns
 returns c = slot-lacks _ _ _ (search) (search) _ (search) (search)
 
-plain-field-requires : tie.Need-plain-field-requires
-plain-field-requires c κs = stop-on _ _ (search) (search)
-
 returns-2 : tie.Need-returns-2
 returns-2 c =
     let p : tie.After-plain-field = search in
@@ -33,5 +30,5 @@ returns-3 c =
 
 pub read-field-spec : {M : Type 1} → statement M
 read-field-spec =
-    tie.close (tie.spec (λ c. search needs) (λ c κs. search) returns (λ c. search needs) plain-field-requires (λ c κs. search) returns-2
-    cast-t9 returns-3)
+    tie.close (tie.spec (λ c. search needs) (λ c κs. search) returns (λ c. search needs) (λ c κs. stop-on _ _ (search) (search))
+    (λ c κs. search) returns-2 cast-t9 returns-3)

@@ -55,9 +55,6 @@ returns c =
     let w = stop-on _ _ (g .loop .inv .1) (search) in
     (operands-many _ _ _ _ _ _ _ _ _ _ (g .loop .inv .0) (stop-on _ _ (search) (search) .within) (search) _, carried-by _ _ (g .loop .inv .0) (omega (arith, w .within)) (search), no-end _ _, search)
 
-operand-at-requires : tie.Need-operand-at-requires Inv-loop μ-loop
-operand-at-requires c κs = stop-on _ _ (search) (search)
-
 returns-2 : tie.Need-returns-2 Inv-loop μ-loop
 unfolding part
 returns-2 c =
@@ -108,8 +105,13 @@ loop-again c =
     let e = t .operand-at .ensures .ends (search) in
     let here = operand-here _ _ _ e _ _ _ _ (t .operand-at .ensures .read) in
     let o = ordered-as _ (s .args .image .now) (g .loop .image) (g .loop .inv .2 .size) (s .pre .0) in
-    let w = stop-here t in
-    (on-in _ _ _ _ _ _ _ _ _ _ o _ _ _ (g .loop .inv .0) (w .within) _ e _ _ (t .operand-at .kept .1 .1 .0) here _ (q .put-operand .kept .1 .1 .0) (one-more t) (s .pre .1) (search) (q .put-operand .ensures .0) _ (q .put-operand .ensures .1), stop-behind _ _ _ w e, on-outside _ _ _ _ _ _ _ _ _ _ o _ _ _ (g .loop .inv .0) (w .within) _ e _ _ (t .operand-at .kept .1 .1 .0) here (q .put-operand .last .1 .1 .0) (q .put-operand .kept .1 .1 .0) (g .loop .inv .2))
+    let w = stop-here t in (
+      on-in _ _ _ _ _ _ _ _ _ _ o _ _ _ (g .loop .inv .0) (w .within) _ e _ _ (t .operand-at .kept .1 .1 .0) here _
+          (q .put-operand .kept .1 .1 .0) (one-more t) (s .pre .1) (search) (q .put-operand .ensures .0) _ (q .put-operand .ensures .1),
+      stop-behind _ _ _ w e,
+      on-outside _ _ _ _ _ _ _ _ _ _ o _ _ _ (g .loop .inv .0) (w .within) _ e _ _ (t .operand-at .kept .1 .1 .0)
+          here (q .put-operand .last .1 .1 .0) (q .put-operand .kept .1 .1 .0) (g .loop .inv .2),
+    )
 
 returns-3 : tie.Need-returns-3 Inv-loop μ-loop
 returns-3 c =
@@ -120,7 +122,7 @@ pub read-operands-spec : {M : Type 1} → statement M
 read-operands-spec =
     tie.close (tie.spec Inv-loop μ-loop loop-holds (λ c. search needs) (λ c. let g : At-loop = search in g .loop .inv .2 .size)
     (λ c. let g : At-loop = search in g .loop .inv .0 .long-numbers) returns (λ c. search needs) (λ c. search needs) (λ c. search needs)
-    (λ c. search needs) (λ c. search needs) (λ c. search needs) (λ c. search) (λ c. search needs) (λ c. search needs) operand-at-requires
+    (λ c. search needs) (λ c. search needs) (λ c. search needs) (λ c. search) (λ c. search needs) (λ c. search needs) (λ c κs. stop-on _ _ (search) (search))
     (λ c. search needs) (λ c. search needs) returns-2 (λ c. search needs) (λ c. search needs) (λ c. search needs) (λ c. search needs)
     (λ c. search needs) put-operand-requires (λ c. search needs) add-m loop-less loop-again
     (λ c. let g : At-loop = search in g .loop .inv .2 .size) (λ c. let g : At-loop = search in g .loop .inv .0 .long-numbers) returns-3)

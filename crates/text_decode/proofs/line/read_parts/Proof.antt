@@ -27,16 +27,17 @@ returns c =
     let l : tie.At-loop Inv-loop μ-loop = search in
     (parts-many _ _ (search) _ _ _ _ _ _ (l .loop .inv .0) ((stop-on _ _ (search) (search)) .within) (search) _, no-end _ _)
 
-part-at-requires : tie.Need-part-at-requires Inv-loop μ-loop
-part-at-requires c κs = (stop-on _ _ (search) (search))
-
 returns-2 : tie.Need-returns-2 Inv-loop μ-loop
 returns-2 c =
     let p2 : tie.After-part-at Inv-loop μ-loop = search in
     let y : tie.Then1 Inv-loop μ-loop = search in
     let l : tie.At-loop Inv-loop μ-loop = search in
-    let s : tie.Start Inv-loop μ-loop = search in
-    (parts-bad _ _ (s .args .known) _ _ _ _ _ _ (l .loop .inv .0) ((stop-on _ _ (l .loop .inv .1) (y .if1 .taken)) .within) _ refl (ap (partNumber (s .args .known)) (field-here _ _ _ refl) ∙ scan-lacks _ _ (partNumber (s .args .known) _) _ (p2 .part-at .ensures) (not-true _ (c .if3 .taken))) _, no-end _ _)
+    let s : tie.Start Inv-loop μ-loop = search in (
+      parts-bad _ _ (s .args .known) _ _ _ _ _ _ (l .loop .inv .0) ((stop-on _ _ (l .loop .inv .1) (y .if1 .taken)) .within) _ refl
+          (ap (partNumber (s .args .known)) (field-here _ _ _ refl) ∙ scan-lacks _ _ (partNumber (s .args .known) _) _ (p2 .part-at .ensures)
+          (not-true _ (c .if3 .taken))) _,
+      no-end _ _,
+    )
 
 cast-parts : tie.Need-cast-parts Inv-loop μ-loop
 cast-parts c =
@@ -63,8 +64,13 @@ loop-again c =
     let l : tie.At-loop Inv-loop μ-loop = search in
     let s : tie.Start Inv-loop μ-loop = search in
     let e = p2 .part-at .ensures .ends (not-false _ (n2 .if3 .left)) in
-    let v = scan-value _ _ (partNumber (s .args .known) _) _ (p2 .part-at .ensures) (not-false _ (n2 .if3 .left)) in
-    (parts-on _ _ (s .args .known) _ _ _ _ _ _ (l .loop .inv .0) ((stop-on _ _ (l .loop .inv .1) (y .if1 .taken)) .within) _ e _ (ap (partNumber (s .args .known)) (field-here _ _ _ e) ∙ v) (let q = n3 .if2 .left in omega (arith, l .loop .inv .0 .few)) (let q = n3 .if2 .left in omega (arith, l .loop .inv .0 .few, l .loop .inv .0 .as-long)), stop-behind _ _ _ (stop-on _ _ (l .loop .inv .1) (y .if1 .taken)) e)
+    let v = scan-value _ _ (partNumber (s .args .known) _) _ (p2 .part-at .ensures) (not-false _ (n2 .if3 .left)) in (
+      parts-on _ _ (s .args .known) _ _ _ _ _ _ (l .loop .inv .0) ((stop-on _ _ (l .loop .inv .1) (y .if1 .taken)) .within) _ e _
+          (ap (partNumber (s .args .known)) (field-here _ _ _ e) ∙ v) (let q = n3 .if2 .left in omega (arith, l .loop .inv .0 .few))
+          (let q = n3 .if2 .left in omega (arith, l .loop .inv .0 .few, l .loop .inv .0 .as-long)),
+      stop-behind _ _ _
+          (stop-on _ _ (l .loop .inv .1) (y .if1 .taken)) e,
+    )
 
 returns-3 : tie.Need-returns-3 Inv-loop μ-loop
 returns-3 c =
@@ -73,6 +79,6 @@ returns-3 c =
 
 pub read-parts-spec : {M : Type 1} → statement M
 read-parts-spec =
-    tie.close (tie.spec Inv-loop μ-loop loop-holds (λ c. search needs) (λ c. search) returns (λ c. search needs) part-at-requires
-    (λ c. search) returns-2 (λ c. search needs) (λ c. search needs) cast-parts (λ c. search needs) (λ c. search needs) (λ c. search needs)
-    loop-less loop-again (λ c. search) returns-3)
+    tie.close (tie.spec Inv-loop μ-loop loop-holds (λ c. search needs) (λ c. search) returns (λ c. search needs)
+    (λ c κs. (stop-on _ _ (search) (search))) (λ c. search) returns-2 (λ c. search needs) (λ c. search needs) cast-parts
+    (λ c. search needs) (λ c. search needs) (λ c. search needs) loop-less loop-again (λ c. search) returns-3)

@@ -32,8 +32,16 @@ returns c =
     let f : tie.After-form-at = search in
     let x : tie.After-read-slots = search in
     let n : tie.After-no-entry = search in
-    let a = s .args in
-    (plain-no-slots (a .code) (lineIn (a .rest .now)) (a .at + 1) (a .v) (a .a) (s .pre .1) (s .pre .2) (s .pre .3) (operandsIn (a .p) (a .image .now) (a .numbers .now)) (x .read-slots .result) (x .read-slots .ensures .says ∙ form-slots (a .code) (f .form-at .result) (fieldsFrom (lineIn (a .rest .now)) (a .at + 1)) (f .form-at .ensures)) (n .no-entry .result) (n .no-entry .ensures) (not-true (x .read-slots .result .ok) (search)), entry-carried (a .rest .now) (n .no-entry .result) (n .no-entry .ensures), entry-end (a .rest .now) (n .no-entry .result) (n .no-entry .ensures), nothing (a .p .operands) (a .p .uses) (a .image .now))
+    let a = s .args in (
+      plain-no-slots (a .code) (lineIn (a .rest .now)) (a .at + 1) (a .v) (a .a) (s .pre .1) (operandsIn (a .p) (a .image .now)
+          (a .numbers .now)) (x .read-slots .result) (x .read-slots .ensures .says ∙ form-slots (a .code) (f .form-at .result)
+          (fieldsFrom (lineIn (a .rest .now)) (a .at + 1)) (f .form-at .ensures)) (n .no-entry .result) (n .no-entry .ensures)
+          (not-true (x .read-slots .result .ok) (search)),
+      entry-carried (a .rest .now) (n .no-entry .result) (n .no-entry .ensures),
+      entry-end
+          (a .rest .now) (n .no-entry .result) (n .no-entry .ensures),
+      nothing (a .p .operands) (a .p .uses) (a .image .now),
+    )
 
 read-operands-requires : tie.Need-read-operands-requires
 read-operands-requires c κs =
@@ -42,7 +50,7 @@ read-operands-requires c κs =
     let x : tie.After-read-slots = search in
     let m = most-few (s .args .code) in
     let w = form-most (s .args .code) (f .form-at .result) (f .form-at .ensures) in
-    let r = s .pre .4 in
+    let r = s .pre .2 in
     (s .pre .0, record { kinds = omega (arith, r .kinds); bases = omega (arith, r .bases); rows = omega (arith, r .rows); small = omega (arith, r .small) }, omega arith, x .read-slots .ensures .stop)
 
 returns-2 : tie.Need-returns-2
@@ -50,8 +58,13 @@ returns-2 c =
     let o : tie.After-read-operands = search in
     let n : tie.After-no-entry2 = search in
     let f = form-of o in
-    let x = slots-of o in
-    (plain-no-operands _ _ _ _ _ (search) (search) (search) _ _ (x .read-slots .ensures .says ∙ form-slots _ _ _ (f .form-at .ensures)) (slots-ok o) _ (form-most _ _ (f .form-at .ensures)) _ _ (o .read-operands .ensures .0) _ (search) (not-true _ (search)), entry-carried _ _ (n .no-entry2 .ensures), entry-end _ _ (n .no-entry2 .ensures), search)
+    let x = slots-of o in (
+      plain-no-operands _ _ _ _ _ (start-of o .pre .1) _ _ (x .read-slots .ensures .says ∙ form-slots _ _ _ (f .form-at .ensures))
+          (slots-ok o) _ (form-most _ _ (f .form-at .ensures)) _ _ (o .read-operands .ensures .0) _ (search) (not-true _ (search)),
+      entry-carried _ _ (n .no-entry2 .ensures),
+      entry-end _ _ (n .no-entry2 .ensures),
+      search,
+    )
 
 returns-3 : tie.Need-returns-3
 returns-3 c =
@@ -62,8 +75,18 @@ returns-3 c =
     let s = start-of o in
     let f = form-of o in
     let x = slots-of o in
-    let a = s .args in
-    (plain-too-few (a .code) (lineIn (a .rest .now)) (a .at + 1) (a .v) (a .a) (s .pre .1) (s .pre .2) (s .pre .3) (operandsIn (a .p) (a .image .now) (a .numbers .now)) (x .read-slots .result) (x .read-slots .ensures .says ∙ form-slots (a .code) (f .form-at .result) (fieldsFrom (lineIn (a .rest .now)) (a .at + 1)) (f .form-at .ensures)) (slots-ok o) (f .form-at .result .most) (form-most (a .code) (f .form-at .result) (f .form-at .ensures)) (operandsIn (a .p) (o .read-operands .last .1 .1 .1 .0) (o .read-operands .last .1 .1 .1 .1 .1 .0)) (o .read-operands .result) (o .read-operands .ensures .0) ok (n .no-entry3 .result) (n .no-entry3 .ensures) (w .fewest .result) (w .fewest .ensures) (search), entry-carried (a .rest .now) (n .no-entry3 .result) (n .no-entry3 .ensures), entry-end (a .rest .now) (n .no-entry3 .result) (n .no-entry3 .ensures), o .read-operands .ensures .3)
+    let a = s .args in (
+      plain-too-few (a .code) (lineIn (a .rest .now)) (a .at + 1) (a .v) (a .a) (s .pre .1) (operandsIn (a .p) (a .image .now)
+          (a .numbers .now)) (x .read-slots .result) (x .read-slots .ensures .says ∙ form-slots (a .code) (f .form-at .result)
+          (fieldsFrom (lineIn (a .rest .now)) (a .at + 1)) (f .form-at .ensures)) (slots-ok o) (f .form-at .result .most) (form-most (a .code)
+          (f .form-at .result) (f .form-at .ensures)) (operandsIn (a .p) (o .read-operands .last .1 .1 .1 .0)
+          (o .read-operands .last .1 .1 .1 .1 .1 .0)) (o .read-operands .result) (o .read-operands .ensures .0) ok (n .no-entry3 .result)
+          (n .no-entry3 .ensures) (w .fewest .result) (w .fewest .ensures) (search),
+      entry-carried (a .rest .now) (n .no-entry3 .result)
+          (n .no-entry3 .ensures),
+      entry-end (a .rest .now) (n .no-entry3 .result) (n .no-entry3 .ensures),
+      o .read-operands .ensures .3,
+    )
 
 returns-4 : tie.Need-returns-4
 returns-4 c =
@@ -73,8 +96,17 @@ returns-4 c =
     let s = start-of o in
     let f = form-of o in
     let x = slots-of o in
-    let a = s .args in
-    (plain-is (a .code) (lineIn (a .rest .now)) (a .at + 1) (a .v) (a .a) (s .pre .1) (s .pre .2) (s .pre .3) (operandsIn (a .p) (a .image .now) (a .numbers .now)) (x .read-slots .result) (x .read-slots .ensures .says ∙ form-slots (a .code) (f .form-at .result) (fieldsFrom (lineIn (a .rest .now)) (a .at + 1)) (f .form-at .ensures)) (slots-ok o) (f .form-at .result .most) (form-most (a .code) (f .form-at .result) (f .form-at .ensures)) (operandsIn (a .p) (o .read-operands .last .1 .1 .1 .0) (o .read-operands .last .1 .1 .1 .1 .1 .0)) (o .read-operands .result) (o .read-operands .ensures .0) ok (w .fewest .result) (w .fewest .ensures) (search), o .read-operands .ensures .1, λ q. o .read-operands .ensures .2 ok, o .read-operands .ensures .3)
+    let a = s .args in (
+      plain-is (a .code) (lineIn (a .rest .now)) (a .at + 1) (a .v) (a .a) (s .pre .1) (operandsIn (a .p) (a .image .now)
+          (a .numbers .now)) (x .read-slots .result) (x .read-slots .ensures .says ∙ form-slots (a .code) (f .form-at .result)
+          (fieldsFrom (lineIn (a .rest .now)) (a .at + 1)) (f .form-at .ensures)) (slots-ok o) (f .form-at .result .most) (form-most (a .code)
+          (f .form-at .result) (f .form-at .ensures)) (operandsIn (a .p) (o .read-operands .last .1 .1 .1 .0)
+          (o .read-operands .last .1 .1 .1 .1 .1 .0)) (o .read-operands .result) (o .read-operands .ensures .0) ok (w .fewest .result)
+          (w .fewest .ensures) (search),
+      o .read-operands .ensures .1,
+      λ q. o .read-operands .ensures .2 ok,
+      o .read-operands .ensures .3,
+    )
 
 pub read-plain-spec : {M : Type 1} → statement M
 read-plain-spec =

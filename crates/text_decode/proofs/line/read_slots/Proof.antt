@@ -33,7 +33,13 @@ returns-2 c =
     let x = first-of z in
     let y = second-of z in
     let t = both-of z in
-    record { says = slots-are _ _ _ _ _ _ _ (x .read-slot .result) (y .read-slot2 .result) (z .read-slot3 .result) (w .read-slot4 .result) _ _ _ refl (x .read-slot .ensures .says) (y .read-slot2 .ensures .says) (z .read-slot3 .ensures .says) (w .read-slot4 .ensures .says) (t .both .ensures) (u .both2 .ensures) (v .both3 .ensures); stop = w .read-slot4 .ensures .stop }
+    record {
+      says =
+          slots-are _ _ _ _ _ _ _ (x .read-slot .result) (y .read-slot2 .result) (z .read-slot3 .result) (w .read-slot4 .result) _ _ _ refl
+          (x .read-slot .ensures .says) (y .read-slot2 .ensures .says) (z .read-slot3 .ensures .says) (w .read-slot4 .ensures .says)
+          (t .both .ensures) (u .both2 .ensures) (v .both3 .ensures);
+      stop = w .read-slot4 .ensures .stop;
+    }
 
 pub read-slots-spec : {M : Type 1} → statement M
 read-slots-spec =

@@ -22,28 +22,10 @@ returns c =
     let s : tie.Start = search in
     by-plenty _ _ _ (s .pre .2 (search)) (search)
 
-returns-2 : tie.Need-returns-2
-returns-2 c = few-rows _ _ _ (search)
-
-returns-3 : tie.Need-returns-3
-returns-3 c = few-parts _ _ _ (search)
-
-returns-4 : tie.Need-returns-4
-returns-4 c = few-operands _ _ _ (search)
-
-returns-5 : tie.Need-returns-5
-returns-5 c = few-numbers _ _ _ (search)
-
-returns-6 : tie.Need-returns-6
-returns-6 c = few-args _ _ _ (search)
-
 sub-if7 : tie.Need-sub-if7
 sub-if7 c =
     let e : tie.Else5 = search in
     omega (arith, start-of e .pre .0 .1)
-
-returns-7 : tie.Need-returns-7
-returns-7 c = few-instrs _ _ _ (search)
 
 sub-result : tie.Need-sub-result
 sub-result c =
@@ -58,11 +40,11 @@ returns-8 c =
 
 pub has-room-spec : {M : Type 1} → statement M
 has-room-spec =
-    tie.close (tie.spec returns (λ c. search needs) (λ c. search needs) (λ c. search needs) returns-2 (λ c. search needs)
-    (λ c. search needs) (λ c. search needs) returns-3 (λ c. search needs) (λ c. search needs) (λ c. search needs) returns-4
-    (λ c. search needs) returns-5 (λ c. let e : tie.Else5 = search in omega (arith, start-of e .pre .0 .1))
-    (λ c. let e : tie.Else5 = search in omega (arith, start-of e .pre .1)) returns-6 sub-if7
+    tie.close (tie.spec returns (λ c. search needs) (λ c. search needs) (λ c. search needs) (λ c. few-rows _ _ _ (search)) (λ c. search needs)
+    (λ c. search needs) (λ c. search needs) (λ c. few-parts _ _ _ (search)) (λ c. search needs) (λ c. search needs) (λ c. search needs) (λ c. few-operands _ _ _ (search))
+    (λ c. search needs) (λ c. few-numbers _ _ _ (search)) (λ c. let e : tie.Else5 = search in omega (arith, start-of e .pre .0 .1))
+    (λ c. let e : tie.Else5 = search in omega (arith, start-of e .pre .1)) (λ c. few-args _ _ _ (search)) sub-if7
     (λ c. let e : tie.Else5 = search in omega (arith, start-of e .pre .1))
-    (λ c. let e : tie.Else5 = search in omega (arith, start-of e .pre .1)) returns-7
+    (λ c. let e : tie.Else5 = search in omega (arith, start-of e .pre .1)) (λ c. few-instrs _ _ _ (search))
     (λ c. let e : tie.Else5 = search in omega (arith, start-of e .pre .1))
     (λ c. let e : tie.Else5 = search in omega (arith, start-of e .pre .1)) sub-result returns-8)

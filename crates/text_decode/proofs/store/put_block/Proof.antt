@@ -5,13 +5,7 @@ use borrow.Author.Needs.{needs}
 use Rattle.text_decode.proofs.store.put_block.Statement.{statement}
 use Rattle.text_decode.proofs.store.put_block.Tie as tie
 
-slice-write-blocks-2 : tie.Need-slice-write-blocks-2
-slice-write-blocks-2 c = simp length-set (omega arith)
-
-returns : tie.Need-returns
-returns c = simp add-one
-
 pub put-block-spec : {M : Type 1} → statement M
 put-block-spec =
     tie.close (tie.spec (λ c. search needs) (λ c. search needs) (λ c. search needs) (λ c. search needs) (λ c. search needs)
-    slice-write-blocks-2 (λ c. search needs) returns)
+    (λ c. simp length-set (omega arith)) (λ c. search needs) (λ c. simp add-one))

@@ -14,7 +14,7 @@ unfolding part
 returns c =
     let s : tie.Start = search in
     let t : tie.After-put-row = search in
-    row-in _ _ (s .pre .0) _ _ _ _ (search) (t .put-row .kept .0) (t .put-row .ensures)
+    row-in _ _ (s .pre .0 .ordered) _ _ _ _ (search) (t .put-row .kept .0) (t .put-row .ensures)
 
 put-block-requires : tie.Need-put-block-requires
 unfolding part
@@ -25,7 +25,7 @@ unfolding part
 returns-2 c =
     let s : tie.Start = search in
     let t : tie.After-put-block = search in
-    block-in _ _ (s .pre .0) _ _ _ _ (search) (t .put-block .kept .0) (t .put-block .ensures)
+    block-in _ _ (s .pre .0 .ordered) _ _ _ _ (search) (t .put-block .kept .0) (t .put-block .ensures)
 
 put-instr-requires : tie.Need-put-instr-requires
 unfolding part
@@ -36,14 +36,14 @@ unfolding part
 returns-3 c =
     let s : tie.Start = search in
     let t : tie.After-put-instr = search in
-    inside-in _ _ (s .pre .0) _ _ _ _ (search) (search) (t .put-instr .kept .0) (t .put-instr .ensures) (search)
+    inside-in _ _ (s .pre .0 .ordered) _ _ _ _ (search) (search) (t .put-instr .kept .0) (t .put-instr .ensures) (search)
 
 returns-4 : tie.Need-returns-4
 unfolding part
 returns-4 c =
     let s : tie.Start = search in
     let t : tie.After-put-instr = search in
-    last-in _ _ (s .pre .0) _ _ _ _ (search) (search) (t .put-instr .kept .0) (t .put-instr .ensures) (search)
+    last-in _ _ (s .pre .0 .ordered) _ _ _ _ (search) (search) (t .put-instr .kept .0) (t .put-instr .ensures) (search)
 
 pub put-line-spec : {M : Type 1} → statement M
 put-line-spec =

@@ -5,16 +5,8 @@ use borrow.Author.Needs.{needs}
 use Rattle.text_decode.proofs.store.put_row.Statement.{statement}
 use Rattle.text_decode.proofs.store.put_row.Tie as tie
 
-slice-write-rows-2 : tie.Need-slice-write-rows-2
-slice-write-rows-2 c = simp length-set (omega arith)
-
-slice-write-rows-3 : tie.Need-slice-write-rows-3
-slice-write-rows-3 c = simp length-set (omega arith)
-
-returns : tie.Need-returns
-returns c = simp (add-one, add-two)
-
 pub put-row-spec : {M : Type 1} → statement M
 put-row-spec =
     tie.close (tie.spec (λ c. search needs) (λ c. search needs) (λ c. search needs) (λ c. search needs) (λ c. search needs)
-    slice-write-rows-2 (λ c. search needs) (λ c. search needs) slice-write-rows-3 (λ c. search needs) returns)
+    (λ c. simp length-set (omega arith)) (λ c. search needs) (λ c. search needs) (λ c. simp length-set (omega arith)) (λ c. search needs)
+    (λ c. simp (add-one, add-two)))

@@ -56,7 +56,7 @@ returns c =
     (q .0, q .1, nothing _ _ _)
 
 read-rest-requires : tie.Need-read-rest-requires
-read-rest-requires c κs = (search, search, stop-behind _ 0 _ (search) (search), search, search, search)
+read-rest-requires c κs = (search, search, stop-behind _ 0 _ (search) (search), search)
 
 returns-2 : tie.Need-returns-2
 returns-2 c =
@@ -67,7 +67,11 @@ returns-2 c =
     let s = start-of n in
     let a = s .args in
     let w = r .read-rest .last in
-    let q = no-line-is (a .text .now) (lineIn (a .text .now)) (a .u) (storeIn (a .p) (a .image .now) (a .numbers .now)) (storeIn (a .p) (w .1 .1 .1 .0) (w .1 .1 .1 .1 .1 .0)) (o .no-line2 .result) (o .no-line2 .ensures) (bad-in (lineIn (a .text .now)) (a .u) (a .p) (a .image .now) (a .numbers .now) (s .pre .0) (n .name-code .result) (fieldsFrom (lineIn (a .text .now)) (end-of n .field-end .result + 1)) (fields-are n) (w .1 .1 .1 .0) (w .1 .1 .1 .1 .1 .0) (r .read-rest .ensures .3) (r .read-rest .result) (r .read-rest .ensures .0) f) in
+    let q = no-line-is (a .text .now) (lineIn (a .text .now)) (a .u) (storeIn (a .p) (a .image .now) (a .numbers .now))
+    (storeIn (a .p) (w .1 .1 .1 .0) (w .1 .1 .1 .1 .1 .0)) (o .no-line2 .result) (o .no-line2 .ensures) (bad-in (lineIn (a .text .now))
+    (a .u) (a .p) (a .image .now) (a .numbers .now) (s .pre .0) (n .name-code .result) (fieldsFrom (lineIn (a .text .now))
+    (end-of n .field-end .result + 1)) (fields-are n) (w .1 .1 .1 .0) (w .1 .1 .1 .1 .1 .0) (r .read-rest .ensures .3)
+    (r .read-rest .result) (r .read-rest .ensures .0) f) in
     (q .0, q .1, fields-outside (a .p) (a .image .now) (w .1 .1 .1 .0) (s .pre .0) (r .read-rest .ensures .3))
 
 put-line-requires : tie.Need-put-line-requires
@@ -78,7 +82,7 @@ put-line-requires c κs =
     let l = r .read-rest .last .1 .1 .1 .0 in
     let o = s .pre .0 in
     let w = r .read-rest .ensures .3 in
-    (ordered-as _ (s .args .image .now) l (w .size) o, code-of r, rw (ap length (rows-kept _ _ _ o w)) (search), rw (ap length (instrs-kept _ _ _ o w)) (search), rw (ap length (blocks-kept _ _ _ o w)) (search), search)
+    (record { ordered = ordered-as _ (s .args .image .now) l (w .size) o; rows = rw (ap length (rows-kept _ _ _ o w)) (search); instrs = rw (ap length (instrs-kept _ _ _ o w)) (search); blocks = rw (ap length (blocks-kept _ _ _ o w)) (search) }, code-of r, search)
 
 add-t11 : tie.Need-add-t11
 add-t11 c =
@@ -99,8 +103,17 @@ returns-3 c =
     let a = s .args in
     let w = r .read-rest .last in
     let l₂ = t .put-line .last .1 .1 .0 in
-    let o₁ = ordered-as (a .p) (a .image .now) (w .1 .1 .1 .0) (r .read-rest .ensures .3 .size) (s .pre .0) in
-    (good-in (lineIn (a .text .now)) (a .u) (a .p) (a .image .now) (a .numbers .now) (s .pre .0) (n .name-code .result) (fieldsFrom (lineIn (a .text .now)) (end-of n .field-end .result + 1)) (fields-are n) (w .1 .1 .1 .0) (w .1 .1 .1 .1 .1 .0) (r .read-rest .ensures .3) (r .read-rest .result) (r .read-rest .ensures .0) o₁ l₂ (t .put-line .ensures .1) (t .put-line .result) ok (r .read-rest .ensures .1 .0) (s .pre .1) (code-of r) (t .put-line .ensures .0), λ h. r .read-rest .ensures .2 ok, good-outside (lineIn (a .text .now)) (a .u) (a .p) (a .image .now) (a .numbers .now) (s .pre .0) (n .name-code .result) (fieldsFrom (lineIn (a .text .now)) (end-of n .field-end .result + 1)) (fields-are n) (w .1 .1 .1 .0) (w .1 .1 .1 .1 .1 .0) (r .read-rest .ensures .3) (r .read-rest .result) (r .read-rest .ensures .0) o₁ l₂ (t .put-line .ensures .1) (t .put-line .result))
+    let o₁ = ordered-as (a .p) (a .image .now) (w .1 .1 .1 .0) (r .read-rest .ensures .3 .size) (s .pre .0) in (
+      good-in (lineIn (a .text .now)) (a .u) (a .p) (a .image .now) (a .numbers .now) (s .pre .0) (n .name-code .result)
+          (fieldsFrom (lineIn (a .text .now)) (end-of n .field-end .result + 1)) (fields-are n) (w .1 .1 .1 .0) (w .1 .1 .1 .1 .1 .0)
+          (r .read-rest .ensures .3) (r .read-rest .result) (r .read-rest .ensures .0) o₁ l₂ (t .put-line .ensures .1) (t .put-line .result) ok
+          (r .read-rest .ensures .1 .0) (s .pre .1) (code-of r) (t .put-line .ensures .0),
+      λ h. r .read-rest .ensures .2 ok,
+      good-outside
+          (lineIn (a .text .now)) (a .u) (a .p) (a .image .now) (a .numbers .now) (s .pre .0) (n .name-code .result)
+          (fieldsFrom (lineIn (a .text .now)) (end-of n .field-end .result + 1)) (fields-are n) (w .1 .1 .1 .0) (w .1 .1 .1 .1 .1 .0)
+          (r .read-rest .ensures .3) (r .read-rest .result) (r .read-rest .ensures .0) o₁ l₂ (t .put-line .ensures .1) (t .put-line .result),
+    )
 
 pub read-line-spec : {M : Type 1} → statement M
 read-line-spec =

@@ -1,4 +1,3 @@
-use native.Mathlib.Omega.{arith}
 use Rattle.text_decode.proofs.store.PutLaws.{form-as, rest-stop, rest-fields, rest-end, rest-carried}
 use borrow.Author.Needs.{needs}
 use Rattle.text_decode.proofs.store.read_rest.Statement.{statement}
@@ -7,7 +6,7 @@ use Rattle.text_decode.proofs.store.read_rest.Tie as tie
 read-form-requires : tie.Need-read-form-requires
 read-form-requires c κs =
     let s : tie.Start = search in
-    (search, search, omega arith, search, search, rest-stop _ _ (s .pre .2))
+    (search, search, search, rest-stop _ _ (s .pre .2))
 
 returns : tie.Need-returns
 returns c =

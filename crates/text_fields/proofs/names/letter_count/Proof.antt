@@ -6,12 +6,6 @@ use borrow.Author.Needs.{needs}
 use Rattle.text_fields.proofs.names.letter_count.Statement.{statement}
 use Rattle.text_fields.proofs.names.letter_count.Tie as tie
 
-returns : tie.Need-returns
-returns c = word-empty _ (search)
-
-returns-2 : tie.Need-returns-2
-returns-2 c = word-long _ (search)
-
 returns-3 : tie.Need-returns-3
 returns-3 c =
     let a : tie.After-all-letters = search in
@@ -23,4 +17,5 @@ returns-4 c =
     word-bad _ (sym (a .all-letters .ensures) ∙ c .if3 .left)
 
 pub letter-count-spec : {M : Type 1} → statement M
-letter-count-spec = tie.close (tie.spec returns returns-2 (λ c κs. search) (λ c. search needs) returns-3 returns-4)
+letter-count-spec =
+    tie.close (tie.spec (λ c. word-empty _ (search)) (λ c. word-long _ (search)) (λ c κs. search) (λ c. search needs) returns-3 returns-4)

@@ -5,9 +5,6 @@ use Rattle.text_fields.proofs.names.Names.{Small, code-row, code-instr,
 use Rattle.text_fields.proofs.names.name_code.Statement.{statement}
 use Rattle.text_fields.proofs.names.name_code.Tie as tie
 
-returns : tie.Need-returns
-returns c = code-too-long _ (search)
-
 returns-2 : tie.Need-returns-2
 returns-2 c =
     let p : tie.After-pack = search in
@@ -33,4 +30,5 @@ returns-3 c =
     code-instr _ s _ _ (p .pack .ensures) (r .row-name .ensures) (search) _ (search)
 
 pub name-code-spec : {M : Type 1} → statement M
-name-code-spec = tie.close (tie.spec returns (λ c κs. search) (λ c κs. search) returns-2 (λ c κs. search) add-result returns-3)
+name-code-spec =
+    tie.close (tie.spec (λ c. code-too-long _ (search)) (λ c κs. search) (λ c κs. search) returns-2 (λ c κs. search) add-result returns-3)

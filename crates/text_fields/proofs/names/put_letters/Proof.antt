@@ -36,8 +36,14 @@ loop-again c =
     let l2 : tie.At-loop Inv-loop μ-loop = search in
     let s : tie.Start Inv-loop μ-loop = search in
     let f = s .args .f .now in
-    let h : 0 < l2 .loop .i = i2 .loop-test .taken in
-    (search needs, simp length-set (search), ap (λ (v : ℕ). sets (set (l2 .loop .out) (l2 .loop .to) v) (l2 .loop .to + 1) (map letterCode (reverse (take (l2 .loop .i - 1) f)))) (c .letter .ensures) ∙ sets-one (l2 .loop .out) (l2 .loop .to) (letterCode (getD f (l2 .loop .i - 1) 0)) (map letterCode (reverse (take (l2 .loop .i - 1) f))) ∙ ap (sets _ _) (sym (codes-one _ _ h (search))) ∙ l2 .loop .inv .2)
+    let h : 0 < l2 .loop .i = i2 .loop-test .taken in (
+      search needs,
+      simp length-set (search),
+      ap (λ (v : ℕ). sets (set (l2 .loop .out) (l2 .loop .to) v) (l2 .loop .to + 1)
+          (map letterCode (reverse (take (l2 .loop .i - 1) f)))) (c .letter .ensures) ∙ sets-one (l2 .loop .out) (l2 .loop .to)
+          (letterCode (getD f (l2 .loop .i - 1) 0)) (map letterCode (reverse (take (l2 .loop .i - 1) f))) ∙ ap (sets _ _)
+          (sym (codes-one _ _ h (search))) ∙ l2 .loop .inv .2,
+    )
 
 returns-2 : tie.Need-returns-2 Inv-loop μ-loop
 returns-2 c =

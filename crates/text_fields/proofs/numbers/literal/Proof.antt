@@ -12,9 +12,6 @@ use Rattle.text_fields.proofs.numbers.Laws.{literal-none, literal-minus
 use Rattle.text_fields.proofs.numbers.literal.Statement.{statement}
 use Rattle.text_fields.proofs.numbers.literal.Tie as tie
 
-returns : tie.Need-returns
-returns c = literal-none _ (search)
-
 returns-2 : tie.Need-returns-2
 returns-2 c =
     let n : tie.After-number-in = search in
@@ -27,5 +24,5 @@ returns-3 c = c .number-in2 .ensures ∙ literal-plus _ (search) (search)
 
 pub literal-spec : {M : Type 1} → statement M
 literal-spec =
-    tie.close (tie.spec returns (λ c. search needs) (λ c. search needs) (λ c. search needs) (λ c. search needs) (λ c κs. search)
-    (λ c κs. search) returns-2 (λ c κs. search) returns-3)
+    tie.close (tie.spec (λ c. literal-none _ (search)) (λ c. search needs) (λ c. search needs) (λ c. search needs) (λ c. search needs)
+    (λ c κs. search) (λ c κs. search) returns-2 (λ c κs. search) returns-3)

@@ -9,9 +9,6 @@ use Rattle.text_fields.proofs.numbers.Laws.{number-none, number-led, nu
 use Rattle.text_fields.proofs.numbers.number_in.Statement.{statement}
 use Rattle.text_fields.proofs.numbers.number_in.Tie as tie
 
-returns : tie.Need-returns
-returns c = number-none _ _ _ (search)
-
 returns-2 : tie.Need-returns-2
 returns-2 c =
     let z : tie.After-zero-led = search in
@@ -26,4 +23,5 @@ returns-3 c =
     c .at-least .ensures ∙ ap (λ (o : Option ℕ). bind o (λ v. when (leb (s2 .args .low) v) v)) (d .digits .ensures) ∙ number-is _ _ _ (search) (sym (z .zero-led .ensures) ∙ n2 .if2 .left)
 
 pub number-in-spec : {M : Type 1} → statement M
-number-in-spec = tie.close (tie.spec returns (λ c κs. search) returns-2 (λ c κs. search) (λ c κs. search) returns-3)
+number-in-spec =
+    tie.close (tie.spec (λ c. number-none _ _ _ (search)) (λ c κs. search) returns-2 (λ c κs. search) (λ c κs. search) returns-3)

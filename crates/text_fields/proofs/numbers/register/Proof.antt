@@ -10,9 +10,6 @@ use Rattle.text_fields.proofs.numbers.Laws.{register-none, register-is,
 use Rattle.text_fields.proofs.numbers.register.Statement.{statement}
 use Rattle.text_fields.proofs.numbers.register.Tie as tie
 
-returns : tie.Need-returns
-returns c = register-none _ (search)
-
 returns-2 : tie.Need-returns-2
 returns-2 c =
     let n : tie.After-number-in = search in
@@ -20,10 +17,7 @@ returns-2 c =
     let s = s2 .args .s .now in
     c .less-one .ensures ∙ ap (λ (o : Option ℕ). bind o (λ v. some (v - 1))) (n .number-in .ensures ∙ ap (number 1 8) (part-from s 1)) ∙ register-is _ (search) (search)
 
-returns-3 : tie.Need-returns-3
-returns-3 c = register-other _ (search) (search)
-
 pub register-spec : {M : Type 1} → statement M
 register-spec =
-    tie.close (tie.spec returns (λ c. search needs) (λ c. search needs) (λ c. search needs) (λ c. search needs) (λ c κs. search)
-    (λ c κs. search) returns-2 returns-3)
+    tie.close (tie.spec (λ c. register-none _ (search)) (λ c. search needs) (λ c. search needs) (λ c. search needs) (λ c. search needs)
+    (λ c κs. search) (λ c κs. search) returns-2 (λ c. register-other _ (search) (search)))

@@ -11,9 +11,6 @@ returns c =
     let s2 : tie.Start = search in
     scan-none _ _ _ _ (search) (register-lacks _ _ (s2 .pre) (search))
 
-number-at-requires : tie.Need-number-at-requires
-number-at-requires c κs = behind-r _ _ (search) (search)
-
 returns-2 : tie.Need-returns-2
 returns-2 c =
     let n2 : tie.After-number-at = search in
@@ -34,5 +31,5 @@ returns-3 c =
 
 pub register-at-spec : {M : Type 1} → statement M
 register-at-spec =
-    tie.close (tie.spec (λ c. search needs) (λ c κs. search) returns (λ c. search needs) number-at-requires (λ c κs. search) returns-2
-    sub-t8 returns-3)
+    tie.close (tie.spec (λ c. search needs) (λ c κs. search) returns (λ c. search needs) (λ c κs. behind-r _ _ (search) (search))
+    (λ c κs. search) returns-2 sub-t8 returns-3)

@@ -3,8 +3,5 @@ use borrow.Author.Needs.{needs}
 use Rattle.text_fields.proofs.plain_operands.low_of.Statement.{statement}
 use Rattle.text_fields.proofs.plain_operands.low_of.Tie as tie
 
-returns : tie.Need-returns
-returns c = low-sum _ _ _ (search) (search)
-
 pub low-of-spec : {M : Type 1} → statement M
-low-of-spec = tie.close (tie.spec (λ c κs. search) (λ c κs. search) (λ c. search needs) returns)
+low-of-spec = tie.close (tie.spec (λ c κs. search) (λ c κs. search) (λ c. search needs) (λ c. low-sum _ _ _ (search) (search)))

@@ -16,12 +16,6 @@ add-k c =
 number-at-requires : tie.Need-number-at-requires
 number-at-requires c κs = place-as _ _ _ 0 0 (search) (search)
 
-returns : tie.Need-returns
-returns c = plain-none _ _ _ _ (search)
-
-returns-2 : tie.Need-returns-2
-returns-2 c = plain-none _ _ _ _ (search)
-
 value-of-requires : tie.Need-value-of-requires
 value-of-requires c κs =
     let n : tie.After-number-at = search in
@@ -45,4 +39,5 @@ returns-3 c =
 pub plain-at-spec : {M : Type 1} → statement M
 plain-at-spec =
     tie.close (tie.spec (λ c. search needs) (λ c κs. search) add-k (λ c κs. search) (λ c κs. search) number-at-requires (λ c κs. search)
-    returns (λ c κs. search) (λ c κs. search) returns-2 (λ c κs. search) value-of-requires returns-3)
+    (λ c. plain-none _ _ _ _ (search)) (λ c κs. search) (λ c κs. search) (λ c. plain-none _ _ _ _ (search)) (λ c κs. search)
+    value-of-requires returns-3)

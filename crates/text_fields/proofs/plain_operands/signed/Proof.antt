@@ -13,8 +13,5 @@ sub-result c =
 returns : tie.Need-returns
 returns c = signed-minus _ _ (c .if1 .taken) (search)
 
-returns-2 : tie.Need-returns-2
-returns-2 c = signed-plus _ _ (c .if1 .left)
-
 pub signed-spec : {M : Type 1} → statement M
-signed-spec = tie.close (tie.spec sub-result (λ c. search needs) returns returns-2)
+signed-spec = tie.close (tie.spec sub-result (λ c. search needs) returns (λ c. signed-plus _ _ (c .if1 .left)))

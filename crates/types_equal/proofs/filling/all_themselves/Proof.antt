@@ -14,9 +14,6 @@ Inv-loop rows parts p args j₀ j = (j ≤ length args) × Themselves rows parts
 abbrev μ-loop : tie.MeasureT-loop
 μ-loop rows parts p args j₀ j = length args - j
 
-returns : tie.Need-returns Inv-loop μ-loop
-returns c = none-true
-
 loop-again : tie.Need-loop-again Inv-loop μ-loop
 loop-again c =
     let i : tie.After-is-itself Inv-loop μ-loop = search in
@@ -33,5 +30,5 @@ returns-2 c =
 
 pub all-themselves-spec : {M : Type 1} → statement M
 all-themselves-spec =
-    tie.close (tie.spec Inv-loop μ-loop (λ c. search needs) (λ c. search needs) (λ c κs. search) (λ c κs. search) (λ c κs. search) returns
-    (λ c. search needs) (λ c. search needs) loop-again returns-2)
+    tie.close (tie.spec Inv-loop μ-loop (λ c. search needs) (λ c. search needs) (λ c κs. search) (λ c κs. search) (λ c κs. search)
+    (λ c. none-true) (λ c. search needs) (λ c. search needs) loop-again returns-2)

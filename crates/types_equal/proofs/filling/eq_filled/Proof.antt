@@ -1,4 +1,3 @@
-use native.Mathlib.Omega.{arith}
 use lib.ListN.{length}
 use Rattle.types_rows.specs.Read.{tab}
 use Rattle.types_equal.proofs.Items.{few-left, few-right}
@@ -17,11 +16,10 @@ eq-stack-requires c κs =
     let s : tie.Start = search in
     let fl = few-left (tab (s .args .rows .now) (s .args .parts .now)) (s .args .args .now) (s .pre .0) in
     let fr = few-right (tab (s .args .rows .now) (s .args .parts .now)) (s .args .args .now) (s .pre .0) in
+    let lc = s .pre .1 in
     let p2 = s .pre .2 in
-    let p3 = s .pre .3 in
-    let p5 = s .pre .5 in
     let bm = big-most (length (s .args .args .now)) in
-    (s .pre .0, omega arith, omega arith, s .pre .6)
+    (s .pre .0, search needs, s .pre .3)
 
 pub eq-filled-spec : {M : Type 1} → statement M
 eq-filled-spec =

@@ -40,17 +40,14 @@ eq-filled-requires c κs =
     let a : tie.After-letter-count = search in
     let b : tie.After-letter-count2 = search in
     let n : tie.Else1 = search in
-    let p1 = s .pre .1 in
-    let p2 = s .pre .2 in
-    let p3 = s .pre .3 in
-    let p4 = s .pre .4 in
+    let bs = s .pre .1 in
     let la = a .letter-count .ensures .1 in
     let lb = b .letter-count2 .ensures .1 in
     let fl = few-left _ _ (s .pre .0) in
     let fr = few-right _ _ (s .pre .0) in
     let nl = n .if1 .left in
     let bm = big-most (length (s .args .args .now)) in
-    (tabled-low _ _ _ _ (s .pre .0) (omega arith) (omega arith), p2, la, lb, search, nl, spare-low (length (s .args .args .now)) _ _ _ _ _ (s .pre .5) (omega arith) (omega arith), closed-stack _ _ _ _ (s .pre .6))
+    (tabled-low _ _ _ _ (s .pre .0) (omega arith) (omega arith), record { place = search; small = la; letters = search; enough = nl; formed = closed-stack _ _ _ _ (s .pre .3) }, lb, spare-low (length (s .args .args .now)) _ _ _ _ _ (s .pre .2) (omega arith) (omega arith))
 
 eq-parts-requires : tie.Need-eq-parts-requires
 eq-parts-requires c κs =
@@ -60,17 +57,14 @@ eq-parts-requires c κs =
     let a = count-of w in
     let b = count2-of w in
     let n = enough w in
-    let p1 = s .pre .1 in
-    let p2 = s .pre .2 in
-    let p3 = s .pre .3 in
-    let p4 = s .pre .4 in
+    let bs = s .pre .1 in
     let la = a .letter-count .ensures .1 in
     let lb = b .letter-count2 .ensures .1 in
     let fl = few-left (tab (s .args .rows .now) (s .args .parts .now)) (s .args .args .now) (s .pre .0) in
     let fr = few-right (tab (s .args .rows .now) (s .args .parts .now)) (s .args .args .now) (s .pre .0) in
     let nl = n .if1 .left in
     let bm = big-most (length (s .args .args .now)) in
-    (s .pre .0, omega arith, omega arith, omega arith, omega arith, omega arith, omega arith, omega arith, spare-kept (length (s .args .args .now)) (s .args .l) (s .args .r) _ _ (s .pre .5) (e .eq-filled .kept .1 .1 .1 .1 .1 .1 .1 .0))
+    (s .pre .0, search needs, search needs, spare-kept (length (s .args .args .now)) (s .args .l) (s .args .r) _ _ (s .pre .2) (e .eq-filled .kept .1 .1 .1 .1 .1 .1 .1 .0))
 
 returns-2 : tie.Need-returns-2
 returns-2 c =
@@ -97,5 +91,6 @@ returns-4 c =
 pub fill-code-spec : {M : Type 1} → statement M
 fill-code-spec =
     tie.close (tie.spec (λ c κs. search) (λ c κs. search) returns (λ c. search needs) (λ c. search needs) (λ c κs. search needs)
-    eq-filled-requires (λ c. search needs) (λ c. search needs) (λ c. search needs) (λ c. search needs) (λ c. search needs)
+    eq-filled-requires (λ c. search needs) (λ c. search needs) (λ c. search needs) (λ c. search needs)
+    (λ c. let e : tie.After-eq-filled = search in let b = start-of (letters-of e) .pre .1 in record { fits = omega arith })
     eq-parts-requires (λ c. search needs) returns-2 (λ c. search) returns-3 returns-4)

@@ -59,7 +59,9 @@ returns-2 c =
     let read2 : tie.After-read-value = search in
     let read3 : tie.After-read-value2 = search in
     let v2 : tie.After-v = search in
-    fill-types _ _ _ _ _ _ _ (s .pre .1) (link2 .link-of .ensures) (link3 .link-of2 .ensures) (fill-right _ _ (read3 .read-value2 .ensures .0) _ _ (v2 .v .given .0 .0) (v2 .v .given .0 .1 .0) (code-form _ _ (read2 .read-value .ensures .0) (v2 .v .given .1)) (read3 .read-value2 .ensures .1) (c .match2 .keys2))
+    fill-types _ _ _ _ _ _ _ (s .pre .1) (link2 .link-of .ensures) (link3 .link-of2 .ensures)
+    (fill-right _ _ (read3 .read-value2 .ensures .0) _ _ (v2 .v .given .0 .0) (v2 .v .given .0 .1 .0)
+    (code-form _ _ (read2 .read-value .ensures .0) (v2 .v .given .1)) (read3 .read-value2 .ensures .1) (c .match2 .keys2))
 
 slice-aggregate-fill-code : tie.Need-slice-aggregate-fill-code
 slice-aggregate-fill-code c =
@@ -76,8 +78,21 @@ fill-code-requires c κs =
     let l = link-of y in
     let s = start-of y in
     let f = code-low _ (x .v .given .1) (p .read-value .ensures .1) in
-    let g = code-low _ (y .w .given .1) (q .read-value2 .ensures .1) in
-    (tabled-args _ _ _ _ _ _ _ (s .pre .0) (s .pre .1) (l .link-of .ensures) (m .link-of2 .ensures), f .0, f .1, g .0, g .1, spare-kept (length (s .args .args .now)) _ _ _ _ (spare-args (tab (s .args .rows .now) (s .args .parts .now)) _ (s .args .args .now) _ _ _ _ (s .pre .0) (l .link-of .ensures) (m .link-of2 .ensures)) (length-first 1543 (s .args .pending .now) (s .pre .3)), closed-code _ (s .args .args .now) _ _ _ (x .v .given .0 .0) (x .v .given .0 .1 .0) (l .link-of .ensures) (code-form _ _ (p .read-value .ensures .0) (x .v .given .1)) (s .pre .2))
+    let g = code-low _ (y .w .given .1) (q .read-value2 .ensures .1) in (
+      tabled-args _ _ _ _ _ _ _ (s .pre .0) (s .pre .1) (l .link-of .ensures) (m .link-of2 .ensures),
+      record {
+        left-stack = f .0;
+        left-file = f .1;
+        right-stack = g .0;
+        right-file = g .1;
+      },
+      spare-kept (length (s .args .args .now)) _ _ _ _
+          (spare-args (tab (s .args .rows .now) (s .args .parts .now)) _ (s .args .args .now) _ _ _ _ (s .pre .0) (l .link-of .ensures)
+          (m .link-of2 .ensures)) (length-first 1543 (s .args .pending .now) (s .pre .3)),
+      closed-code _ (s .args .args .now) _ _ _
+          (x .v .given .0 .0) (x .v .given .0 .1 .0) (l .link-of .ensures) (code-form _ _ (p .read-value .ensures .0) (x .v .given .1))
+          (s .pre .2),
+    )
 
 returns-3 : tie.Need-returns-3
 returns-3 c =
@@ -89,7 +104,9 @@ returns-3 c =
     let m = link2-of y in
     let l = link-of y in
     let s = start-of y in
-    fill-types _ _ _ _ _ _ _ (s .pre .1) (l .link-of .ensures) (m .link-of2 .ensures) (codes-of _ _ _ _ (x .v .given .0 .0) (x .v .given .0 .1 .0) (y .w .given .0 .0) (y .w .given .0 .1 .0) (code-form _ _ (p .read-value .ensures .0) (x .v .given .1)) (code-form _ _ (q .read-value2 .ensures .0) (y .w .given .1)) (f .fill-code .ensures))
+    fill-types _ _ _ _ _ _ _ (s .pre .1) (l .link-of .ensures) (m .link-of2 .ensures) (codes-of _ _ _ _ (x .v .given .0 .0)
+    (x .v .given .0 .1 .0) (y .w .given .0 .0) (y .w .given .0 .1 .0) (code-form _ _ (p .read-value .ensures .0) (x .v .given .1))
+    (code-form _ _ (q .read-value2 .ensures .0) (y .w .given .1)) (f .fill-code .ensures))
 
 pub filled-spec : {M : Type 1} → statement M
 filled-spec =

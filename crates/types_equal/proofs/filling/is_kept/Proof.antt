@@ -6,17 +6,12 @@ use borrow.Author.Needs.{needs}
 use Rattle.types_equal.proofs.filling.is_kept.Statement.{statement}
 use Rattle.types_equal.proofs.filling.is_kept.Tie as tie
 
-returns : tie.Need-returns
-returns c = none-true
-
-returns-2 : tie.Need-returns-2
-returns-2 c = none-true
-
 returns-3 : tie.Need-returns-3
 returns-3 c =
     let s : tie.Start = search in
-    λ t b. stack-kept _ _ _ _ _ _ b _ (search) (search) (s .pre .4 (not-false _ (search))) (search) (c .all-themselves .ensures t)
+    λ t b. stack-kept _ _ _ _ _ _ b _ (search) (search) (s .pre .formed (not-false _ (search))) (search) (c .all-themselves .ensures t)
 
 pub is-kept-spec : {M : Type 1} → statement M
 is-kept-spec =
-    tie.close (tie.spec returns returns-2 (λ c. search needs) (λ c. search) (λ c. search needs) (λ c κs. search needs) returns-3)
+    tie.close (tie.spec (λ c. none-true) (λ c. none-true) (λ c. search needs) (λ c. search) (λ c. search needs) (λ c κs. search needs)
+    returns-3)

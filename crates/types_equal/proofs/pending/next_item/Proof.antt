@@ -45,11 +45,14 @@ in-of c = search
 
 -- where the last entry stands
 spot-of : (c : In-loop) → Spot (start-of c .args .right) (start-of c .args .m) (start-of c .args .pending .now) (start-of c .args .top) (loop-of c .loop .pending) (loop-of c .loop .n)
-spot-of c = let s = start-of c in let h = loop-of c in spot _ _ _ _ _ _ (c .loop-test .taken) (h .loop .inv .0) (s .pre .2) (s .pre .3) (s .pre .4)
+spot-of c = let s = start-of c in let h = loop-of c in spot _ _ _ _ _ _ (c .loop-test .taken) (h .loop .inv .0) (s .pre .1 .enough) (s .pre .1 .short) (s .pre .2)
 
 -- its form
 form-in : (c : After-form-of) (ps : List ℕ) (k : Form) → c .form-of .result ≡ k
-    → FormOf (tab (start-of (in-of c) .args .rows .now) ps) (argsOf (tab (start-of (in-of c) .args .rows .now) ps) (start-of (in-of c) .args .args .now) (start-of (in-of c) .args .m)) (start-of (in-of c) .args .by) (start-of (in-of c) .args .d) (start-of (in-of c) .args .m) (getD (side (start-of (in-of c) .args .right) (loop-of (in-of c) .loop .pending)) (loop-of (in-of c) .loop .n - 1) 0) k
+    → FormOf (tab (start-of (in-of c) .args .rows .now) ps) (argsOf (tab (start-of (in-of c) .args .rows .now) ps)
+    (start-of (in-of c) .args .args .now) (start-of (in-of c) .args .m)) (start-of (in-of c) .args .by) (start-of (in-of c) .args .d)
+    (start-of (in-of c) .args .m) (getD (side (start-of (in-of c) .args .right) (loop-of (in-of c) .loop .pending))
+    (loop-of (in-of c) .loop .n - 1) 0) k
 form-in c ps k e =
     let t : tie.After-entry Inv-loop μ-loop = search in
     form-at (tab _ ps) (argsOf (tab _ ps) _ _) _ _ _ _ _ _ k (t .entry .ensures) (c .form-of .ensures ps) e
@@ -114,8 +117,13 @@ loop-again-2 c =
     let f : tie.After-f Inv-loop μ-loop = search in
     let h = loop-of i in
     let p = spot-of i in
-    let o = form-in w [] (One (f .f .given .0 .0)) (f .f .given .1) in
-    (rw (t .store .ensures .0) (kept-one _ _ _ _ _ _ (p .last) (p .kept) (f .f .given .0 .0) (p .inside) (o .2) (o .3)), (λ ps. rw (t .store .ensures .0) (means-one (tab _ ps) (argsOf (tab _ ps) _ _) _ _ _ _ _ _ _ _ (p .last) (h .loop .inv .1 ps) (f .f .given .0 .0) (p .inside) (form-in w ps (One (f .f .given .0 .0)) (f .f .given .1)))), t .store .ensures .1 ∙ h .loop .inv .2, t .store .kept .0 ∙ h .loop .inv .3)
+    let o = form-in w [] (One (f .f .given .0 .0)) (f .f .given .1) in (
+      rw (t .store .ensures .0) (kept-one _ _ _ _ _ _ (p .last) (p .kept) (f .f .given .0 .0) (p .inside) (o .2) (o .3)),
+      (λ ps. rw (t .store .ensures .0) (means-one (tab _ ps) (argsOf (tab _ ps) _ _) _ _ _ _ _ _ _ _ (p .last) (h .loop .inv .1 ps)
+          (f .f .given .0 .0) (p .inside) (form-in w ps (One (f .f .given .0 .0)) (f .f .given .1)))),
+      t .store .ensures .1 ∙ h .loop .inv .2,
+      t .store .kept .0 ∙ h .loop .inv .3,
+    )
 
 store-requires-2 : tie.Need-store-requires-2 Inv-loop μ-loop
 store-requires-2 c κs =
@@ -172,8 +180,16 @@ loop-again-3 c =
     let f : tie.After-f2 Inv-loop μ-loop = search in
     let h = loop-of i in
     let p = spot-of i in
-    let o = form-in w [] (Two (f .f2 .given .0 .0) (f .f2 .given .0 .1 .0)) (f .f2 .given .1) in
-    (rw (u .store3 .ensures .0, t .store2 .ensures .0) (kept-two _ _ _ _ _ _ (p .last) (p .kept) (f .f2 .given .0 .0) (f .f2 .given .0 .1 .0) (p .two (f .f2 .given .0 .0) (o .2) .1) (o .2) (o .3)), (λ ps. rw (u .store3 .ensures .0, t .store2 .ensures .0) (means-two (tab _ ps) (argsOf (tab _ ps) _ _) _ _ _ _ _ _ _ _ (p .last) (h .loop .inv .1 ps) (f .f2 .given .0 .0) (f .f2 .given .0 .1 .0) (p .two (f .f2 .given .0 .0) (o .2) .1) (form-in w ps (Two (f .f2 .given .0 .0) (f .f2 .given .0 .1 .0)) (f .f2 .given .1)))), u .store3 .ensures .1 ∙ t .store2 .ensures .1 ∙ h .loop .inv .2, u .store3 .kept .0 ∙ t .store2 .kept .0 ∙ h .loop .inv .3)
+    let o = form-in w [] (Two (f .f2 .given .0 .0) (f .f2 .given .0 .1 .0)) (f .f2 .given .1) in (
+      rw (u .store3 .ensures .0, t .store2 .ensures .0) (kept-two _ _ _ _ _ _ (p .last) (p .kept) (f .f2 .given .0 .0)
+          (f .f2 .given .0 .1 .0) (p .two (f .f2 .given .0 .0) (o .2) .1) (o .2) (o .3)),
+      (λ ps. rw (u .store3 .ensures .0, t .store2 .ensures .0) (means-two (tab _ ps) (argsOf (tab _ ps) _ _) _ _ _ _ _ _ _ _ (p .last)
+          (h .loop .inv .1 ps) (f .f2 .given .0 .0) (f .f2 .given .0 .1 .0) (p .two (f .f2 .given .0 .0) (o .2) .1)
+          (form-in w ps (Two (f .f2 .given .0 .0) (f .f2 .given .0 .1 .0)) (f .f2 .given .1)))),
+      u .store3 .ensures .1 ∙ t .store2 .ensures .1
+          ∙ h .loop .inv .2,
+      u .store3 .kept .0 ∙ t .store2 .kept .0 ∙ h .loop .inv .3,
+    )
 
 store-requires-4 : tie.Need-store-requires-4 Inv-loop μ-loop
 store-requires-4 c κs =
@@ -200,8 +216,12 @@ returns c =
     let f : tie.After-f3 Inv-loop μ-loop = search in
     let h = loop-of i in
     let p = spot-of i in
-    let o = form-in w [] (OwnTop (f .f3 .given .0 .0) (f .f3 .given .0 .1 .0)) (f .f3 .given .1) in
-    ((λ ps. rw (t .store4 .ensures .0) (next-own (tab _ ps) (argsOf (tab _ ps) _ _) _ _ _ _ _ _ _ _ (p .last) (h .loop .inv .1 ps) (p .kept) (f .f3 .given .0 .0) (f .f3 .given .0 .1 .0) (p .inside) (form-in w ps (OwnTop (f .f3 .given .0 .0) (f .f3 .given .0 .1 .0)) (f .f3 .given .1)))), t .store4 .ensures .1 ∙ h .loop .inv .2)
+    let o = form-in w [] (OwnTop (f .f3 .given .0 .0) (f .f3 .given .0 .1 .0)) (f .f3 .given .1) in (
+      (λ ps. rw (t .store4 .ensures .0) (next-own (tab _ ps) (argsOf (tab _ ps) _ _) _ _ _ _ _ _ _ _ (p .last) (h .loop .inv .1 ps)
+          (p .kept) (f .f3 .given .0 .0) (f .f3 .given .0 .1 .0) (p .inside) (form-in w ps (OwnTop (f .f3 .given .0 .0) (f .f3 .given .0 .1 .0))
+          (f .f3 .given .1)))),
+      t .store4 .ensures .1 ∙ h .loop .inv .2,
+    )
 
 store-requires-5 : tie.Need-store-requires-5 Inv-loop μ-loop
 store-requires-5 c κs =
@@ -228,8 +248,12 @@ returns-2 c =
     let f : tie.After-f4 Inv-loop μ-loop = search in
     let h = loop-of i in
     let p = spot-of i in
-    let o = form-in w [] (GivenTop (f .f4 .given .0 .0) (f .f4 .given .0 .1 .0)) (f .f4 .given .1) in
-    ((λ ps. rw (t .store5 .ensures .0) (next-given (tab _ ps) (argsOf (tab _ ps) _ _) _ _ _ _ _ _ _ _ (p .last) (h .loop .inv .1 ps) (p .kept) (f .f4 .given .0 .0) (f .f4 .given .0 .1 .0) (p .inside) (form-in w ps (GivenTop (f .f4 .given .0 .0) (f .f4 .given .0 .1 .0)) (f .f4 .given .1)))), t .store5 .ensures .1 ∙ h .loop .inv .2)
+    let o = form-in w [] (GivenTop (f .f4 .given .0 .0) (f .f4 .given .0 .1 .0)) (f .f4 .given .1) in (
+      (λ ps. rw (t .store5 .ensures .0) (next-given (tab _ ps) (argsOf (tab _ ps) _ _) _ _ _ _ _ _ _ _ (p .last) (h .loop .inv .1 ps)
+          (p .kept) (f .f4 .given .0 .0) (f .f4 .given .0 .1 .0) (p .inside) (form-in w ps (GivenTop (f .f4 .given .0 .0)
+          (f .f4 .given .0 .1 .0)) (f .f4 .given .1)))),
+      t .store5 .ensures .1 ∙ h .loop .inv .2,
+    )
 
 same-length-3 : tie.Need-same-length-3 Inv-loop μ-loop
 same-length-3 c =

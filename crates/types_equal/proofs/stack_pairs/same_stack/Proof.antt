@@ -17,10 +17,7 @@ returns-2 c =
     let isst : tie.After-is-stack = search in
     λ t ps. s-given (tab _ ps) _ _ _ _ _ _ _ _ (s3 .s .given .0 .0) _ (read2 .read-stack .ensures .0) (read2 .read-stack .ensures .1) (s3 .s .given .1) (at2 .at .ensures .0) (isst .is-stack .ensures) (y .if1 .taken) (c .same-place2 .ensures) t
 
-returns-3 : tie.Need-returns-3
-returns-3 c = none-true
-
 pub same-stack-spec : {M : Type 1} → statement M
 same-stack-spec =
     tie.close (tie.spec (λ c. search needs) (λ c. search needs) (λ c. search needs) (λ c κs. search) (λ c. search) (λ c κs. search)
-    returns (λ c κs. search) (λ c κs. search needs) (λ c. search needs) (λ c κs. search) returns-2 returns-3)
+    returns (λ c κs. search) (λ c κs. search needs) (λ c. search needs) (λ c κs. search) returns-2 (λ c. none-true))

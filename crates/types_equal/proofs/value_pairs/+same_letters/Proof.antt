@@ -29,9 +29,6 @@ same-letters-below t =
 abbrev same-letters-claims : ℕ → same-letters-lts.Claims
 same-letters-claims t = (at-reads.Asked, at-reads.Learnt, same-letter-reads.Asked, same-letter-reads.Learnt, same-letters-below t, same-letters.Post)
 
-same-letters-returns : (t : ℕ) → same-letters-lts.Need-returns (same-letters-claims t) (same-letters-at t) same-letters.Post
-same-letters-returns t c = letters-end _ _ _ _ _ (search)
-
 same-letters-returns-2 : (t : ℕ) → same-letters-lts.Need-returns-2 (same-letters-claims t) (same-letters-at t) same-letters.Post
 same-letters-returns-2 t c = letters-short _ _ _ _ _ (search) (search)
 
@@ -52,7 +49,7 @@ pub +same-letters-spec : {M : Type 1} → statement M
 +same-letters-spec = close μ-same-letters λ t. same-letters-lts.spec (same-letters-claims t)
     (same-letters-at t)
     same-letters.Post
-    (same-letters-returns t)
+    (λ c. letters-end _ _ _ _ _ (search))
     (same-letters-returns-2 t)
     (λ c κs. search)
     (λ c κs. search)

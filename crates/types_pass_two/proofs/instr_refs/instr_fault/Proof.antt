@@ -34,7 +34,9 @@ returns-2 c =
     let o : tie.After-operand-count = search in
     let c3 : tie.After-cell8 = search in
     let c2 : tie.After-code-at = search in
-    λ ps. instr-given _ ps _ _ _ _ _ _ _ _ _ (g .given-place .result) _ _ _ _ (c2 .code-at .ensures) (c3 .cell8 .ensures .0) (c4 .cell82 .ensures .0) (o .operand-count .ensures .0) (g .given-place .ensures) (n2 .if1 .left) (o2 .operands-fault .ensures) (c5 .cell83 .ensures .0) (v .value-ref .ensures) (c .lower .ensures)
+    λ ps. instr-given _ ps _ _ _ _ _ _ _ _ _ (g .given-place .result) _ _ _ _ (c2 .code-at .ensures) (c3 .cell8 .ensures .0)
+    (c4 .cell82 .ensures .0) (o .operand-count .ensures .0) (g .given-place .ensures) (n2 .if1 .left) (o2 .operands-fault .ensures)
+    (c5 .cell83 .ensures .0) (v .value-ref .ensures) (c .lower .ensures)
 
 pub instr-fault-spec : {M : Type 1} → statement M
 instr-fault-spec =

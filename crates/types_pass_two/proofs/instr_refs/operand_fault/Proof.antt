@@ -31,7 +31,9 @@ returns-2 c =
     let g : tie.After-list-fault = search in
     let b : tie.After-operand-entry3 = search in
     let some-args : (count-of b .operand-entry .result) ≡ 0 → ⊥ = search in
-    operand-inst _ _ _ _ _ _ _ _ _ _ _ _ _ _ _ _ _ (count-of b .operand-entry .ensures .0) (kind-of b .operand-entry2 .ensures .0) refl (b .operand-entry3 .ensures .0) (t .operand-entry4 .ensures .0) some-args (label-of b .label-fault .ensures) (g .list-fault .ensures) (h .code-ref .ensures) (w .lower .ensures) (search)
+    operand-inst _ _ _ _ _ _ _ _ _ _ _ _ _ _ _ _ _ (count-of b .operand-entry .ensures .0) (kind-of b .operand-entry2 .ensures .0) refl
+    (b .operand-entry3 .ensures .0) (t .operand-entry4 .ensures .0) some-args (label-of b .label-fault .ensures) (g .list-fault .ensures)
+    (h .code-ref .ensures) (w .lower .ensures) (search)
 
 pub operand-fault-spec : {M : Type 1} → statement M
 operand-fault-spec =

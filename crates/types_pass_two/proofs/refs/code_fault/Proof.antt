@@ -15,7 +15,10 @@ use Rattle.types_pass_two.proofs.refs.code_fault.Statement.{statement}
 use Rattle.types_pass_two.proofs.refs.code_fault.Tie as tie
 
 abbrev Inv-loop : tie.InvT-loop
-Inv-loop rows n blocks nb instrs ni operands numbers args b₀ b = (ps : List ℕ) → blocksLeft (rowsIn (tab rows ps) n) nb blocks instrs (operandTable operands numbers args) ni n b ≡ foundOf (lowestLine (n + 1) (entriesFaults (rowsIn (tab rows ps) n) nb (entriesIn [] (blocksFrom blocks instrs (operandTable operands numbers args) ni 0 nb))))
+Inv-loop rows n blocks nb instrs ni operands numbers args b₀ b =
+    (ps : List ℕ) → blocksLeft (rowsIn (tab rows ps) n) nb blocks instrs (operandTable operands numbers args) ni n b ≡ foundOf
+    (lowestLine (n + 1) (entriesFaults (rowsIn (tab rows ps) n) nb (entriesIn [] (blocksFrom blocks instrs (operandTable operands numbers
+    args) ni 0 nb))))
 
 abbrev μ-loop : tie.MeasureT-loop
 μ-loop rows n blocks nb instrs ni operands numbers args b₀ b = nb - b
@@ -34,7 +37,10 @@ returns c =
     let i : tie.In-loop Inv-loop μ-loop = search in
     let l : tie.At-loop Inv-loop μ-loop = search in
     let s = start-of-cell22 c3 in
-    λ ps. sym (block-found (rowsIn (tab (s .args .rows .now) ps) (s .args .n)) (s .args .nb) (s .args .blocks .now) (s .args .instrs .now) (operandTable (s .args .operands .now) (s .args .numbers .now) (s .args .args .now)) (s .args .ni) (s .args .n) (l .loop .b) (c2 .cell2 .result) (c3 .cell22 .result) _ (i .loop-test .taken) (c2 .cell2 .ensures .0) (c3 .cell22 .ensures .0) refl (b2 .block-fault .result) (b2 .block-fault .ensures ps (s .args .nb)) (c .if1 .taken)) ∙ l .loop .inv ps
+    λ ps. sym (block-found (rowsIn (tab (s .args .rows .now) ps) (s .args .n)) (s .args .nb) (s .args .blocks .now) (s .args .instrs .now)
+    (operandTable (s .args .operands .now) (s .args .numbers .now) (s .args .args .now)) (s .args .ni) (s .args .n) (l .loop .b)
+    (c2 .cell2 .result) (c3 .cell22 .result) _ (i .loop-test .taken) (c2 .cell2 .ensures .0) (c3 .cell22 .ensures .0) refl
+    (b2 .block-fault .result) (b2 .block-fault .ensures ps (s .args .nb)) (c .if1 .taken)) ∙ l .loop .inv ps
 
 returns-2 : tie.Need-returns-2 Inv-loop μ-loop
 returns-2 c =
@@ -57,7 +63,11 @@ loop-again c =
     let i : tie.In-loop Inv-loop μ-loop = search in
     let l : tie.At-loop Inv-loop μ-loop = search in
     let s = start-of-cell22 c3 in
-    λ ps. sym (block-next (rowsIn (tab (s .args .rows .now) ps) (s .args .n)) (s .args .nb) (s .args .blocks .now) (s .args .instrs .now) (operandTable (s .args .operands .now) (s .args .numbers .now) (s .args .args .now)) (s .args .ni) (s .args .n) (l .loop .b) (c2 .cell2 .result) (c3 .cell22 .result) (b2 .block-end .result) (i .loop-test .taken) (c2 .cell2 .ensures .0) (c3 .cell22 .ensures .0) (b2 .block-end .ensures .0) (s .pre .1) (b3 .block-fault .result) (i2 .instrs-fault .result) (b3 .block-fault .ensures ps (s .args .nb)) (n2 .if1 .left) (i2 .instrs-fault .ensures ps) (c .if2 .left)) ∙ l .loop .inv ps
+    λ ps. sym (block-next (rowsIn (tab (s .args .rows .now) ps) (s .args .n)) (s .args .nb) (s .args .blocks .now) (s .args .instrs .now)
+    (operandTable (s .args .operands .now) (s .args .numbers .now) (s .args .args .now)) (s .args .ni) (s .args .n) (l .loop .b)
+    (c2 .cell2 .result) (c3 .cell22 .result) (b2 .block-end .result) (i .loop-test .taken) (c2 .cell2 .ensures .0)
+    (c3 .cell22 .ensures .0) (b2 .block-end .ensures .0) (s .pre .1) (b3 .block-fault .result) (i2 .instrs-fault .result)
+    (b3 .block-fault .ensures ps (s .args .nb)) (n2 .if1 .left) (i2 .instrs-fault .ensures ps) (c .if2 .left)) ∙ l .loop .inv ps
 
 returns-3 : tie.Need-returns-3 Inv-loop μ-loop
 returns-3 c =

@@ -41,8 +41,13 @@ narrow-requires c κs =
 loop-again : tie.Need-loop-again Inv-loop μ-loop
 loop-again c =
     let l : At-loop = search in
-    let t : Counted-row = search in
-    (omega arith, simp length-set (search), λ ps fit. let f = l .loop .inv .2 ps fit in let n = t .count-row .ensures ps (filling-low _ ps _ _ _ f _ refl) in filling-next _ ps _ _ _ f (t .count-row .result) _ (omega arith) (search) (filling-count _ ps _ _ _ f _ (t .count-row .result) refl n) (search))
+    let t : Counted-row = search in (
+      omega arith,
+      simp length-set (search),
+      λ ps fit. let f = l .loop .inv .2 ps fit in let n = t .count-row .ensures ps
+          (filling-low _ ps _ _ _ f _ refl) in filling-next _ ps _ _ _ f (t .count-row .result) _ (omega arith) (search) (filling-count _ ps _ _
+          _ f _ (t .count-row .result) refl n) (search),
+    )
 
 returns : tie.Need-returns Inv-loop μ-loop
 returns c =

@@ -12,8 +12,6 @@ returns c =
     let s : tie.Start = search in
     ap (λ (x : ℕ). set (s .args .sizes .now) (s .args .h) x) (c .narrow .ensures)
 
-returns-2 : tie.Need-returns-2
-returns-2 c = sym (set-out _ _ _ (search))
-
 pub keep-size-spec : {M : Type 1} → statement M
-keep-size-spec = tie.close (tie.spec (λ c κs. search) (λ c. search needs) (λ c. search) (λ c. search needs) returns returns-2)
+keep-size-spec =
+    tie.close (tie.spec (λ c κs. search) (λ c. search needs) (λ c. search) (λ c. search needs) returns (λ c. sym (set-out _ _ _ (search))))

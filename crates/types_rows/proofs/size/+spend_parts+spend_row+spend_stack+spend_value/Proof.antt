@@ -89,16 +89,12 @@ spend-parts-Inv-loop rows parts sizes h file p n left rest₀ i₀ rest i = Spen
 abbrev spend-parts-μ-loop : spend-parts-lts.MeasureT-loop
 spend-parts-μ-loop rows parts sizes h file p n left rest₀ i₀ rest i = n - i
 
-spend-parts-loop-holds : (t : ℕ) → spend-parts-lts.Need-loop-holds (spend-parts-claims t) (spend-parts-at t) spend-parts.Post spend-parts-Inv-loop spend-parts-μ-loop
-spend-parts-loop-holds t c = spending-first _ _ _ _ _ _
-
 spend-parts-spend-row-requires : (t : ℕ) → spend-parts-lts.Need-spend-row-requires (spend-parts-claims t) (spend-parts-at t) spend-parts.Post spend-parts-Inv-loop spend-parts-μ-loop
 spend-parts-spend-row-requires t c κs =
     let p : spend-parts-lts.After-part (spend-parts-claims t) (spend-parts-at t) spend-parts.Post spend-parts-Inv-loop spend-parts-μ-loop = search in
     let s : spend-parts-lts.Start (spend-parts-claims t) (spend-parts-at t) spend-parts.Post spend-parts-Inv-loop spend-parts-μ-loop = search in
     let t0 = s .pre .0 in
-    let r1 = s .pre .1 .1 in
-    let l = row-low _ (p .part .result) (s .pre .1 .0) (p .part .ensures .1) (c .row-of .ensures) in
+    let l = row-low _ (p .part .result) (s .pre .1 .0 .named) (p .part .ensures .1) (c .row-of .ensures) in
     (omega arith, (omega arith, search))
 
 spend-parts-loop-again : (t : ℕ) → spend-parts-lts.Need-loop-again (spend-parts-claims t) (spend-parts-at t) spend-parts.Post spend-parts-Inv-loop spend-parts-μ-loop
@@ -112,9 +108,6 @@ spend-parts-returns : (t : ℕ) → spend-parts-lts.Need-returns (spend-parts-cl
 spend-parts-returns t c =
     let l : spend-parts-lts.At-loop (spend-parts-claims t) (spend-parts-at t) spend-parts.Post spend-parts-Inv-loop spend-parts-μ-loop = search in
     spending-last _ _ _ _ _ _ _ _ (l .loop .inv) (search)
-
-spend-row-returns : (t : ℕ) → spend-row-lts.Need-returns (spend-row-claims t) (spend-row-at t) spend-row.Post
-spend-row-returns t c = spent-none _ _ _ (search)
 
 spend-row-returns-2 : (t : ℕ) → spend-row-lts.Need-returns-2 (spend-row-claims t) (spend-row-at t) spend-row.Post
 spend-row-returns-2 t c =
@@ -229,7 +222,7 @@ spend-value-spend-parts-requires t c κs =
     let t1 = s .pre .1 .0 in
     let o0 = ok .0 in
     let o1 = ok .1 in
-    (omega arith, (ok .2, t1, o1, omega arith, search))
+    (omega arith, (record { named = ok .2; low = t1; few = o1; within = omega arith }, search))
 
 spend-value-spend-row-requires : (t : ℕ) → spend-value-lts.Need-spend-row-requires (spend-value-claims t) (spend-value-at t) spend-value.Post
 spend-value-spend-row-requires t c κs =
@@ -262,7 +255,7 @@ spend-value-spend-parts-requires-2 t c κs =
     let t1 = s .pre .1 .0 in
     let o0 = ok .0 in
     let o1 = ok .1 in
-    (omega arith, (omega arith, t1, omega arith, omega arith, search))
+    (omega arith, (record { named = omega arith; low = t1; few = omega arith; within = omega arith }, search))
 
 spend-value-returns : (t : ℕ) → spend-value-lts.Need-returns (spend-value-claims t) (spend-value-at t) spend-value.Post
 spend-value-returns t c =
@@ -328,7 +321,7 @@ pub +spend-parts+spend-row+spend-stack+spend-value-spec : {M : Type 1} → state
     spend-parts.Post
     spend-parts-Inv-loop
     spend-parts-μ-loop
-    (spend-parts-loop-holds t)
+    (λ c. spending-first _ _ _ _ _ _)
     (λ c. search needs)
     (λ c κs. search)
     (λ c κs. search)
@@ -340,7 +333,7 @@ pub +spend-parts+spend-row+spend-stack+spend-value-spec : {M : Type 1} → state
     (λ t. spend-row-lts.spec (spend-row-claims t)
     (spend-row-at t)
     spend-row.Post
-    (spend-row-returns t)
+    (λ c. spent-none _ _ _ (search))
     (λ c κs. search)
     (λ c κs. search)
     (spend-row-returns-2 t)

@@ -23,109 +23,27 @@ large-at t = and 3 large-kinds.ps (is 3 large-kinds.ps μ-large t) large.Pre
 abbrev large-below : ℕ → In 3 large-kinds.ps
 large-below t = and 3 large-kinds.ps (falls 3 large-kinds.ps _<_ μ-large t) large.Pre
 
-large-slice-aggregate-check-in : (t : ℕ) → large-lts.Need-slice-aggregate-check-in (
-  check-in-reads.Asked,
-  check-in-reads.Learnt,
-  large-below t,
-  large.Post,
-) (large-at t) large.Post
-large-slice-aggregate-check-in t c = search needs
+abbrev large-claims : ℕ → large-lts.Claims
+large-claims t = (check-in-reads.Asked, check-in-reads.Learnt, large-below t, large.Post)
 
-large-slice-aggregate-check-in-2 : (t : ℕ) → large-lts.Need-slice-aggregate-check-in-2 (
-  check-in-reads.Asked,
-  check-in-reads.Learnt,
-  large-below t,
-  large.Post,
-) (large-at t) large.Post
-large-slice-aggregate-check-in-2 t c = search needs
-
-large-check-in-requires : (t : ℕ) → large-lts.Need-check-in-requires (
-  check-in-reads.Asked,
-  check-in-reads.Learnt,
-  large-below t,
-  large.Post,
-) (large-at t) large.Post
-large-check-in-requires t c κs = search needs
-
-large-same-length : (t : ℕ) → large-lts.Need-same-length (
-  check-in-reads.Asked,
-  check-in-reads.Learnt,
-  large-below t,
-  large.Post,
-) (large-at t) large.Post
-large-same-length t c = search
-
-large-same-length-2 : (t : ℕ) → large-lts.Need-same-length-2 (
-  check-in-reads.Asked,
-  check-in-reads.Learnt,
-  large-below t,
-  large.Post,
-) (large-at t) large.Post
-large-same-length-2 t c = search
-
-large-returns : (t : ℕ) → large-lts.Need-returns (
-  check-in-reads.Asked,
-  check-in-reads.Learnt,
-  large-below t,
-  large.Post,
-) (large-at t) large.Post
+large-returns : (t : ℕ) → large-lts.Need-returns (large-claims t) (large-at t) large.Post
 large-returns t c =
-    let w : large-lts.After-check-in (check-in-reads.Asked, check-in-reads.Learnt, large-below t, large.Post) (large-at t) large.Post = search in
+    let w : large-lts.After-check-in (large-claims t) (large-at t) large.Post = search in
     w .check-in .ensures .answered (search)
 
-large-large-requires : (t : ℕ) → large-lts.Need-large-requires (
-  check-in-reads.Asked,
-  check-in-reads.Learnt,
-  large-below t,
-  large.Post,
-) (large-at t) large.Post
+large-large-requires : (t : ℕ) → large-lts.Need-large-requires (large-claims t) (large-at t) large.Post
 large-large-requires t c κs =
-    let w : large-lts.After-check-in (check-in-reads.Asked, check-in-reads.Learnt, large-below t, large.Post) (large-at t) large.Post = search in
+    let w : large-lts.After-check-in (large-claims t) (large-at t) large.Post = search in
     let z : w .check-in .result .fits ≡ false = search in
     absurd (true≢false (sym (w .check-in .ensures .enough (zeros-long 161694 161694 (omega arith), zeros-long 16400 16400 (omega arith))) ∙ z))
 
-large-same-length-3 : (t : ℕ) → large-lts.Need-same-length-3 (
-  check-in-reads.Asked,
-  check-in-reads.Learnt,
-  large-below t,
-  large.Post,
-) (large-at t) large.Post
-large-same-length-3 t c = search
-
-large-same-length-4 : (t : ℕ) → large-lts.Need-same-length-4 (
-  check-in-reads.Asked,
-  check-in-reads.Learnt,
-  large-below t,
-  large.Post,
-) (large-at t) large.Post
-large-same-length-4 t c = search
-
-large-returns-2 : (t : ℕ) → large-lts.Need-returns-2 (
-  check-in-reads.Asked,
-  check-in-reads.Learnt,
-  large-below t,
-  large.Post,
-) (large-at t) large.Post
+large-returns-2 : (t : ℕ) → large-lts.Need-returns-2 (large-claims t) (large-at t) large.Post
 large-returns-2 t c =
-    let w : large-lts.After-large (check-in-reads.Asked, check-in-reads.Learnt, large-below t, large.Post) (large-at t) large.Post = search in
+    let w : large-lts.After-large (large-claims t) (large-at t) large.Post = search in
     w .large .ensures
 
 pub +large-spec : {M : Type 1} → statement M
-+large-spec = close μ-large λ t. large-lts.spec (
-  check-in-reads.Asked,
-  check-in-reads.Learnt,
-  large-below t,
-  large.Post,
-)
-    (large-at t)
-    large.Post
-    (large-slice-aggregate-check-in t)
-    (large-slice-aggregate-check-in-2 t)
-    (large-check-in-requires t)
-    (large-same-length t)
-    (large-same-length-2 t)
-    (large-returns t)
-    (large-large-requires t)
-    (large-same-length-3 t)
-    (large-same-length-4 t)
++large-spec =
+    close μ-large λ t. large-lts.spec (large-claims t) (large-at t) large.Post (λ c. search needs) (λ c. search needs)
+    (λ c κs. search needs) (λ c. search) (λ c. search) (large-returns t) (large-large-requires t) (λ c. search) (λ c. search)
     (large-returns-2 t)

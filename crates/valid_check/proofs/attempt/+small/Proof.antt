@@ -20,108 +20,25 @@ small-at t = and 3 small-kinds.ps (is 3 small-kinds.ps μ-small t) small.Pre
 abbrev small-below : ℕ → In 3 small-kinds.ps
 small-below t = and 3 small-kinds.ps (falls 3 small-kinds.ps _<_ μ-small t) small.Pre
 
-small-small-requires : (t : ℕ) → small-lts.Need-small-requires (
-  small-below t,
-  small.Post,
-  check-in-reads.Asked,
-  check-in-reads.Learnt,
-) (small-at t) small.Post
+abbrev small-claims : ℕ → small-lts.Claims
+small-claims t = (small-below t, small.Post, check-in-reads.Asked, check-in-reads.Learnt)
+
+small-small-requires : (t : ℕ) → small-lts.Need-small-requires (small-claims t) (small-at t) small.Post
 small-small-requires t c κs =
-    let s : small-lts.Start (small-below t, small.Post, check-in-reads.Asked, check-in-reads.Learnt) (small-at t) small.Post = search in
+    let s : small-lts.Start (small-claims t) (small-at t) small.Post = search in
     absurd (omega (arith, s .good .0 .0))
 
-small-same-length : (t : ℕ) → small-lts.Need-same-length (
-  small-below t,
-  small.Post,
-  check-in-reads.Asked,
-  check-in-reads.Learnt,
-) (small-at t) small.Post
-small-same-length t c = search
-
-small-same-length-2 : (t : ℕ) → small-lts.Need-same-length-2 (
-  small-below t,
-  small.Post,
-  check-in-reads.Asked,
-  check-in-reads.Learnt,
-) (small-at t) small.Post
-small-same-length-2 t c = search
-
-small-returns : (t : ℕ) → small-lts.Need-returns (
-  small-below t,
-  small.Post,
-  check-in-reads.Asked,
-  check-in-reads.Learnt,
-) (small-at t) small.Post
+small-returns : (t : ℕ) → small-lts.Need-returns (small-claims t) (small-at t) small.Post
 small-returns t c =
-    let w : small-lts.After-small (small-below t, small.Post, check-in-reads.Asked, check-in-reads.Learnt) (small-at t) small.Post = search in
+    let w : small-lts.After-small (small-claims t) (small-at t) small.Post = search in
     w .small .ensures
 
-small-slice-aggregate-check-in : (t : ℕ) → small-lts.Need-slice-aggregate-check-in (
-  small-below t,
-  small.Post,
-  check-in-reads.Asked,
-  check-in-reads.Learnt,
-) (small-at t) small.Post
-small-slice-aggregate-check-in t c = search needs
-
-small-slice-aggregate-check-in-2 : (t : ℕ) → small-lts.Need-slice-aggregate-check-in-2 (
-  small-below t,
-  small.Post,
-  check-in-reads.Asked,
-  check-in-reads.Learnt,
-) (small-at t) small.Post
-small-slice-aggregate-check-in-2 t c = search needs
-
-small-check-in-requires : (t : ℕ) → small-lts.Need-check-in-requires (
-  small-below t,
-  small.Post,
-  check-in-reads.Asked,
-  check-in-reads.Learnt,
-) (small-at t) small.Post
-small-check-in-requires t c κs = search needs
-
-small-same-length-3 : (t : ℕ) → small-lts.Need-same-length-3 (
-  small-below t,
-  small.Post,
-  check-in-reads.Asked,
-  check-in-reads.Learnt,
-) (small-at t) small.Post
-small-same-length-3 t c = search
-
-small-same-length-4 : (t : ℕ) → small-lts.Need-same-length-4 (
-  small-below t,
-  small.Post,
-  check-in-reads.Asked,
-  check-in-reads.Learnt,
-) (small-at t) small.Post
-small-same-length-4 t c = search
-
-small-returns-2 : (t : ℕ) → small-lts.Need-returns-2 (
-  small-below t,
-  small.Post,
-  check-in-reads.Asked,
-  check-in-reads.Learnt,
-) (small-at t) small.Post
+small-returns-2 : (t : ℕ) → small-lts.Need-returns-2 (small-claims t) (small-at t) small.Post
 small-returns-2 t c =
-    let w : small-lts.After-check-in (small-below t, small.Post, check-in-reads.Asked, check-in-reads.Learnt) (small-at t) small.Post = search in
+    let w : small-lts.After-check-in (small-claims t) (small-at t) small.Post = search in
     w .check-in .ensures .answered
 
 pub +small-spec : {M : Type 1} → statement M
-+small-spec = close μ-small λ t. small-lts.spec (
-  small-below t,
-  small.Post,
-  check-in-reads.Asked,
-  check-in-reads.Learnt,
-)
-    (small-at t)
-    small.Post
-    (small-small-requires t)
-    (small-same-length t)
-    (small-same-length-2 t)
-    (small-returns t)
-    (small-slice-aggregate-check-in t)
-    (small-slice-aggregate-check-in-2 t)
-    (small-check-in-requires t)
-    (small-same-length-3 t)
-    (small-same-length-4 t)
-    (small-returns-2 t)
++small-spec =
+    close μ-small λ t. small-lts.spec (small-claims t) (small-at t) small.Post (small-small-requires t) (λ c. search) (λ c. search)
+    (small-returns t) (λ c. search needs) (λ c. search needs) (λ c κs. search needs) (λ c. search) (λ c. search) (small-returns-2 t)

@@ -1,5 +1,3 @@
-use native.Mathlib.Omega.{arith}
-use Rattle.load.proofs.Laws.{zeros-long}
 use borrow.Author.Needs.{needs}
 use Rattle.valid_check.proofs.attempt.check.Statement.{statement}
 use Rattle.valid_check.proofs.attempt.check.Tie as tie
@@ -11,5 +9,6 @@ returns-2 c =
 
 pub check-spec : {M : Type 1} → statement M
 check-spec =
-    tie.close
-    (tie.spec (λ c. search needs) (λ c. search needs) (λ c κs. search needs) (λ c. search needs) (λ c. search needs) (λ c. search needs) (λ c κs. search needs) returns-2 (λ c. search needs) (λ c. search needs) (λ c κs. search needs) (λ c. search needs))
+    tie.close (tie.spec (λ c. search needs) (λ c. search needs) (λ c κs. search needs) (λ c. search needs) (λ c. search needs)
+    (λ c. search needs) (λ c κs. search needs) returns-2 (λ c. search needs) (λ c. search needs) (λ c κs. search needs)
+    (λ c. search needs))

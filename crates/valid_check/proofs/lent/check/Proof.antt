@@ -44,5 +44,5 @@ returns-3 c =
 
 pub check-spec : {M : Type 1} → statement M
 check-spec =
-    tie.close
-    (tie.spec (λ c κs. search needs) returns check-in-requires (λ c. search) (λ c. search) (λ c. search) (λ c. search) returns-2 (λ c. search) (λ c. search) (λ c. search) (λ c. search) returns-3)
+    tie.close (tie.spec (λ c κs. search needs) returns check-in-requires (λ c. search) (λ c. search) (λ c. search) (λ c. search) returns-2
+    (λ c. search) (λ c. search) (λ c. search) (λ c. search) returns-3)

@@ -5,24 +5,16 @@ use Rattle.valid_judge.proofs.heap.Laws.{past-link}
 use borrow.Author.Needs.{needs}
 use Rattle.valid_judge.proofs.heap.link_at.Statement.{statement}
 use Rattle.valid_judge.proofs.heap.link_at.Tie as tie
-use Rattle.valid_judge.proofs.heap.link_at.Reads as reads
-use Rattle.valid_judge.proofs.heap.link_at.Lts as lts
-use Rattle.valid_context.proofs.register.Reads as register-reads
-
-register-requires : tie.Need-register-requires
-register-requires c κs = search needs
-
-add-if1 : tie.Need-add-if1
-add-if1 c = omega (arith, (c .before .before .pre))
 
 returns : tie.Need-returns
-returns c = (λ rows parts r. (c .before .register) .ensures .0 (typesIn rows parts ((c .before .before .before .args) .n)), omega (arith, (c .if1) .taken))
-
-add-result : tie.Need-add-result
-add-result c = omega (arith, (c .before .before .before .pre))
+returns c =
+    let r2 : tie.After-register = search in
+    (λ rows parts r. (r2 .register) .ensures .0 (typesIn rows parts _), omega arith)
 
 returns-2 : tie.Need-returns-2
-returns-2 c = (λ rows parts r. (c .before .register) .ensures .0 (typesIn rows parts ((c .before .before .before .args) .n)) ∙ past-link rows parts ((c .before .before .before .args) .n) ((c .before .register) .result) r (omega (arith, (c .if1) .left)), omega arith)
+returns-2 c =
+    let r2 : tie.After-register = search in
+    (λ rows parts r. (r2 .register) .ensures .0 (typesIn rows parts _) ∙ past-link rows parts _ _ r (omega arith), omega arith)
 
 pub link-at-spec : {M : Type 1} → statement M
-link-at-spec = tie.close (tie.spec register-requires add-if1 returns add-result returns-2)
+link-at-spec = tie.close (tie.spec (λ c κs. search) (λ c. search needs) returns (λ c. search needs) returns-2)

@@ -1,15 +1,14 @@
 use Prim.Native.Nat.{ℕ}
 use mathlib.Core.Path.{_∙_, ap, sym}
 use mathlib.Core.Bool.{true, false}
-use Rattle.syntax.proofs.Least.{least}
 use Rattle.types.specs.Equal.{same}
 use Rattle.valid_context.specs.Context.{regsOf}
 use Rattle.valid_context.specs.Told.{answer}
-use Rattle.valid_typing.proofs.Judging.{ifNone, known-told, halt-stops, halt-goes}
+use Rattle.valid_typing.proofs.Judging.{known-told, halt-stops, halt-goes}
 use Rattle.valid_judge.specs.heap.Forms.{held}
 use Rattle.valid_judge.proofs.heap.Laws.{least-known, given-same}
-use Rattle.image.specs.Sections.{part, sharedSection, slotSection}
-use Rattle.valid_typing.specs.Image.{typesAt, lettersIn}
+use Rattle.image.specs.Sections.{part}
+use Rattle.valid_typing.specs.Image.{typesAt}
 use borrow.Author.Needs.{needs}
 use Rattle.valid_judge.proofs.heap.stop.Statement.{statement}
 use Rattle.valid_judge.proofs.heap.stop.Tie as tie
@@ -26,16 +25,6 @@ formed-row-of t = search
 abbrev start-of : tie.After-least → tie.Start
 start-of t = search
 
-link-at-requires : tie.Need-link-at-requires
-link-at-requires c κs =
-    let s : tie.Start = search in
-    s .pre .1 .few
-
-formed-row-requires : tie.Need-formed-row-requires
-formed-row-requires c κs =
-    let s : tie.Start = search in
-    (s .pre .0, s .pre .1 .few, s .pre .2)
-
 returns : tie.Need-returns
 returns c =
     let s : tie.Start = search in
@@ -45,19 +34,14 @@ returns c =
     let t-link-at : tie.After-link-at = search in
     let i1 : tie.Then1 = search in
     let t-if-none : tie.After-if-none = search in
-    let t-least : tie.After-least = search in
-    λ P b e. halt-stops P (lettersIn (a .p) l (a .w)) (held b (regsOf (typesAt (a .p) l (a .n)) (a .regs .now))) (a .t) (t-formed-row .formed-row .result) (ifNone 9 (t-link-at .link-at .result)) _ (t-formed-row .formed-row .ensures P e) (known-told P (lettersIn (a .p) l (a .w)) (typesAt (a .p) l (a .n)) (regsOf (typesAt (a .p) l (a .n)) (a .regs .now)) 0 (t-link-at .link-at .result) (t-link-at .link-at .ensures .0 (sharedSection (a .p) l) (slotSection (a .p) l) (s .pre .1))) (λ z. i1 .if1 .taken ((least-known (t-formed-row .formed-row .result) 9 (t-link-at .link-at .result) (t-if-none .if-none .ensures) (t-least .least .ensures)) ∙ z)) ∙ ap (λ (k : ℕ). answer k (held b (regsOf (typesAt (a .p) l (a .n)) (a .regs .now)))) (sym (least-known (t-formed-row .formed-row .result) 9 (t-link-at .link-at .result) (t-if-none .if-none .ensures) (t-least .least .ensures)))
-
-given-row-requires : tie.Need-given-row-requires
-given-row-requires c κs =
-    let s : tie.Start = search in
-    s .pre .1 .few
+    λ P b e. halt-stops P _ (held b _) _ _ _ _ (t-formed-row .formed-row .ensures P e) (known-told P _ _ _ 0 _
+    (t-link-at .link-at .ensures .0 _ _ (search))) (λ z. i1 .if1 .taken ((least-known _ 9 _ (t-if-none .if-none .ensures) (search)) ∙ z))
+    ∙ ap (λ (k : ℕ). answer k (held b (regsOf (typesAt (a .p) l (a .n)) (a .regs .now))))
+    (sym (least-known _ 9 _ (t-if-none .if-none .ensures) (search)))
 
 same-link-requires : tie.Need-same-link-requires
 unfolding part
-same-link-requires c κs =
-    let s : tie.Start = search in
-    (s .pre .1, s .pre .3)
+same-link-requires c κs = (search, search)
 
 returns-2 : tie.Need-returns-2
 unfolding part
@@ -68,12 +52,13 @@ returns-2 c =
     let i1 : tie.Else1 = search in
     let t-least : tie.After-least = search in
     let s = start-of t-least in
-    let a = s .args in
-    let l = a .image .now in
     let t-formed-row = formed-row-of t-least in
     let t-link-at = link-at-of t-least in
     let t-if-none = if-none-of t-least in
-    λ P b e. halt-goes P (lettersIn (a .p) l (a .w)) (held b (regsOf (typesAt (a .p) l (a .n)) (a .regs .now))) (a .t) (t-formed-row .formed-row .result) (ifNone 9 (t-link-at .link-at .result)) _ true (t-formed-row .formed-row .ensures P e) (known-told P (lettersIn (a .p) l (a .w)) (typesAt (a .p) l (a .n)) (regsOf (typesAt (a .p) l (a .n)) (a .regs .now)) 0 (t-link-at .link-at .result) (t-link-at .link-at .ensures .0 (sharedSection (a .p) l) (slotSection (a .p) l) (s .pre .1))) (sym (least-known (t-formed-row .formed-row .result) 9 (t-link-at .link-at .result) (t-if-none .if-none .ensures) (t-least .least .ensures)) ∙ i1 .if1 .left) (sym (i2 .if2 .taken) ∙ t-same-link .same-link .ensures ∙ ap (same _) (given-same (sharedSection (a .p) l) (slotSection (a .p) l) (a .n) P (a .t) (t-given-row .given-row .ensures .0) e (s .pre .1)))
+    λ P b e. halt-goes P _ (held b _) _ _ _ _ true (t-formed-row .formed-row .ensures P e) (known-told P _ _ _ 0 _
+    (t-link-at .link-at .ensures .0 _ _ (search))) (sym (least-known _ 9 _ (t-if-none .if-none .ensures) (search)) ∙ i1 .if1 .left)
+    (sym (i2 .if2 .taken) ∙ t-same-link .same-link .ensures ∙ ap (same _) (given-same _ _ _ P _ (t-given-row .given-row .ensures .0) e
+    (s .pre .ready)))
 
 returns-3 : tie.Need-returns-3
 unfolding part
@@ -84,14 +69,16 @@ returns-3 c =
     let i1 : tie.Else1 = search in
     let t-least : tie.After-least = search in
     let s = start-of t-least in
-    let a = s .args in
-    let l = a .image .now in
     let t-formed-row = formed-row-of t-least in
     let t-link-at = link-at-of t-least in
     let t-if-none = if-none-of t-least in
-    λ P b e. halt-goes P (lettersIn (a .p) l (a .w)) (held b (regsOf (typesAt (a .p) l (a .n)) (a .regs .now))) (a .t) (t-formed-row .formed-row .result) (ifNone 9 (t-link-at .link-at .result)) _ false (t-formed-row .formed-row .ensures P e) (known-told P (lettersIn (a .p) l (a .w)) (typesAt (a .p) l (a .n)) (regsOf (typesAt (a .p) l (a .n)) (a .regs .now)) 0 (t-link-at .link-at .result) (t-link-at .link-at .ensures .0 (sharedSection (a .p) l) (slotSection (a .p) l) (s .pre .1))) (sym (least-known (t-formed-row .formed-row .result) 9 (t-link-at .link-at .result) (t-if-none .if-none .ensures) (t-least .least .ensures)) ∙ i1 .if1 .left) (sym (i2 .if2 .left) ∙ t-same-link .same-link .ensures ∙ ap (same _) (given-same (sharedSection (a .p) l) (slotSection (a .p) l) (a .n) P (a .t) (t-given-row .given-row .ensures .0) e (s .pre .1)))
+    λ P b e. halt-goes P _ (held b _) _ _ _ _ false (t-formed-row .formed-row .ensures P e) (known-told P _ _ _ 0 _
+    (t-link-at .link-at .ensures .0 _ _ (search))) (sym (least-known _ 9 _ (t-if-none .if-none .ensures) (search)) ∙ i1 .if1 .left)
+    (sym (i2 .if2 .left) ∙ t-same-link .same-link .ensures ∙ ap (same _) (given-same _ _ _ P _ (t-given-row .given-row .ensures .0) e
+    (s .pre .ready)))
 
 pub stop-spec : {M : Type 1} → statement M
 stop-spec =
-    tie.close
-    (tie.spec link-at-requires formed-row-requires (λ c κs. search needs) (λ c κs. search needs) returns given-row-requires (λ c. search needs) (λ c. search needs) (λ c. search needs) (λ c. search needs) (λ c. search needs) (λ c. search needs) (λ c. search needs) (λ c. search needs) same-link-requires (λ c. search needs) returns-2 (λ c. search needs) returns-3)
+    tie.close (tie.spec (λ c κs. search) (λ c κs. search) (λ c κs. search needs) (λ c κs. search needs) returns (λ c κs. search)
+    (λ c. search needs) (λ c. search needs) (λ c. search needs) (λ c. search needs) (λ c. search needs) (λ c. search needs)
+    (λ c. search needs) (λ c. search needs) same-link-requires (λ c. search needs) returns-2 (λ c. search needs) returns-3)

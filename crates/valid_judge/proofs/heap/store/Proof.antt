@@ -1,14 +1,10 @@
-use native.Mathlib.Omega.{arith}
 use Prim.Native.Nat.{ℕ, _-_}
-use mathlib.Core.Path.{_≡_, _∙_, ap, sym}
-use mathlib.Core.Bool.{Bool, true, false}
-use Rattle.syntax.specs.Syntax.{value}
-use Rattle.syntax.proofs.Least.{least}
-use Rattle.types.specs.Rows.{typeAt}
+use mathlib.Core.Path.{_∙_, ap, sym}
+use mathlib.Core.Bool.{true, false}
 use Rattle.valid_context.specs.Context.{regsOf}
 use Rattle.valid_context.specs.Told.{answer}
 use Rattle.valid_typing.specs.Typing.{typesIn}
-use Rattle.valid_typing.proofs.Judging.{ifNone, known-told, st-stops, st-goes}
+use Rattle.valid_typing.proofs.Judging.{known-told, st-stops, st-goes}
 use Rattle.valid_judge.specs.heap.Forms.{held}
 use Rattle.valid_judge.proofs.heap.Laws.{least-known}
 use borrow.Author.Needs.{needs}
@@ -33,16 +29,6 @@ least-of t = search
 abbrev else1-of : tie.After-same-link → tie.Else1
 else1-of t = search
 
-component-requires : tie.Need-component-requires
-component-requires c κs =
-    let s : tie.Start = search in
-    (s .pre .0)
-
-link-at-requires : tie.Need-link-at-requires
-link-at-requires c κs =
-    let s : tie.Start = search in
-    (s .pre .0) .few
-
 returns : tie.Need-returns
 returns c =
     let s2 : tie.Start = search in
@@ -50,13 +36,10 @@ returns c =
     let linka : tie.After-link-at = search in
     let if2 : tie.Then1 = search in
     let ifnon : tie.After-if-none = search in
-    let least2 : tie.After-least = search in
-    λ Δ P s e. st-stops P Δ (held s (regsOf (typesIn ((s2 .args) .rows .now) ((s2 .args) .parts .now) ((s2 .args) .n)) ((s2 .args) .regs .now))) ((s2 .args) .d) ((s2 .args) .i) ((s2 .args) .s) ((compo .component) .result .fault) (ifNone 9 ((linka .link-at) .result)) _ _ ((compo .component) .ensures .0 P Δ) (known-told P Δ (typesIn ((s2 .args) .rows .now) ((s2 .args) .parts .now) ((s2 .args) .n)) (regsOf (typesIn ((s2 .args) .rows .now) ((s2 .args) .parts .now) ((s2 .args) .n)) ((s2 .args) .regs .now)) ((s2 .args) .s) ((linka .link-at) .result) ((linka .link-at) .ensures .0 ((s2 .args) .rows .now) ((s2 .args) .parts .now) (s2 .pre .0))) (λ z. (if2 .if1) .taken ((least-known ((compo .component) .result .fault) 9 ((linka .link-at) .result) ((ifnon .if-none) .ensures) ((least2 .least) .ensures)) ∙ z)) ∙ ap (λ (k : ℕ). answer k (held s (regsOf (typesIn ((s2 .args) .rows .now) ((s2 .args) .parts .now) ((s2 .args) .n)) ((s2 .args) .regs .now)))) (sym (least-known ((compo .component) .result .fault) 9 ((linka .link-at) .result) ((ifnon .if-none) .ensures) ((least2 .least) .ensures)))
-
-same-link-requires : tie.Need-same-link-requires
-same-link-requires c κs =
-    let s : tie.Start = search in
-    s .pre
+    λ Δ P s e. st-stops P Δ (held s _) _ _ _ _ _ _ _ (compo .component .ensures .0 P Δ) (known-told P Δ _ _ _ _
+    (linka .link-at .ensures .0 _ _ (s2 .pre .0))) (λ z. (if2 .if1) .taken ((least-known _ 9 _ (ifnon .if-none .ensures) (search)) ∙ z))
+    ∙ ap (λ (k : ℕ). answer k (held s (regsOf (typesIn (s2 .args .rows .now) (s2 .args .parts .now) (s2 .args .n))
+    (s2 .args .regs .now)))) (sym (least-known _ 9 _ (ifnon .if-none .ensures) (search)))
 
 returns-2 : tie.Need-returns-2
 returns-2 c =
@@ -66,9 +49,8 @@ returns-2 c =
     let compo = component-of samel in
     let linka = link-at-of samel in
     let ifnon = if-none-of samel in
-    let least2 = least-of samel in
     let if3 = else1-of samel in
-    λ Δ P s e. st-goes P Δ (held s (regsOf (typesIn ((s2 .args) .rows .now) ((s2 .args) .parts .now) ((s2 .args) .n)) ((s2 .args) .regs .now))) ((s2 .args) .d) ((s2 .args) .i) ((s2 .args) .s) ((compo .component) .result .fault) (ifNone 9 ((linka .link-at) .result)) _ _ true ((compo .component) .ensures .0 P Δ) (known-told P Δ (typesIn ((s2 .args) .rows .now) ((s2 .args) .parts .now) ((s2 .args) .n)) (regsOf (typesIn ((s2 .args) .rows .now) ((s2 .args) .parts .now) ((s2 .args) .n)) ((s2 .args) .regs .now)) ((s2 .args) .s) ((linka .link-at) .result) ((linka .link-at) .ensures .0 ((s2 .args) .rows .now) ((s2 .args) .parts .now) (s2 .pre .0))) (sym (least-known ((compo .component) .result .fault) 9 ((linka .link-at) .result) ((ifnon .if-none) .ensures) ((least2 .least) .ensures)) ∙ (if3 .if1) .left) (sym ((if4 .if2) .taken) ∙ (samel .same-link) .ensures)
+    λ Δ P s e. st-goes P Δ (held s _) _ _ _ _ _ _ _ true (compo .component .ensures .0 P Δ) (known-told P Δ _ _ _ _ (linka .link-at .ensures .0 _ _ (s2 .pre .0))) (sym (least-known _ 9 _ (ifnon .if-none .ensures) (search)) ∙ if3 .if1 .left) (sym (if4 .if2 .taken) ∙ samel .same-link .ensures)
 
 returns-3 : tie.Need-returns-3
 returns-3 c =
@@ -78,11 +60,10 @@ returns-3 c =
     let compo = component-of samel in
     let linka = link-at-of samel in
     let ifnon = if-none-of samel in
-    let least2 = least-of samel in
     let if3 = else1-of samel in
-    λ Δ P s e. st-goes P Δ (held s (regsOf (typesIn ((s2 .args) .rows .now) ((s2 .args) .parts .now) ((s2 .args) .n)) ((s2 .args) .regs .now))) ((s2 .args) .d) ((s2 .args) .i) ((s2 .args) .s) ((compo .component) .result .fault) (ifNone 9 ((linka .link-at) .result)) _ _ false ((compo .component) .ensures .0 P Δ) (known-told P Δ (typesIn ((s2 .args) .rows .now) ((s2 .args) .parts .now) ((s2 .args) .n)) (regsOf (typesIn ((s2 .args) .rows .now) ((s2 .args) .parts .now) ((s2 .args) .n)) ((s2 .args) .regs .now)) ((s2 .args) .s) ((linka .link-at) .result) ((linka .link-at) .ensures .0 ((s2 .args) .rows .now) ((s2 .args) .parts .now) (s2 .pre .0))) (sym (least-known ((compo .component) .result .fault) 9 ((linka .link-at) .result) ((ifnon .if-none) .ensures) ((least2 .least) .ensures)) ∙ (if3 .if1) .left) (sym ((if4 .if2) .left) ∙ (samel .same-link) .ensures)
+    λ Δ P s e. st-goes P Δ (held s _) _ _ _ _ _ _ _ false (compo .component .ensures .0 P Δ) (known-told P Δ _ _ _ _ (linka .link-at .ensures .0 _ _ (s2 .pre .0))) (sym (least-known _ 9 _ (ifnon .if-none .ensures) (search)) ∙ if3 .if1 .left) (sym (if4 .if2 .left) ∙ samel .same-link .ensures)
 
 pub store-spec : {M : Type 1} → statement M
 store-spec =
-    tie.close
-    (tie.spec component-requires link-at-requires (λ c κs. search needs) (λ c κs. search needs) returns same-link-requires (λ c. search needs) returns-2 (λ c. search needs) returns-3)
+    tie.close (tie.spec (λ c κs. search) (λ c κs. search) (λ c κs. search needs) (λ c κs. search needs) returns (λ c κs. search)
+    (λ c. search needs) returns-2 (λ c. search needs) returns-3)

@@ -34,59 +34,44 @@ compute-requires : tie.Need-compute-requires
 unfolding part
 compute-requires c κs =
     let s : tie.Start = search in
-    let a = s .args in
-    let l = a .image .now in
-    let t-entry3 : tie.After-entry3 = search in
-    let i1 : tie.Then1 = search in
-    (s .pre .0, s .pre .1, s .pre .2, short-aop (instrSection (a .p) l) (operandsIn (a .p) l (a .literals .now)) (a .x .at) (a .x .code) (s .pre .3) (s .pre .6) (t-entry3 .entry3 .ensures .0) (i1 .if1 .taken), omega (arith, t-entry3 .entry3 .ensures .1), s .pre .4, s .pre .5)
+    (search, short-aop _ _ _ _ (s .pre .1) (s .pre .3 .code) (search) (search), omega arith, search)
 
 returns : tie.Need-returns
 unfolding part
 returns c =
     let t-compute : tie.After-compute = search in
-    let i1 : tie.Then1 = search in
     let t-entry3 : tie.After-entry3 = search in
     let s = start-of t-entry3 in
-    let a = s .args in
-    let l = a .image .now in
-    let t-entry = entry-of t-entry3 in
-    let t-entry2 = entry2-of t-entry3 in
-    λ P b h. told-aop (instrSection (a .p) l) (operandsIn (a .p) l (a .literals .now)) (a .x .at) (a .x .code) (s .pre .6) (t-entry3 .entry3 .ensures .0) (t-entry .entry .ensures .0) P (lettersIn (a .p) l (a .w)) (held b (regsOf (typesAt (a .p) l (a .c .rows)) (a .regs .now))) _ _ (t-entry2 .entry2 .ensures .0) (i1 .if1 .taken) (λ o. t-compute .compute .ensures o P b h)
+    λ P b h. told-aop _ _ _ _ (s .pre .3 .code) (search) (search) P _ (held b _) _ _ (search) (search) (λ o. t-compute .compute .ensures o P b h)
 
 move-to-requires : tie.Need-move-to-requires
 unfolding part
 move-to-requires c κs =
     let s : tie.Start = search in
-    let a = s .args in
-    let l = a .image .now in
-    let t-entry3 : tie.After-entry3 = search in
-    let i2 : tie.Then2 = search in
-    (s .pre .0, s .pre .1, s .pre .2, short-mov (instrSection (a .p) l) (operandsIn (a .p) l (a .literals .now)) (a .x .at) (a .x .code) (s .pre .3) (s .pre .6) (t-entry3 .entry3 .ensures .0) (i2 .if2 .taken), omega (arith, t-entry3 .entry3 .ensures .1), s .pre .4, s .pre .5)
+    (search, short-mov _ _ _ _ (s .pre .1) (s .pre .3 .code) (search) (search), omega arith, search)
 
 returns-2 : tie.Need-returns-2
 unfolding part
 returns-2 c =
     let t-move-to : tie.After-move-to = search in
-    let i2 : tie.Then2 = search in
     let t-entry3 : tie.After-entry3 = search in
     let s = start-of t-entry3 in
     let a = s .args in
     let l = a .image .now in
     let t-entry = entry-of t-entry3 in
-    λ P b h. ap (λ (x : Instr). toldOf (judge P (lettersIn (a .p) l (a .w)) (held b (regsOf (typesAt (a .p) l (a .c .rows)) (a .regs .now))) x)) (is-mov (instrSection (a .p) l) (operandsIn (a .p) l (a .literals .now)) (a .x .at) (a .x .code) (s .pre .6) (t-entry3 .entry3 .ensures .0) (t-entry .entry .ensures .0) (i2 .if2 .taken)) ∙ t-move-to .move-to .ensures P b h
+    λ P b h. ap (λ (x : Instr). toldOf (judge P (lettersIn (a .p) l (a .w)) (held b (regsOf (typesAt (a .p) l (a .c .rows))
+    (a .regs .now))) x)) (is-mov (instrSection (a .p) l) (operandsIn (a .p) l (a .literals .now)) (a .x .at) _ (s .pre .3 .code)
+    (t-entry3 .entry3 .ensures .0) (t-entry .entry .ensures .0) (search)) ∙ t-move-to .move-to .ensures P b h
 
 make-tuple-requires : tie.Need-make-tuple-requires
 unfolding part
 make-tuple-requires c κs =
     let s : tie.Start = search in
-    let a = s .args in
-    let l = a .image .now in
     let t-entry3 : tie.After-entry3 = search in
     let t-entry4 : tie.After-entry4 = search in
-    let i1 : tie.Else1 = search in
     let i2 : tie.Else2 = search in
-    let t = short-malloc (instrSection (a .p) l) (operandsIn (a .p) l (a .literals .now)) (a .x .at) (a .x .code) (s .pre .3) (s .pre .6) (t-entry3 .entry3 .ensures .0) (t-entry4 .entry4 .ensures .0) (s .pre .8 (omega (arith, s .pre .7 (omega (arith, i1 .if1 .left)), i2 .if2 .left))) in
-    (s .pre .0, s .pre .1, s .pre .2, t .0, omega (arith, t-entry3 .entry3 .ensures .1, t-entry4 .entry4 .ensures .1), t .1, s .pre .4, s .pre .5)
+    let t = short-malloc _ _ _ _ (s .pre .1) (search) (t-entry3 .entry3 .ensures .0) (t-entry4 .entry4 .ensures .0) (s .pre .3 .malloc (omega (arith, s .pre .3 .no-branch (omega arith), i2 .if2 .left))) in
+    (search, record { short = t .0; last = omega arith; few = t .1 }, search)
 
 returns-3 : tie.Need-returns-3
 unfolding part
@@ -99,11 +84,15 @@ returns-3 c =
     let l = a .image .now in
     let t-entry = entry-of t-entry3 in
     let t-entry2 = entry2-of t-entry3 in
-    let i1 = else1-of t-entry4 in
     let i2 = else2-of t-entry4 in
-    λ P b h. ap (λ (x : Instr). toldOf (judge P (lettersIn (a .p) l (a .w)) (held b (regsOf (typesAt (a .p) l (a .c .rows)) (a .regs .now))) x)) (is-malloc (instrSection (a .p) l) (operandsIn (a .p) l (a .literals .now)) (a .x .at) (a .x .code) (s .pre .6) (t-entry3 .entry3 .ensures .0) (t-entry .entry .ensures .0) (t-entry2 .entry2 .ensures .0) (t-entry4 .entry4 .ensures .0) (s .pre .8 (omega (arith, s .pre .7 (omega (arith, i1 .if1 .left)), i2 .if2 .left)))) ∙ t-make-tuple .make-tuple .ensures P b h
+    λ P b h. ap (λ (x : Instr). toldOf (judge P (lettersIn (a .p) l (a .w)) (held b (regsOf (typesAt (a .p) l (a .c .rows))
+    (a .regs .now))) x)) (is-malloc (instrSection (a .p) l) (operandsIn (a .p) l (a .literals .now)) (a .x .at) _ (s .pre .3 .code)
+    (t-entry3 .entry3 .ensures .0) (t-entry .entry .ensures .0) (t-entry2 .entry2 .ensures .0) (t-entry4 .entry4 .ensures .0)
+    (s .pre .3 .malloc (omega (arith, s .pre .3 .no-branch (omega arith), i2 .if2 .left)))) ∙ t-make-tuple .make-tuple .ensures P b h
 
 pub value-form-spec : {M : Type 1} → statement M
 value-form-spec =
-    tie.close
-    (tie.spec (λ c. search needs) (λ c. search needs) (λ c. search needs) (λ c. search needs) (λ c κs. search needs) (λ c κs. search needs) (λ c κs. search needs) compute-requires (λ c. search needs) (λ c. search needs) returns move-to-requires (λ c. search needs) (λ c. search needs) returns-2 (λ c κs. search needs) make-tuple-requires (λ c. search needs) (λ c. search needs) returns-3)
+    tie.close (tie.spec (λ c. search needs) (λ c. search needs) (λ c. search needs) (λ c. search needs) (λ c κs. search needs)
+    (λ c κs. search needs) (λ c κs. search needs) compute-requires (λ c. search needs) (λ c. search needs) returns move-to-requires
+    (λ c. search needs) (λ c. search needs) returns-2 (λ c κs. search needs) make-tuple-requires (λ c. search needs) (λ c. search needs)
+    returns-3)

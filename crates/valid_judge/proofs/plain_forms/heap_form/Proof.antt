@@ -23,9 +23,7 @@ entry2-of t = search
 
 load-requires : tie.Need-load-requires
 unfolding part
-load-requires c κs =
-    let s : tie.Start = search in
-    (s .pre .1, s .pre .3)
+load-requires c κs = (search, search)
 
 returns : tie.Need-returns
 unfolding part
@@ -36,15 +34,14 @@ returns c =
     let t-entry : tie.After-entry = search in
     let t-entry2 : tie.After-entry2 = search in
     let t-entry3 : tie.After-entry3 = search in
-    let i1 : tie.Then1 = search in
     let t-load : tie.After-load = search in
-    λ ω P z e. ap (λ (x : Instr). toldOf (judge P (lettersIn (a .p) l (a .w)) (held z (regsOf (typesAt (a .p) l (a .n)) (a .regs .now))) x)) (is-ld (instrSection (a .p) l) ω (a .x .at) (a .x .code) (s .pre .4) (t-entry .entry .ensures .0) (t-entry2 .entry2 .ensures .0) (t-entry3 .entry3 .ensures .0) (i1 .if1 .taken)) ∙ t-load .load .ensures (lettersIn (a .p) l (a .w)) P z e
+    λ ω P z e. ap (λ (x : Instr). toldOf (judge P (lettersIn (a .p) l (a .w)) (held z (regsOf (typesAt (a .p) l (a .n)) (a .regs .now)))
+    x)) (is-ld (instrSection (a .p) l) ω (a .x .at) _ (s .pre .2 .code) (t-entry .entry .ensures .0) (t-entry2 .entry2 .ensures .0)
+    (t-entry3 .entry3 .ensures .0) (search)) ∙ t-load .load .ensures _ P z e
 
 store-requires : tie.Need-store-requires
 unfolding part
-store-requires c κs =
-    let s : tie.Start = search in
-    (s .pre .1, s .pre .7)
+store-requires c κs = (search, search)
 
 returns-2 : tie.Need-returns-2
 unfolding part
@@ -57,12 +54,9 @@ returns-2 c =
     let t-entry2 = entry2-of t-entry3 in
     let a = s .args in
     let l = a .image .now in
-    λ ω P z e. ap (λ (x : Instr). toldOf (judge P (lettersIn (a .p) l (a .w)) (held z (regsOf (typesAt (a .p) l (a .n)) (a .regs .now))) x)) (is-st (instrSection (a .p) l) ω (a .x .at) (a .x .code) (s .pre .4) (t-entry .entry .ensures .0) (t-entry2 .entry2 .ensures .0) (t-entry3 .entry3 .ensures .0) (i2 .if2 .taken)) ∙ t-store .store .ensures (lettersIn (a .p) l (a .w)) P z e
-
-stop-requires : tie.Need-stop-requires
-stop-requires c κs =
-    let s : tie.Start = search in
-    (s .pre .0, s .pre .1, s .pre .2, s .pre .7)
+    λ ω P z e. ap (λ (x : Instr). toldOf (judge P (lettersIn (a .p) l (a .w)) (held z (regsOf (typesAt (a .p) l (a .n)) (a .regs .now)))
+    x)) (is-st (instrSection (a .p) l) ω (a .x .at) _ (s .pre .2 .code) (t-entry .entry .ensures .0) (t-entry2 .entry2 .ensures .0)
+    (t-entry3 .entry3 .ensures .0) (i2 .if2 .taken)) ∙ t-store .store .ensures _ P z e
 
 returns-3 : tie.Need-returns-3
 unfolding part
@@ -75,9 +69,13 @@ returns-3 c =
     let t-entry = entry-of t-via in
     let a = s .args in
     let l = a .image .now in
-    λ ω P z e. ap (λ (x : Instr). toldOf (judge P (lettersIn (a .p) l (a .w)) (held z (regsOf (typesAt (a .p) l (a .n)) (a .regs .now))) x)) (is-halt (instrSection (a .p) l) ω (a .x .at) (a .x .code) (s .pre .4) (t-entry .entry .ensures .0) (s .pre .5 (omega (arith, s .pre .6, i1 .if1 .left, i2 .if2 .left)))) ∙ t-stop .stop .ensures P z e
+    λ ω P z e. ap (λ (x : Instr). toldOf (judge P (lettersIn (a .p) l (a .w)) (held z (regsOf (typesAt (a .p) l (a .n)) (a .regs .now)))
+    x)) (is-halt (instrSection (a .p) l) ω (a .x .at) _ (s .pre .2 .code) (t-entry .entry .ensures .0)
+    (s .pre .2 .halt (omega (arith, s .pre .2 .from, i1 .if1 .left, i2 .if2 .left)))) ∙ t-stop .stop .ensures P z e
 
 pub heap-form-spec : {M : Type 1} → statement M
 heap-form-spec =
-    tie.close
-    (tie.spec (λ c. search needs) (λ c. search needs) (λ c. search needs) (λ c. search needs) (λ c. search needs) (λ c. search needs) (λ c. search needs) (λ c. search needs) (λ c. search needs) (λ c. search needs) (λ c. search needs) (λ c. search needs) (λ c κs. search needs) (λ c κs. search needs) (λ c κs. search needs) load-requires (λ c. search needs) returns store-requires (λ c. search needs) (λ c. search needs) returns-2 stop-requires (λ c. search needs) (λ c. search needs) returns-3)
+    tie.close (tie.spec (λ c. search needs) (λ c. search needs) (λ c. search needs) (λ c. search needs) (λ c. search needs)
+    (λ c. search needs) (λ c. search needs) (λ c. search needs) (λ c. search needs) (λ c. search needs) (λ c. search needs)
+    (λ c. search needs) (λ c κs. search needs) (λ c κs. search needs) (λ c κs. search needs) load-requires (λ c. search needs) returns
+    store-requires (λ c. search needs) (λ c. search needs) returns-2 (λ c κs. search) (λ c. search needs) (λ c. search needs) returns-3)

@@ -5,7 +5,7 @@ use Rattle.valid.specs.PassThree.{judge}
 use Rattle.valid_context.specs.Context.{contextOf}
 use Rattle.valid_context.specs.Told.{toldOf}
 use Rattle.valid_judge.proofs.codes.Laws.{is-sld, is-sst, is-slp, is-ssp}
-use Rattle.image.specs.Sections.{part, instrSection, sharedSection, slotSection}
+use Rattle.image.specs.Sections.{part, instrSection}
 use Rattle.valid_typing.specs.Image.{typesAt, lettersIn}
 use borrow.Author.Needs.{needs}
 use Rattle.valid_judge.proofs.plain_forms.item_form.Statement.{statement}
@@ -32,45 +32,35 @@ else3-of t = search
 abbrev entry3-of : tie.After-entry4 → tie.After-entry3
 entry3-of t = search
 
-load-item-requires : tie.Need-load-item-requires
-load-item-requires c κs =
-    let s : tie.Start = search in
-    s .pre .4
-
 returns : tie.Need-returns
 unfolding part
 returns c =
     let t-load-item : tie.After-load-item = search in
-    let i1 : tie.Then1 = search in
     let t-entry2 : tie.After-entry2 = search in
     let s = start-of t-entry2 in
     let a = s .args in
     let l = a .image .now in
     let t-entry = entry-of t-entry2 in
-    λ ω P e. ap (λ (x : Instr). toldOf (judge P (lettersIn (a .p) l (a .w)) (contextOf (typesAt (a .p) l (a .n)) (a .regs .now) (a .sp .now) (a .m)) x)) (is-sld (instrSection (a .p) l) ω (a .x .at) (a .x .code) (s .pre .7) (t-entry .entry .ensures .0) (t-entry2 .entry2 .ensures .0) (i1 .if1 .taken)) ∙ t-load-item .load-item .ensures (typesAt (a .p) l (a .n)) P (lettersIn (a .p) l (a .w))
-
-store-item-requires : tie.Need-store-item-requires
-store-item-requires c κs =
-    let s : tie.Start = search in
-    (s .pre .1 .few, s .pre .5)
+    λ ω P e. ap (λ (x : Instr). toldOf (judge P (lettersIn (a .p) l (a .w)) (contextOf (typesAt (a .p) l (a .n)) (a .regs .now)
+    (a .sp .now) (a .m)) x)) (is-sld (instrSection (a .p) l) ω (a .x .at) _ (s .pre .3 .code) (t-entry .entry .ensures .0)
+    (t-entry2 .entry2 .ensures .0) (search)) ∙ t-load-item .load-item .ensures _ P _
 
 returns-2 : tie.Need-returns-2
 unfolding part
 returns-2 c =
     let t-store-item : tie.After-store-item = search in
-    let i2 : tie.Then2 = search in
     let t-entry2 : tie.After-entry2 = search in
     let s = start-of t-entry2 in
     let a = s .args in
     let l = a .image .now in
     let t-entry = entry-of t-entry2 in
-    λ ω P e. ap (λ (x : Instr). toldOf (judge P (lettersIn (a .p) l (a .w)) (contextOf (typesAt (a .p) l (a .n)) (a .regs .now) (a .sp .now) (a .m)) x)) (is-sst (instrSection (a .p) l) ω (a .x .at) (a .x .code) (s .pre .7) (t-entry .entry .ensures .0) (t-entry2 .entry2 .ensures .0) (i2 .if2 .taken)) ∙ t-store-item .store-item .ensures (sharedSection (a .p) l) (slotSection (a .p) l) (lettersIn (a .p) l (a .w)) (s .pre .1) P e
+    λ ω P e. ap (λ (x : Instr). toldOf (judge P (lettersIn (a .p) l (a .w)) (contextOf (typesAt (a .p) l (a .n)) (a .regs .now)
+    (a .sp .now) (a .m)) x)) (is-sst (instrSection (a .p) l) ω (a .x .at) _ (s .pre .3 .code) (t-entry .entry .ensures .0)
+    (t-entry2 .entry2 .ensures .0) (search)) ∙ t-store-item .store-item .ensures _ _ _ (s .pre .0 .ready) P e
 
 load-through-requires : tie.Need-load-through-requires
 unfolding part
-load-through-requires c κs =
-    let s : tie.Start = search in
-    (s .pre .1, s .pre .4, s .pre .10)
+load-through-requires c κs = (search, search, search)
 
 returns-3 : tie.Need-returns-3
 unfolding part
@@ -83,12 +73,9 @@ returns-3 c =
     let a = s .args in
     let l = a .image .now in
     let t-entry = entry-of t-entry2 in
-    λ ω P e. ap (λ (x : Instr). toldOf (judge P (lettersIn (a .p) l (a .w)) (contextOf (typesAt (a .p) l (a .n)) (a .regs .now) (a .sp .now) (a .m)) x)) (is-slp (instrSection (a .p) l) ω (a .x .at) (a .x .code) (s .pre .7) (t-entry .entry .ensures .0) (t-entry2 .entry2 .ensures .0) (t-entry3 .entry3 .ensures .0) (i3 .if3 .taken)) ∙ t-load-through .load-through .ensures (lettersIn (a .p) l (a .w)) P e
-
-store-through-requires : tie.Need-store-through-requires
-store-through-requires c κs =
-    let s : tie.Start = search in
-    (s .pre .0, s .pre .1, s .pre .2, s .pre .3, s .pre .4, s .pre .5, s .pre .6, s .pre .10)
+    λ ω P e. ap (λ (x : Instr). toldOf (judge P (lettersIn (a .p) l (a .w)) (contextOf (typesAt (a .p) l (a .n)) (a .regs .now)
+    (a .sp .now) (a .m)) x)) (is-slp (instrSection (a .p) l) ω (a .x .at) _ (s .pre .3 .code) (t-entry .entry .ensures .0)
+    (t-entry2 .entry2 .ensures .0) (t-entry3 .entry3 .ensures .0) (i3 .if3 .taken)) ∙ t-load-through .load-through .ensures _ P e
 
 returns-4 : tie.Need-returns-4
 unfolding part
@@ -104,10 +91,17 @@ returns-4 c =
     let i1 = else1-of t-entry3 in
     let i2 = else2-of t-entry3 in
     let i3 = else3-of t-entry4 in
-    let q : a .x .code ≡ 20 = omega (arith, s .pre .8, s .pre .9, i1 .if1 .left, i2 .if2 .left, i3 .if3 .left) in
-    λ ω P e. ap (λ (x : Instr). toldOf (judge P (lettersIn (a .p) l (a .w)) (contextOf (typesAt (a .p) l (a .n)) (a .regs .now) (a .sp .now) (a .m)) x)) (is-ssp (instrSection (a .p) l) ω (a .x .at) (a .x .code) (s .pre .7) (t-entry .entry .ensures .0) (t-entry2 .entry2 .ensures .0) (t-entry3 .entry3 .ensures .0) (t-entry4 .entry4 .ensures .0) q) ∙ t-store-through .store-through .ensures P e
+    let q : a .x .code ≡ 20 = omega (arith, s .pre .3 .from, s .pre .3 .to, i1 .if1 .left, i2 .if2 .left, i3 .if3 .left) in
+    λ ω P e. ap (λ (x : Instr). toldOf (judge P (lettersIn (a .p) l (a .w)) (contextOf (typesAt (a .p) l (a .n)) (a .regs .now)
+    (a .sp .now) (a .m)) x)) (is-ssp (instrSection (a .p) l) ω (a .x .at) _ (s .pre .3 .code) (t-entry .entry .ensures .0)
+    (t-entry2 .entry2 .ensures .0) (t-entry3 .entry3 .ensures .0) (t-entry4 .entry4 .ensures .0) q)
+    ∙ t-store-through .store-through .ensures P e
 
 pub item-form-spec : {M : Type 1} → statement M
 item-form-spec =
-    tie.close
-    (tie.spec (λ c. search needs) (λ c. search needs) (λ c. search needs) (λ c. search needs) (λ c κs. search needs) (λ c κs. search needs) load-item-requires (λ c. search needs) (λ c. search needs) returns store-item-requires (λ c. search needs) (λ c. search needs) returns-2 (λ c κs. search needs) (λ c. search needs) (λ c. search needs) (λ c. search needs) (λ c. search needs) (λ c. search needs) (λ c. search needs) (λ c. search needs) (λ c. search needs) load-through-requires (λ c. search needs) (λ c. search needs) (λ c. search needs) returns-3 (λ c κs. search needs) store-through-requires (λ c. search needs) (λ c. search needs) (λ c. search needs) (λ c. search needs) returns-4)
+    tie.close (tie.spec (λ c. search needs) (λ c. search needs) (λ c. search needs) (λ c. search needs) (λ c κs. search needs)
+    (λ c κs. search needs) (λ c κs. search) (λ c. search needs) (λ c. search needs) returns (λ c κs. search) (λ c. search needs)
+    (λ c. search needs) returns-2 (λ c κs. search needs) (λ c. search needs) (λ c. search needs) (λ c. search needs) (λ c. search needs)
+    (λ c. search needs) (λ c. search needs) (λ c. search needs) (λ c. search needs) load-through-requires (λ c. search needs)
+    (λ c. search needs) (λ c. search needs) returns-3 (λ c κs. search needs) (λ c κs. search) (λ c. search needs) (λ c. search needs)
+    (λ c. search needs) (λ c. search needs) returns-4)

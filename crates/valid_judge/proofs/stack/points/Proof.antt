@@ -1,40 +1,25 @@
 use native.Mathlib.Omega.{arith}
 use mathlib.Core.Path.{_∙_, sym}
-use Rattle.syntax.specs.Syntax.{value}
-use Rattle.types.specs.Rows.{typeAt}
-use Rattle.types_rows.specs.Read.{tab, meanS}
-use Rattle.valid_context.specs.Context.{spOf}
-use Rattle.valid_typing.specs.Typing.{typesIn}
+use Rattle.types_rows.specs.Read.{meanS}
 use Rattle.valid_typing.proofs.Forms.{link-fits, is-pointer, not-pointer, pointer-low}
 use Rattle.valid_judge.proofs.stack.Laws.{point-same, point-other}
 use borrow.Author.Needs.{needs}
 use Rattle.valid_judge.proofs.stack.points.Statement.{statement}
 use Rattle.valid_judge.proofs.stack.points.Tie as tie
 
-add-link : tie.Need-add-link
-add-link c =
-    let s : tie.Start = search in
-    omega (arith, (s .pre) .0 .few)
-
-link-requires : tie.Need-link-requires
-link-requires c κs =
-    let s : tie.Start = search in
-    (s .pre) .1
-
 read-value-requires : tie.Need-read-value-requires
 read-value-requires c κs =
     let s : tie.Start = search in
     let link2 : tie.After-link = search in
-    let h = link-fits ((s .args) .n) ((s .args) .t) ((link2 .link) .result) ((link2 .link) .ensures) in
-    (omega (arith, (s .pre) .0 .few), omega arith)
+    let h = link-fits (s .args .n) (s .args .t) (link2 .link .result) (link2 .link .ensures) in
+    (omega (arith, s .pre .0 .few), omega arith)
 
 returns : tie.Need-returns
 returns c =
-    let s : tie.Start = search in
     let link2 : tie.After-link = search in
     let readv : tie.After-read-value = search in
     let match2 : tie.At-match-keys2 = search in
-    point-other (typeAt value (typesIn ((s .args) .rows .now) ((s .args) .parts .now) ((s .args) .n)) ((s .args) .t)) (spOf (typesIn ((s .args) .rows .now) ((s .args) .parts .now) ((s .args) .n)) ((s .args) .sp .now) ((s .args) .m)) (not-pointer ((s .args) .rows .now) ((s .args) .parts .now) ((s .args) .n) ((s .args) .t) ((link2 .link) .result) ((link2 .link) .ensures) ((readv .read-value) .ensures .0) ((match2 .match) .keys2))
+    point-other _ _ (not-pointer _ _ _ _ _ (link2 .link .ensures) (readv .read-value .ensures .0) (match2 .match .keys2))
 
 same-items-requires : tie.Need-same-items-requires
 same-items-requires c κs =
@@ -42,20 +27,19 @@ same-items-requires c κs =
     let link2 : tie.After-link = search in
     let v2 : tie.After-v = search in
     let readv : tie.After-read-value = search in
-    let h = link-fits ((s .args) .n) ((s .args) .t) ((link2 .link) .result) ((link2 .link) .ensures) in
-    let l = pointer-low ((link2 .link) .result) ((v2 .v) .given .1) ((readv .read-value) .ensures .1) in
-    ((s .pre) .0, omega arith, s .pre .2)
+    let h = link-fits (s .args .n) (s .args .t) (link2 .link .result) (link2 .link .ensures) in
+    let l = pointer-low (link2 .link .result) (v2 .v .given .1) (readv .read-value .ensures .1) in
+    (s .pre .0, omega arith, s .pre .2)
 
 returns-2 : tie.Need-returns-2
 returns-2 c =
-    let s : tie.Start = search in
     let samei : tie.After-same-items = search in
     let v2 : tie.After-v = search in
     let link2 : tie.After-link = search in
     let readv : tie.After-read-value = search in
-    (samei .same-items) .ensures ∙ sym (point-same (typeAt value (typesIn ((s .args) .rows .now) ((s .args) .parts .now) ((s .args) .n)) ((s .args) .t)) (meanS (tab ((s .args) .rows .now) ((s .args) .parts .now)) ((v2 .v) .given .0 .0)) (spOf (typesIn ((s .args) .rows .now) ((s .args) .parts .now) ((s .args) .n)) ((s .args) .sp .now) ((s .args) .m)) (is-pointer ((s .args) .rows .now) ((s .args) .parts .now) ((s .args) .n) ((s .args) .t) ((link2 .link) .result) ((link2 .link) .ensures) ((readv .read-value) .ensures .0) ((v2 .v) .given .1)))
+    samei .same-items .ensures ∙ sym (point-same _ (meanS _ (v2 .v .given .0 .0)) _ (is-pointer _ _ _ _ _ (link2 .link .ensures) (readv .read-value .ensures .0) (v2 .v .given .1)))
 
 pub points-spec : {M : Type 1} → statement M
 points-spec =
-    tie.close
-    (tie.spec add-link link-requires read-value-requires (λ c. search needs) returns same-items-requires (λ c. search needs) returns-2)
+    tie.close (tie.spec (λ c. search needs) (λ c κs. search) read-value-requires (λ c. search needs) returns same-items-requires
+    (λ c. search needs) returns-2)

@@ -2,11 +2,9 @@ use native.Mathlib.Omega.{arith}
 use mathlib.Core.Path.{ap, _∙_}
 use Rattle.syntax.specs.Syntax.{value}
 use Rattle.types.specs.Rows.{typeAt}
-use Rattle.types_rows.specs.Read.{meanS}
 use Rattle.valid_typing.proofs.Stacks.{count-is}
 use Rattle.valid_judge.proofs.through.Laws.{store-none, stored, written, last-zero}
 use Rattle.image.specs.Sections.{part, sharedSection, slotSection}
-use Rattle.valid_typing.specs.Image.{rowTable, typesAt, lettersIn}
 use borrow.Author.Needs.{needs}
 use Rattle.valid_judge.proofs.through.store_through.Statement.{statement}
 use Rattle.valid_judge.proofs.through.store_through.Tie as tie
@@ -32,16 +30,11 @@ formed-row-of t = search
 abbrev pass-through-of : tie.After-least2 → tie.After-pass-through
 pass-through-of t = search
 
-link-at-requires : tie.Need-link-at-requires
-link-at-requires c κs =
-    let s : tie.Start = search in
-    s .pre .1 .few
-
 pointer-requires : tie.Need-pointer-requires
 unfolding part
 pointer-requires c κs =
     let s : tie.Start = search in
-    s .pre .1
+    s .pre .0 .ready
 
 pass-through-requires : tie.Need-pass-through-requires
 unfolding part
@@ -49,13 +42,13 @@ pass-through-requires c κs =
     let s : tie.Start = search in
     let t-pointer : tie.After-pointer = search in
     let t-link-at : tie.After-link-at = search in
-    let q = s .pre .3 (t-pointer .pointer .result .row) (omega (arith, t-pointer .pointer .ensures .1)) in
-    (s .pre .1, omega (arith, t-pointer .pointer .ensures .1), t-link-at .link-at .ensures .1, omega (arith, q .0, s .pre .6), q .1, s .pre .7)
+    let q = s .pre .1 .flat (t-pointer .pointer .result .row) (omega (arith, t-pointer .pointer .ensures .1)) in
+    (s .pre .0 .ready, record { row = omega (arith, t-pointer .pointer .ensures .1); room = omega (arith, q .0, s .pre .1 .room); vars = q .1 }, t-link-at .link-at .ensures .1, s .pre .0 .room)
 
 formed-row-requires : tie.Need-formed-row-requires
 formed-row-requires c κs =
     let s : tie.Start = search in
-    (s .pre .0, s .pre .1 .few, s .pre .2)
+    (search, s .pre .0 .ready .few, search)
 
 returns : tie.Need-returns
 unfolding part
@@ -63,15 +56,14 @@ returns c =
     let t-least2 : tie.After-least2 = search in
     let t-pass-through = pass-through-of t-least2 in
     let s = start-of t-pass-through in
-    let a = s .args in
-    let l = a .image .now in
     let t-link-at = link-at-of t-pass-through in
     let t-pointer = pointer-of t-pass-through in
     let t-formed-row = formed-row-of t-least2 in
     let t-if-none = if-none-of t-least2 in
     let t-least = least-of t-least2 in
-    let i1 : tie.Then1 = search in
-    λ P e. store-none P (lettersIn (a .p) l (a .w)) (typesAt (a .p) l (a .n)) (a .regs .now) (a .sp .now) (a .depth) (a .x .pointer) (a .x .item) (a .x .source) (a .x .row) (t-link-at .link-at .result) (t-formed-row .formed-row .result) (t-if-none .if-none .result) (t-least .least .result) (t-pass-through .pass-through .result) (t-least2 .least2 .result) _ _ (t-formed-row .formed-row .ensures P e) (t-link-at .link-at .ensures .0 (sharedSection (a .p) l) (slotSection (a .p) l) (s .pre .1)) (t-pass-through .pass-through .ensures .0 P (lettersIn (a .p) l (a .w)) (a .regs .now) (a .x .pointer) (a .x .source) e (t-pointer .pointer .ensures .0 P (lettersIn (a .p) l (a .w))) (t-link-at .link-at .ensures .0 (sharedSection (a .p) l) (slotSection (a .p) l) (s .pre .1))) (t-if-none .if-none .ensures) (t-least .least .ensures) (t-least2 .least2 .ensures) _ (i1 .if1 .taken)
+    λ P e. store-none P _ _ _ _ _ _ _ _ _ _ _ _ _ _ _ _ _ (t-formed-row .formed-row .ensures P e) (t-link-at .link-at .ensures .0 _ _
+    (search)) (t-pass-through .pass-through .ensures .0 P _ _ _ _ e (t-pointer .pointer .ensures .0 P _) (t-link-at .link-at .ensures .0 _
+    _ (s .pre .0 .ready))) (t-if-none .if-none .ensures) (t-least .least .ensures) (search) _ (search)
 
 item-count-requires : tie.Need-item-count-requires
 item-count-requires c κs =
@@ -79,17 +71,14 @@ item-count-requires c κs =
     let t-pass-through = pass-through-of t-least2 in
     let s = start-of t-pass-through in
     let t-pointer = pointer-of t-pass-through in
-    omega (arith, s .pre .1 .few, t-pointer .pointer .ensures .1)
+    omega (arith, s .pre .0 .ready .few, t-pointer .pointer .ensures .1)
 
 sub-set-item : tie.Need-sub-set-item
 sub-set-item c =
     let t-least2 : tie.After-least2 = search in
     let t-pass-through = pass-through-of t-least2 in
-    let t-formed-row = formed-row-of t-least2 in
-    let t-if-none = if-none-of t-least2 in
     let t-least = least-of t-least2 in
-    let i1 : tie.Else1 = search in
-    omega (arith, (t-pass-through .pass-through .ensures .1 (last-zero (t-formed-row .formed-row .result) (t-if-none .if-none .result) (t-pass-through .pass-through .result) (t-least .least .result) (t-least2 .least2 .result) (t-least .least .ensures) (t-least2 .least2 .ensures) (i1 .if1 .left))) .1 .known)
+    omega (arith, (t-pass-through .pass-through .ensures .1 (last-zero _ _ _ _ _ (t-least .least .ensures) (t-least2 .least2 .ensures) (search))) .1 .known)
 
 set-item-requires : tie.Need-set-item-requires
 unfolding part
@@ -105,23 +94,32 @@ set-item-requires c κs =
     let t-if-none = if-none-of t-least2 in
     let t-least = least-of t-least2 in
     let t-item-count : tie.After-item-count = search in
-    let i1 : tie.Else1 = search in
-    (let k = (count-is (sharedSection (a .p) l) (slotSection (a .p) l) (a .n) (t-pointer .pointer .result .row) (s .pre .1) (omega (arith, t-pointer .pointer .ensures .1))) in omega (arith, t-item-count .item-count .ensures .0, s .pre .5, (t-pass-through .pass-through .ensures .1 (last-zero (t-formed-row .formed-row .result) (t-if-none .if-none .result) (t-pass-through .pass-through .result) (t-least .least .result) (t-least2 .least2 .result) (t-least .least .ensures) (t-least2 .least2 .ensures) (i1 .if1 .left))) .0 .fits), omega (arith, s .pre .1 .few, t-link-at .link-at .ensures .1))
+    let i1 : tie.Else1 = search in (
+      let k = (count-is (sharedSection (a .p) l) (slotSection (a .p) l) (a .n) (t-pointer .pointer .result .row) (s .pre .0 .ready)
+          (omega (arith, t-pointer .pointer .ensures .1))) in omega (
+            arith,
+            t-item-count .item-count .ensures .0,
+            s .pre .2 .depth,
+            (t-pass-through .pass-through .ensures .1 (last-zero (t-formed-row .formed-row .result) (t-if-none .if-none .result)
+                (t-pass-through .pass-through .result) (t-least .least .result) (t-least2 .least2 .result) (t-least .least .ensures)
+                (t-least2 .least2 .ensures) (i1 .if1 .left))) .0 .fits,
+          ),
+      omega (arith, s .pre .0 .ready .few, t-link-at .link-at .ensures .1),
+    )
 
 given-row-requires : tie.Need-given-row-requires
 given-row-requires c κs =
     let t-least2 : tie.After-least2 = search in
     let t-pass-through = pass-through-of t-least2 in
     let s = start-of t-pass-through in
-    s .pre .1 .few
+    s .pre .0 .ready .few
 
 set-register-requires : tie.Need-set-register-requires
 set-register-requires c κs =
     let t-least2 : tie.After-least2 = search in
     let t-pass-through = pass-through-of t-least2 in
     let s = start-of t-pass-through in
-    let t-given-row : tie.After-given-row = search in
-    (s .pre .4, omega (arith, s .pre .1 .few, t-given-row .given-row .ensures .1))
+    (s .pre .2 .registers, omega arith)
 
 returns-2 : tie.Need-returns-2
 unfolding part
@@ -134,16 +132,27 @@ returns-2 c =
     let t-least2 : tie.After-least2 = search in
     let t-pass-through = pass-through-of t-least2 in
     let s = start-of t-pass-through in
-    let a = s .args in
-    let l = a .image .now in
     let t-link-at = link-at-of t-pass-through in
     let t-pointer = pointer-of t-pass-through in
     let t-formed-row = formed-row-of t-least2 in
     let t-if-none = if-none-of t-least2 in
     let t-least = least-of t-least2 in
-    λ P e. stored P (lettersIn (a .p) l (a .w)) (typesAt (a .p) l (a .n)) (a .regs .now) (a .sp .now) (a .depth) (a .x .pointer) (a .x .item) (a .x .source) (a .x .row) (t-link-at .link-at .result) (t-formed-row .formed-row .result) (t-if-none .if-none .result) (t-least .least .result) (t-pass-through .pass-through .result) (t-least2 .least2 .result) _ _ (t-formed-row .formed-row .ensures P e) (t-link-at .link-at .ensures .0 (sharedSection (a .p) l) (slotSection (a .p) l) (s .pre .1)) (t-pass-through .pass-through .ensures .0 P (lettersIn (a .p) l (a .w)) (a .regs .now) (a .x .pointer) (a .x .source) e (t-pointer .pointer .ensures .0 P (lettersIn (a .p) l (a .w))) (t-link-at .link-at .ensures .0 (sharedSection (a .p) l) (slotSection (a .p) l) (s .pre .1))) (t-if-none .if-none .ensures) (t-least .least .ensures) (t-least2 .least2 .ensures) _ (t-given-row .given-row .result) _ _ (i1 .if1 .left) (written (typesAt (a .p) l (a .n)) (a .sp .now) _ (a .depth) (a .x .item) (t-link-at .link-at .result) _ (t-item-count .item-count .result) (meanS (rowTable (a .p) l) (t-pointer .pointer .result .row)) _ (t-set-item .set-item .result) ((t-pass-through .pass-through .ensures .1 (last-zero (t-formed-row .formed-row .result) (t-if-none .if-none .result) (t-pass-through .pass-through .result) (t-least .least .result) (t-least2 .least2 .result) (t-least .least .ensures) (t-least2 .least2 .ensures) (i1 .if1 .left))) .0) ((t-pass-through .pass-through .ensures .1 (last-zero (t-formed-row .formed-row .result) (t-if-none .if-none .result) (t-pass-through .pass-through .result) (t-least .least .result) (t-least2 .least2 .result) (t-least .least .ensures) (t-least2 .least2 .ensures) (i1 .if1 .left))) .1) (t-item-count .item-count .ensures .0 ∙ (count-is (sharedSection (a .p) l) (slotSection (a .p) l) (a .n) (t-pointer .pointer .result .row) (s .pre .1) (omega (arith, t-pointer .pointer .ensures .1)))) (t-set-item .set-item .ensures .0 (typesAt (a .p) l (a .n))) (t-set-item .set-item .ensures .1 (typesAt (a .p) l (a .n)))) (ap (typeAt value (typesAt (a .p) l (a .n))) (t-given-row .given-row .ensures .0) ∙ (t-pass-through .pass-through .ensures .1 (last-zero (t-formed-row .formed-row .result) (t-if-none .if-none .result) (t-pass-through .pass-through .result) (t-least .least .result) (t-least2 .least2 .result) (t-least .least .ensures) (t-least2 .least2 .ensures) (i1 .if1 .left))) .1 .points) (t-set-register .set-register .ensures (typesAt (a .p) l (a .n)) P (lettersIn (a .p) l (a .w)) _)
+    λ P e. stored P _ _ _ _ _ _ _ _ _ _ _ _ _ _ _ _ _ (t-formed-row .formed-row .ensures P e) (t-link-at .link-at .ensures .0 _ _
+    (s .pre .0 .ready)) (t-pass-through .pass-through .ensures .0 P _ _ _ _ e (t-pointer .pointer .ensures .0 P _)
+    (t-link-at .link-at .ensures .0 _ _ (s .pre .0 .ready))) (t-if-none .if-none .ensures) (t-least .least .ensures)
+    (t-least2 .least2 .ensures) _ (t-given-row .given-row .result) _ _ (i1 .if1 .left) (written _ _ _ _ _ _ _ _ _ _
+    (t-set-item .set-item .result) ((t-pass-through .pass-through .ensures .1 (last-zero _ _ _ _ _ (t-least .least .ensures)
+    (t-least2 .least2 .ensures) (i1 .if1 .left))) .0) ((t-pass-through .pass-through .ensures .1 (last-zero _ _ _ _ _
+    (t-least .least .ensures) (t-least2 .least2 .ensures) (i1 .if1 .left))) .1) (t-item-count .item-count .ensures .0
+    ∙ (count-is _ _ _ _ (s .pre .0 .ready) (omega (arith, t-pointer .pointer .ensures .1)))) (t-set-item .set-item .ensures .0 _)
+    (t-set-item .set-item .ensures .1 _)) (ap (typeAt value _) (t-given-row .given-row .ensures .0)
+    ∙ (t-pass-through .pass-through .ensures .1 (last-zero _ _ _ _ _ (t-least .least .ensures) (t-least2 .least2 .ensures)
+    (i1 .if1 .left))) .1 .points) (t-set-register .set-register .ensures _ P _ _)
 
 pub store-through-spec : {M : Type 1} → statement M
 store-through-spec =
-    tie.close
-    (tie.spec (λ c. search needs) (λ c. search needs) (λ c. search needs) (λ c. search needs) (λ c. search needs) (λ c. search needs) (λ c. search needs) (λ c. search needs) link-at-requires pointer-requires pass-through-requires (λ c κs. search needs) (λ c κs. search needs) formed-row-requires (λ c κs. search needs) (λ c. search needs) (λ c. search needs) (λ c. search needs) (λ c. search needs) returns item-count-requires sub-set-item set-item-requires given-row-requires set-register-requires (λ c. search needs) (λ c. search needs) (λ c. search needs) (λ c. search needs) returns-2)
+    tie.close (tie.spec (λ c. search needs) (λ c. search needs) (λ c. search needs) (λ c. search needs) (λ c. search needs)
+    (λ c. search needs) (λ c. search needs) (λ c. search needs) (λ c κs. search) pointer-requires pass-through-requires
+    (λ c κs. search needs) (λ c κs. search needs) formed-row-requires (λ c κs. search needs) (λ c. search needs) (λ c. search needs)
+    (λ c. search needs) (λ c. search needs) returns item-count-requires sub-set-item set-item-requires given-row-requires
+    set-register-requires (λ c. search needs) (λ c. search needs) (λ c. search needs) (λ c. search needs) returns-2)

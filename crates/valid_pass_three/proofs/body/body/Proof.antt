@@ -4,7 +4,6 @@ use native.Mathlib.Omega.{arith}
 use mathlib.Core.Path.{_≡_, refl, _∙_}
 use mathlib.Core.Option.{Option}
 use mathlib.Core.List.{List}
-use lib.ListN.{length}
 use Rattle.syntax.specs.Fault.{Refusal}
 use Rattle.image.specs.declared.Places.{Places}
 use Rattle.image.specs.Sections.{instrSection}
@@ -15,6 +14,7 @@ use Rattle.valid_typing.specs.declared.BlockLetters.{BlockLetters}
 use Rattle.valid_typing.specs.Image.{typesAt, operandsIn, HoldsAt, lettersIn}
 use Rattle.valid_verdict.proofs.finding.Laws.{refuses-as, none-found}
 use Rattle.valid_pass_three.specs.declared.body.BodyLines.{BodyLines}
+use Rattle.valid_pass_three.proofs.body.Arrays.{AsLong, still}
 use Rattle.valid_pass_three.proofs.body.Lines.{linesLeft, instr-next, instr-found, instrs-end}
 use Rattle.valid_pass_three.proofs.body.body.Statement.{statement}
 use Rattle.valid_pass_three.proofs.body.body.Tie as tie
@@ -25,7 +25,7 @@ left p l literals x w P i Γ = linesLeft P (lettersIn p l w) (instrSection p l) 
 
 abbrev Inv-loop : tie.InvT-loop
 Inv-loop image literals regs₀ sp₀ work₀ pending₀ t k y u i₀ depth₀ regs sp work pending i depth =
-    ((length regs ≡ length regs₀) × (length sp ≡ length sp₀) × (length work ≡ length work₀) × (depth ≤ 64) × (y .first ≤ i) × (length pending ≡ length pending₀))
+    AsLong regs sp work pending regs₀ sp₀ work₀ pending₀ × (depth ≤ 64) × (y .first ≤ i)
     × ((P : Program) → HoldsAt t image k P → left t image literals y u P i (contextOf (typesAt t image (k .rows)) regs sp depth) ≡ left t image literals y u P (y .first) (contextOf (typesAt t image (k .rows)) regs₀ sp₀ (y .depth)))
 
 abbrev μ-loop : tie.MeasureT-loop
@@ -52,39 +52,19 @@ one-more t = search
 loop-holds : tie.Need-loop-holds Inv-loop μ-loop
 loop-holds c =
     let s : Start = search in
-    ((refl, refl, refl, s .pre .8, omega arith, refl), λ P h. refl)
+    (record { registers = refl; items = refl; work = refl; pending = refl }, s .pre .3, omega arith, λ P h. refl)
 
 judge-requires : tie.Need-judge-requires Inv-loop μ-loop
 judge-requires c κs =
     let s : Start = search in
     let g : At-loop = search in
-    let t = s .pre .1 in
-    let i = g .loop .inv .0 in
-    (s .pre .0, t .ready, t .scoped, t .small, (λ x k. t .few x (omega arith)), s .pre .2 (g .loop .i) (i .4) search, omega (arith, i .0, s .pre .5), omega (arith, i .1, s .pre .6), omega (arith, i .2, s .pre .7), i .3, omega (arith, i .5, s .pre .9))
-
-same-length : tie.Need-same-length Inv-loop μ-loop
-same-length c =
-    let g : At-loop = search in
-    let t : After-judge = search in
-    t .judge .kept .1 .1 .1 .1 .1 .1 .0 ∙ g .loop .inv .0 .0
-
-same-length-2 : tie.Need-same-length-2 Inv-loop μ-loop
-same-length-2 c =
-    let g : At-loop = search in
-    let t : After-judge = search in
-    t .judge .kept .1 .1 .1 .1 .1 .1 .1 .0 ∙ g .loop .inv .0 .1
-
-same-length-3 : tie.Need-same-length-3 Inv-loop μ-loop
-same-length-3 c =
-    let g : At-loop = search in
-    let t : After-judge = search in
-    t .judge .kept .1 .1 .1 .1 .1 .1 .1 .1 .0 ∙ g .loop .inv .0 .2
-
-same-length-4 : tie.Need-same-length-4 Inv-loop μ-loop
-same-length-4 c =
-    let g : At-loop = search in
-    let t : After-judge = search in
-    t .judge .kept .1 .1 .1 .1 .1 .1 .1 .1 .1 .0 ∙ g .loop .inv .0 .5
+    let t = s .pre .0 .tables in
+    let a = still (s .pre .2) (g .loop .inv .0) in (
+      record { ordered = s .pre .0 .ordered; ready = t .ready; scoped = t .scoped; room = a .pending },
+      record { small = t .small; few = λ x k. t .few x (omega arith); room = a .work },
+      s .pre .1 .small (g .loop .i) (g .loop .inv .2) (search),
+      record { registers = a .registers; items = a .items; depth = g .loop .inv .1 },
+    )
 
 returns : tie.Need-returns Inv-loop μ-loop
 unfolding linesLeft
@@ -94,7 +74,9 @@ returns c =
     let g = loop-of t in
     let a = s .args in
     let l = a .image .now in
-    λ P h. refuses-as _ (g .loop .inv .1 P h) (instr-found P (lettersIn (a .p) l (a .w)) (instrSection (a .p) l) (operandsIn (a .p) l (a .literals .now)) (a .x .end) (a .x .base) (g .loop .i) (typesAt (a .p) l (a .c .rows)) (g .loop .regs) (g .loop .sp) (g .loop .depth) _ (t .judge .result .fault) (t .judge .result .item) (one-more t) (t .judge .ensures .0 P h) (search))
+    λ P h. refuses-as _ (g .loop .inv .3 P h) (instr-found P (lettersIn (a .p) l (a .w)) (instrSection (a .p) l) (operandsIn (a .p) l
+    (a .literals .now)) (a .x .end) (a .x .base) (g .loop .i) (typesAt (a .p) l (a .c .rows)) (g .loop .regs) (g .loop .sp)
+    (g .loop .depth) _ (t .judge .result .fault) (t .judge .result .item) (one-more t) (t .judge .ensures .0 P h) (search))
 
 loop-again : tie.Need-loop-again Inv-loop μ-loop
 loop-again c =
@@ -103,8 +85,14 @@ loop-again c =
     let g = loop-of t in
     let i = g .loop .inv .0 in
     let a = s .args in
-    let l = a .image .now in
-    ((t .judge .kept .1 .1 .1 .1 .1 .1 .0 ∙ i .0, t .judge .kept .1 .1 .1 .1 .1 .1 .1 .0 ∙ i .1, t .judge .kept .1 .1 .1 .1 .1 .1 .1 .1 .0 ∙ i .2, t .judge .ensures .1, omega (arith, i .4), t .judge .kept .1 .1 .1 .1 .1 .1 .1 .1 .1 .0 ∙ i .5), λ P h. instr-next P (lettersIn (a .p) l (a .w)) (instrSection (a .p) l) (operandsIn (a .p) l (a .literals .now)) (a .x .end) (a .x .base) (g .loop .i) (contextOf (typesAt (a .p) l (a .c .rows)) (g .loop .regs) (g .loop .sp) (g .loop .depth)) _ (t .judge .result .fault) (t .judge .result .item) (one-more t) (t .judge .ensures .0 P h) (search) ∙ g .loop .inv .1 P h)
+    let l = a .image .now in (
+      record { registers = t .judge .kept .1 .1 .1 .1 .1 .1 .0 ∙ i .registers; items = t .judge .kept .1 .1 .1 .1 .1 .1 .1 .0 ∙ i .items; work = cc; pending = cc },
+      t .judge .ensures .1,
+      omega (arith, g .loop .inv .2),
+      λ P h. instr-next P (lettersIn (a .p) l (a .w)) (instrSection (a .p) l) (operandsIn (a .p) l (a .literals .now)) (a .x .end)
+          (a .x .base) (g .loop .i) (contextOf (typesAt (a .p) l (a .c .rows)) (g .loop .regs) (g .loop .sp) (g .loop .depth)) _
+          (t .judge .result .fault) (t .judge .result .item) (one-more t) (t .judge .ensures .0 P h) (search) ∙ g .loop .inv .3 P h,
+    )
 
 returns-2 : tie.Need-returns-2 Inv-loop μ-loop
 unfolding linesLeft
@@ -114,13 +102,12 @@ returns-2 c =
     let t : tie.After-nothing Inv-loop μ-loop = search in
     let a = s .args in
     let l = a .image .now in
-    λ P h. none-found (t .nothing .result) (t .nothing .ensures) _ (instrs-end P (lettersIn (a .p) l (a .w)) (instrSection (a .p) l) (operandsIn (a .p) l (a .literals .now)) (a .x .end) (a .x .base) (g .loop .i) (contextOf (typesAt (a .p) l (a .c .rows)) (g .loop .regs) (g .loop .sp) (g .loop .depth)) (search) ∙ g .loop .inv .1 P h)
+    λ P h. none-found (t .nothing .result) (t .nothing .ensures) _ (instrs-end P (lettersIn (a .p) l (a .w)) (instrSection (a .p) l)
+    (operandsIn (a .p) l (a .literals .now)) (a .x .end) (a .x .base) (g .loop .i) (contextOf (typesAt (a .p) l (a .c .rows))
+    (g .loop .regs) (g .loop .sp) (g .loop .depth)) (search) ∙ g .loop .inv .3 P h)
 
 pub body-spec : {M : Type 1} → statement M
 body-spec =
-    tie.close
-    (tie.spec
-    Inv-loop μ-loop loop-holds judge-requires (λ c. search needs) same-length same-length-2 same-length-3 same-length-4 returns
-    (λ c. search needs) (λ c. search needs) loop-again (λ c κs. search needs)
-    (λ c. let g : At-loop = search in g .loop .inv .0 .0) (λ c. let g : At-loop = search in g .loop .inv .0 .1)
-    (λ c. let g : At-loop = search in g .loop .inv .0 .2) (λ c. let g : At-loop = search in g .loop .inv .0 .5) returns-2)
+    tie.close (tie.spec Inv-loop μ-loop loop-holds judge-requires (λ c. search needs) (λ c. (cc)) (λ c. (cc)) (λ c. (cc)) (λ c. (cc))
+    returns (λ c. search needs) (λ c. search needs) loop-again (λ c κs. search needs) (λ c. search) (λ c. search) (λ c. search)
+    (λ c. search) returns-2)

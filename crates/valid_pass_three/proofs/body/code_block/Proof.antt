@@ -27,29 +27,36 @@ unfolding part
 count-is t =
     let s = start-of t in
     let q = s .pre in
-    t .item-count .ensures .0 ∙ counted-to (rowTable (s .args .p) (s .args .image .now)) (s .args .c .rows + 2) (q .0 .1 .ready .counted) (s .args .x .stack) (omega (arith, q .1 .1, q .1 .2))
+    t .item-count .ensures .0 ∙ counted-to (rowTable (s .args .p) (s .args .image .now)) (s .args .c .rows + 2) (q .0 .tables .ready .counted) (s .args .x .stack) (omega (arith, q .3 .row, q .3 .below))
 
 enter-requires : tie.Need-enter-requires
 unfolding part
 enter-requires c κs =
     let s : tie.Start = search in
     let q = s .pre in
-    (q .0 .1 .ready, q .1 .0, omega (arith, q .1 .1), q .1 .3, q .0 .5)
+    (q .0 .tables .ready, record { some = q .3 .some; row = omega (arith, q .3 .row); start = q .3 .start }, q .2 .registers)
 
 flatten-requires : tie.Need-flatten-requires
 unfolding part
 flatten-requires c κs =
     let s : tie.Start = search in
     let q = s .pre in
-    let t = q .0 .1 in
-    (t .ready, omega (arith, q .1 .1, q .1 .2), omega (arith, q .1 .4, q .0 .6), small-vars (sharedSection (s .args .p) (s .args .image .now)) (slotSection (s .args .p) (s .args .image .now)) (s .args .c .rows) (t .ready .int-row) (t .ready .junk-row) (t .small) (s .args .x .stack) (omega (arith, q .1 .1, q .1 .2)))
+    let t = q .0 .tables in (
+      t .ready,
+      record {
+        row = omega (arith, q .3 .row, q .3 .below);
+        room = omega (arith, q .3 .few, q .2 .items);
+        vars = small-vars (sharedSection (s .args .p) (s .args .image .now)) (slotSection (s .args .p) (s .args .image .now)) (s .args .c .rows)
+            (t .ready .int-row) (t .ready .junk-row) (t .small) (s .args .x .stack) (omega (arith, q .3 .row, q .3 .below));
+      },
+    )
 
 item-count-requires : tie.Need-item-count-requires
 item-count-requires c κs =
     let s : tie.Start = search in
     let q = s .pre in
-    let l = q .0 .1 .ready .few in
-    omega (arith, q .1 .1, q .1 .2)
+    let l = q .0 .tables .ready .few in
+    omega (arith, q .3 .row, q .3 .below)
 
 body-requires : tie.Need-body-requires
 body-requires c κs =
@@ -58,20 +65,23 @@ body-requires c κs =
     let e = enter-of t in
     let q = start-of t .pre in
     let k = e .enter .kept .1 .1 .1 .1 .1 .0 in
-    let m = f .flatten .kept .1 .1 .1 .0 in
-    (q .0 .0, q .0 .1, q .0 .2, q .0 .3, q .0 .4, omega (arith, k, q .0 .5), omega (arith, m, q .0 .6), q .0 .7, omega (arith, count-is t, q .1 .4), q .0 .8)
+    let m = f .flatten .kept .1 .1 .1 .0 in (
+      q .0,
+      q .1,
+      record {
+        registers = omega (arith, k, q .2 .registers);
+        items = omega (arith, m, q .2 .items);
+        work = q .2 .work;
+        pending = q .2 .pending;
+      },
+      omega (arith, count-is t, q .3 .few),
+    )
 
 same-length : tie.Need-same-length
 same-length c =
     let b : tie.After-body = search in
     let t : tie.After-item-count = search in
     b .body .kept .1 .1 .1 .1 .1 .1 .0 ∙ enter-of t .enter .kept .1 .1 .1 .1 .1 .0
-
-same-length-2 : tie.Need-same-length-2
-same-length-2 c =
-    let b : tie.After-body = search in
-    let t : tie.After-item-count = search in
-    b .body .kept .1 .1 .1 .1 .1 .1 .1 .0 ∙ flat-of t .flatten .kept .1 .1 .1 .0
 
 returns : tie.Need-returns
 unfolding part
@@ -82,12 +92,12 @@ returns c =
     let f = flat-of t in
     let e = enter-of t in
     let a = start-of t .args in
-    λ P g. entered P (sharedSection (a .p) (a .image .now)) (slotSection (a .p) (a .image .now)) (e .enter .last .1 .1 .1 .1 .1 .0) (f .flatten .last .1 .1 .1 .0) (a .c .rows) (a .x .link) (a .x .stack) (a .x .start) (t .item-count .result) (n .letter-count .result) _ _ (b .body .result) (b .body .ensures P g) (n .letter-count .ensures .0) (e .enter .ensures) (f .flatten .ensures) (count-is t)
+    λ P g. entered P (sharedSection (a .p) (a .image .now)) (slotSection (a .p) (a .image .now)) (e .enter .last .1 .1 .1 .1 .1 .0)
+    (f .flatten .last .1 .1 .1 .0) (a .c .rows) (a .x .link) (a .x .stack) (a .x .start) (t .item-count .result) (n .letter-count .result)
+    _ _ (b .body .result) (b .body .ensures P g) (n .letter-count .ensures .0) (e .enter .ensures) (f .flatten .ensures) (count-is t)
 
 pub code-block-spec : {M : Type 1} → statement M
 code-block-spec =
-    tie.close
-    (tie.spec
-    (λ c. search needs) (λ c. search needs) (λ c. search needs) (λ c. search needs) (λ c. search needs) (λ c. search needs)
-    (λ c. search needs) (λ c. search needs) enter-requires flatten-requires (λ c κs. search needs) item-count-requires
-    (λ c. search needs) body-requires same-length same-length-2 (λ c. search needs) (λ c. search needs) returns)
+    tie.close (tie.spec (λ c. search needs) (λ c. search needs) (λ c. search needs) (λ c. search needs) (λ c. search needs)
+    (λ c. search needs) (λ c. search needs) (λ c. search needs) enter-requires flatten-requires (λ c κs. search needs) item-count-requires
+    (λ c. search needs) body-requires same-length (λ c. (cc)) (λ c. search needs) (λ c. search needs) returns)

@@ -1,16 +1,11 @@
 use borrow.Author.Needs.{needs}
-use Prim.Native.Nat.{_-_, _≤_, _+_}
-use mathlib.Core.Path.{_≡_, refl, sym, ap, _∙_}
+use Prim.Native.Nat.{_-_, _+_}
+use mathlib.Core.Path.{_≡_, refl, _∙_}
 use native.Mathlib.Omega.{arith}
 use lib.ListN.{length, length-set}
-use Rattle.types_rows.specs.Read.{tab}
 use Rattle.valid_pass_three.proofs.body.Registers.{Right, right-none, right-next, right-all, slot-below}
 use Rattle.valid_pass_three.proofs.body.enter.Statement.{statement}
 use Rattle.valid_pass_three.proofs.body.enter.Tie as tie
-use Rattle.valid_pass_three.proofs.body.enter.Reads as reads
-use Rattle.valid_pass_three.proofs.body.enter.Lts as lts
-use Rattle.valid_pass_three.proofs.body.link_of.Reads as link-of-reads
-use Rattle.types_rows.proofs.part.Reads as part-reads
 
 abbrev Inv-loop : tie.InvT-loop
 Inv-loop rows parts n h p regs₀ i₀ regs i = (length regs ≡ length regs₀) × Right rows parts n h p regs i
@@ -19,69 +14,35 @@ abbrev μ-loop : tie.MeasureT-loop
 μ-loop rows parts n h p regs₀ i₀ regs i = 8 - i
 
 loop-holds : tie.Need-loop-holds Inv-loop μ-loop
-loop-holds c = (refl, right-none ((c .before .before .before .args) .rows .now) ((c .before .before .before .args) .parts .now) ((c .before .before .before .args) .n) ((c .before .before .before .args) .h) ((c .before .before .before .args) .p) (((c .before .before .before .args) .regs) .now))
-
-add-part : tie.Need-add-part Inv-loop μ-loop
-add-part c = search needs
-
-part-requires : tie.Need-part-requires Inv-loop μ-loop
-part-requires c κs = (c .before .before .before .before .before .pre) .1
+loop-holds c =
+    let s : tie.Start Inv-loop μ-loop = search in
+    (refl, right-none (s .args .rows .now) (s .args .parts .now) (s .args .n) (s .args .h) (s .args .p) (s .args .regs .now))
 
 link-of-requires : tie.Need-link-of-requires Inv-loop μ-loop
 link-of-requires c κs =
-    let l = (c .before .before .before .before .before .before .pre) .2 in
-    ((c .before .before .before .before .before .before .pre) .0 .few, slot-below ((c .before .before .before .before .before .before .args) .h) (((c .before .before .before .before .before .before .args) .n) + 3) ((c .part) .result) ((c .part) .ensures .1) (omega arith))
-
-cast-regs : tie.Need-cast-regs Inv-loop μ-loop
-cast-regs c =
-    let q = (c .link-of) .ensures .1 in
-    let l = (c .before .before .before .before .before .before .before .pre) .0 .few in
-    omega arith
-
-mul-regs : tie.Need-mul-regs Inv-loop μ-loop
-mul-regs c = search needs
-
-slice-write-regs : tie.Need-slice-write-regs Inv-loop μ-loop
-slice-write-regs c =
-    let l = (c .before .before .before .loop) .inv .0 in
-    let k = (c .before .before .before .before .before .before .before .pre) .4 in
-    let i = (c .before .before .loop-test) .taken in
-    omega arith
-
-add-i : tie.Need-add-i Inv-loop μ-loop
-add-i c = search needs
-
-loop-less : tie.Need-loop-less Inv-loop μ-loop
-loop-less c = search needs
+    let s : tie.Start Inv-loop μ-loop = search in
+    let l = s .pre .1 .row in
+    (s .pre .0 .few, slot-below (s .args .h) ((s .args .n) + 3) (c .part .result) (c .part .ensures .1) (omega arith))
 
 loop-again : tie.Need-loop-again Inv-loop μ-loop
 loop-again c =
-    let l = (c .before .before .before .loop) .inv .0 in
-    let k = (c .before .before .before .before .before .before .before .pre) .4 in
-    let i = (c .before .before .loop-test) .taken in
-    (length-set ((c .before .before .before .loop) .regs) ((c .before .before .before .loop) .i) _ ∙ l, right-next ((c .before .before .before .before .before .before .before .args) .rows .now) ((c .before .before .before .before .before .before .before .args) .parts .now) ((c .before .before .before .before .before .before .before .args) .n) ((c .before .before .before .before .before .before .before .args) .h) ((c .before .before .before .before .before .before .before .args) .p) ((c .before .before .before .loop) .regs) ((c .before .before .before .loop) .i) ((c .link-of) .result) ((c .before .part) .result) (omega arith) ((c .before .before .before .loop) .inv .1) ((c .before .part) .ensures .0) (λ a. (c .link-of) .ensures .0 ((c .before .before .before .before .before .before .before .args) .rows .now) ((c .before .before .before .before .before .before .before .args) .parts .now) a ((c .before .before .before .before .before .before .before .pre) .0)))
-
-same-length : tie.Need-same-length Inv-loop μ-loop
-same-length c = (c .before .loop) .inv .0
+    let p2 : tie.After-part Inv-loop μ-loop = search in
+    let i2 : tie.In-loop Inv-loop μ-loop = search in
+    let l2 : tie.At-loop Inv-loop μ-loop = search in
+    let s : tie.Start Inv-loop μ-loop = search in
+    let l = l2 .loop .inv .0 in
+    let k = s .pre .2 in
+    let i = i2 .loop-test .taken in (
+      length-set (l2 .loop .regs) (l2 .loop .i) _ ∙ l,
+      right-next (s .args .rows .now) (s .args .parts .now) (s .args .n) (s .args .h)
+          (s .args .p) (l2 .loop .regs) (l2 .loop .i) (c .link-of .result) (p2 .part .result) (omega arith) (l2 .loop .inv .1)
+          (p2 .part .ensures .0) (λ a. (c .link-of) .ensures .0 (s .args .rows .now) (s .args .parts .now) a (s .pre .0)),
+    )
 
 returns : tie.Need-returns Inv-loop μ-loop
-returns c = right-all ((c .before .before .before .before .before .args) .rows .now) ((c .before .before .before .before .before .args) .parts .now) ((c .before .before .before .before .before .args) .n) ((c .before .before .before .before .before .args) .h) ((c .before .before .before .before .before .args) .p) ((c .before .loop) .regs) ((c .before .loop) .i) ((c .loop-test) .left) ((c .before .loop) .inv .1)
+returns c = right-all _ _ _ _ _ _ _ (c .loop-test .left) (search)
 
 pub enter-spec : {M : Type 1} → statement M
 enter-spec =
-    tie.close
-    (tie.spec
-    Inv-loop
-    μ-loop
-    loop-holds
-    add-part
-    part-requires
-    link-of-requires
-    cast-regs
-    mul-regs
-    slice-write-regs
-    add-i
-    loop-less
-    loop-again
-    same-length
-    returns)
+    tie.close (tie.spec Inv-loop μ-loop loop-holds (λ c. search needs) (λ c κs. search) link-of-requires (λ c. search needs)
+    (λ c. search needs) (λ c. search needs) (λ c. search needs) (λ c. search needs) loop-again (λ c. search) returns)

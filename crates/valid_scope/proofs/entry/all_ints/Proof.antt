@@ -17,9 +17,6 @@ Inv-loop rows parts h p c i₀ i = same (partsOf (meanV (tab rows parts)) parts 
 abbrev μ-loop : tie.MeasureT-loop
 μ-loop rows parts h p c i₀ i = c - i
 
-loop-holds : tie.Need-loop-holds Inv-loop μ-loop
-loop-holds c = ints-start _ _ _ _ _
-
 is-int-requires : tie.Need-is-int-requires Inv-loop μ-loop
 is-int-requires c κs =
     let a : tie.After-at Inv-loop μ-loop = search in
@@ -52,5 +49,5 @@ returns-2 c =
 
 pub all-ints-spec : {M : Type 1} → statement M
 all-ints-spec =
-    tie.close (tie.spec Inv-loop μ-loop loop-holds (λ c. search needs) (λ c κs. search) (λ c κs. search) is-int-requires returns
-    (λ c. search needs) (λ c. search needs) loop-again returns-2)
+    tie.close (tie.spec Inv-loop μ-loop (λ c. ints-start _ _ _ _ _) (λ c. search needs) (λ c κs. search) (λ c κs. search) is-int-requires
+    returns (λ c. search needs) (λ c. search needs) loop-again returns-2)

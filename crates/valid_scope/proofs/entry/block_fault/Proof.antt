@@ -30,7 +30,7 @@ is-fit-requires c κs =
     let l : tie.After-link = search in
     let s : tie.Start = search in
     let k = code-low _ (s .args .parts .now) (s .args .n) (s .args .c) _ (l .link .ensures) (r .read-value .ensures .0) (v2 .v .given .1) (search) in
-    (k .2, link-ok _ _ _ (l .link .ensures) (s .pre .0) .0, k .0, k .1, counted-stack _ _ _ _ _ (l .link .ensures) (r .read-value .ensures .0) (v2 .v .given .1) (search) (s .pre .2))
+    record { named = k .2; low = link-ok _ _ _ (l .link .ensures) (s .pre .0) .0; lower = k .0; file = k .1; counted = counted-stack _ _ _ _ _ (l .link .ensures) (r .read-value .ensures .0) (v2 .v .given .1) (search) (s .pre .2) }
 
 item-count-requires : tie.Need-item-count-requires
 item-count-requires c κs =

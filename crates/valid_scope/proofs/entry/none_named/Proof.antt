@@ -17,9 +17,6 @@ Inv-loop parts p k i₀ i = (v : ℕ → Ty value) (h : ℕ) → same (partsOf v
 abbrev μ-loop : tie.MeasureT-loop
 μ-loop parts p k i₀ i = k - i
 
-loop-holds : tie.Need-loop-holds Inv-loop μ-loop
-loop-holds c = λ v h. gaps-start v _ h _ _
-
 returns : tie.Need-returns Inv-loop μ-loop
 returns c =
     let a : tie.After-at Inv-loop μ-loop = search in
@@ -39,5 +36,5 @@ returns-2 c =
 
 pub none-named-spec : {M : Type 1} → statement M
 none-named-spec =
-    tie.close (tie.spec Inv-loop μ-loop loop-holds (λ c. search needs) (λ c κs. search) returns (λ c. search needs) (λ c. search needs)
-    loop-again returns-2)
+    tie.close (tie.spec Inv-loop μ-loop (λ c. λ v h. gaps-start v _ h _ _) (λ c. search needs) (λ c κs. search) returns
+    (λ c. search needs) (λ c. search needs) loop-again returns-2)

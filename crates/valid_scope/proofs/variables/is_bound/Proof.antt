@@ -4,9 +4,6 @@ use Rattle.valid_scope.proofs.variables.Laws.{bound-unused, bound-past,
 use Rattle.valid_scope.proofs.variables.is_bound.Statement.{statement}
 use Rattle.valid_scope.proofs.variables.is_bound.Tie as tie
 
-returns : tie.Need-returns
-returns c = bound-unused _ _ (search)
-
 returns-2 : tie.Need-returns-2
 returns-2 c = bound-past _ _ _ _ _ (search) (omega arith)
 
@@ -16,4 +13,4 @@ returns-3 c =
     bound-in _ _ _ _ _ (search) (omega arith) (a2 .at-past .ensures) (search)
 
 pub is-bound-spec : {M : Type 1} → statement M
-is-bound-spec = tie.close (tie.spec returns returns-2 (λ c κs. search) (λ c κs. search) returns-3)
+is-bound-spec = tie.close (tie.spec (λ c. bound-unused _ _ (search)) returns-2 (λ c κs. search) (λ c κs. search) returns-3)

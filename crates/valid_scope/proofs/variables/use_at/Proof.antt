@@ -5,14 +5,10 @@ use borrow.Author.Needs.{needs}
 use Rattle.valid_scope.proofs.variables.use_at.Statement.{statement}
 use Rattle.valid_scope.proofs.variables.use_at.Tie as tie
 
-returns : tie.Need-returns
-returns c = use-past _ _ _ (search)
-
-returns-2 : tie.Need-returns-2
-returns-2 c = use-in _ _ _ (omega arith)
-
 returns-3 : tie.Need-returns-3
 returns-3 c = use-out _ _ _ (omega arith) (omega arith)
 
 pub use-at-spec : {M : Type 1} → statement M
-use-at-spec = tie.close (tie.spec returns (λ c. search needs) (λ c. search needs) (λ c. search needs) (λ c. search) returns-2 returns-3)
+use-at-spec =
+    tie.close (tie.spec (λ c. use-past _ _ _ (search)) (λ c. search needs) (λ c. search needs) (λ c. search needs) (λ c. search)
+    (λ c. use-in _ _ _ (omega arith)) returns-3)

@@ -27,7 +27,7 @@ loop-again c =
     let l : At-loop = search in
     let n : tie.After-new-part Inv-loop μ-loop = search in
     let w : tie.After-narrow Inv-loop μ-loop = search in
-    let t = row-turn _ _ _ _ _ _ _ _ (s .pre .0) (s .pre .1) (s .pre .2) _ _ _ _ (omega arith) (l .loop .inv .1) (l .loop .inv .2) (n .new-part .ensures .0) (w .narrow .ensures) in
+    let t = row-turn _ _ _ _ _ _ _ _ (s .pre .0 .section) (s .pre .0 .behind) (s .pre .0 .room) _ _ _ _ (omega arith) (l .loop .inv .1) (l .loop .inv .2) (n .new-part .ensures .0) (w .narrow .ensures) in
     (omega arith, t .0, t .1)
 
 returns : tie.Need-returns Inv-loop μ-loop

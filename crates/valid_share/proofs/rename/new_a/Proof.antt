@@ -10,12 +10,6 @@ returns c =
     let h = s .pre .0 in
     (a-tuple _ _ _ _ (search), omega arith)
 
-returns-2 : tie.Need-returns-2
-returns-2 c = (a-value _ _ _ _ (search), search)
-
-returns-3 : tie.Need-returns-3
-returns-3 c = (a-stack _ _ _ _ (search), search)
-
 returns-4 : tie.Need-returns-4
 returns-4 c =
     let s : tie.Start = search in
@@ -24,4 +18,6 @@ returns-4 c =
     (a-row _ _ _ _ _ (search) (search) (search) (search), omega arith)
 
 pub new-a-spec : {M : Type 1} → statement M
-new-a-spec = tie.close (tie.spec (λ c. search needs) returns returns-2 returns-3 (λ c κs. search) returns-4)
+new-a-spec =
+    tie.close (tie.spec (λ c. search needs) returns (λ c. (a-value _ _ _ _ (search), search)) (λ c. (a-stack _ _ _ _ (search), search))
+    (λ c κs. search) returns-4)

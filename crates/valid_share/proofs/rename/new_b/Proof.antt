@@ -4,9 +4,6 @@ use borrow.Author.Needs.{needs}
 use Rattle.valid_share.proofs.rename.new_b.Statement.{statement}
 use Rattle.valid_share.proofs.rename.new_b.Tie as tie
 
-returns : tie.Need-returns
-returns c = (b-tuple _ _ _ _ (search), search)
-
 returns-2 : tie.Need-returns-2
 returns-2 c =
     let s : tie.Start = search in
@@ -21,4 +18,4 @@ returns-3 c =
     (b-row _ _ _ _ _ (search) (search) (search), omega arith)
 
 pub new-b-spec : {M : Type 1} → statement M
-new-b-spec = tie.close (tie.spec returns (λ c. search needs) returns-2 (λ c κs. search) returns-3)
+new-b-spec = tie.close (tie.spec (λ c. (b-tuple _ _ _ _ (search), search)) (λ c. search needs) returns-2 (λ c κs. search) returns-3)

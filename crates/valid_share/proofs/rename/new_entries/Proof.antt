@@ -16,7 +16,16 @@ returns c =
     let v : tie.After-narrow2 = search in
     let w : tie.After-narrow3 = search in
     let z : tie.After-narrow4 = search in
-    record { kind = u .narrow .ensures ∙ entry-rest _ _ _ 0 _ _ (k .entry .ensures .0) (k .entry .ensures .0) (λ e. absurd (omega arith)) (λ e. absurd (omega arith)); a = v .narrow2 .ensures ∙ entry-a _ _ _ 1 _ _ (k .entry .ensures .0) (x .entry2 .ensures .0) _ refl (search); b = w .narrow3 .ensures ∙ entry-b _ _ _ 2 _ _ (k .entry .ensures .0) (y .entry3 .ensures .0) _ refl (search); count = z .narrow4 .ensures ∙ entry-rest _ _ _ 3 _ _ (k .entry .ensures .0) (search) (λ e. absurd (omega arith)) (λ e. absurd (omega arith)) }
+    record {
+      kind =
+          u .narrow .ensures ∙ entry-rest _ _ _ 0 _ _ (k .entry .ensures .0) (k .entry .ensures .0) (λ e. absurd (omega arith))
+          (λ e. absurd (omega arith));
+      a = v .narrow2 .ensures ∙ entry-a _ _ _ 1 _ _ (k .entry .ensures .0) (x .entry2 .ensures .0) _ refl
+          (search);
+      b = w .narrow3 .ensures ∙ entry-b _ _ _ 2 _ _ (k .entry .ensures .0) (y .entry3 .ensures .0) _ refl (search);
+      count = z .narrow4 .ensures ∙ entry-rest _ _ _ 3 _ _ (k .entry .ensures .0) (search) (λ e. absurd (omega arith))
+          (λ e. absurd (omega arith));
+    }
 
 pub new-entries-spec : {M : Type 1} → statement M
 new-entries-spec =

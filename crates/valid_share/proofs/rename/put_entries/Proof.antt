@@ -5,11 +5,8 @@ use borrow.Author.Needs.{needs}
 use Rattle.valid_share.proofs.rename.put_entries.Statement.{statement}
 use Rattle.valid_share.proofs.rename.put_entries.Tie as tie
 
-returns : tie.Need-returns
-returns c = simp (add-one, add-two, add-three)
-
 pub put-entries-spec : {M : Type 1} → statement M
 put-entries-spec =
     tie.close (tie.spec (λ c. search needs) (λ c. search needs) (λ c. search needs) (λ c. search needs) (λ c. search needs)
     (λ c. simp length-set (omega arith)) (λ c. search needs) (λ c. search needs) (λ c. simp length-set (omega arith)) (λ c. search needs)
-    (λ c. search needs) (λ c. simp length-set (omega arith)) (λ c. search needs) returns)
+    (λ c. search needs) (λ c. simp length-set (omega arith)) (λ c. search needs) (λ c. simp (add-one, add-two, add-three)))

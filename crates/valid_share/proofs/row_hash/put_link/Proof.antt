@@ -4,8 +4,6 @@ use borrow.Author.Needs.{needs}
 use Rattle.valid_share.proofs.row_hash.put_link.Statement.{statement}
 use Rattle.valid_share.proofs.row_hash.put_link.Tie as tie
 
-returns-2 : tie.Need-returns-2
-returns-2 c = sym (set-out _ _ _ (search))
-
 pub put-link-spec : {M : Type 1} → statement M
-put-link-spec = tie.close (tie.spec (λ c. search needs) (λ c. search) (λ c. search needs) (λ c. search) returns-2)
+put-link-spec =
+    tie.close (tie.spec (λ c. search needs) (λ c. search) (λ c. search needs) (λ c. search) (λ c. sym (set-out _ _ _ (search))))

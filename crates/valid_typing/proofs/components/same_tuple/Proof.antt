@@ -1,14 +1,10 @@
 use native.Mathlib.Omega.{arith}
 use Prim.Native.Nat.{ℕ}
-use mathlib.Core.Path.{_∙_, sym, ap}
-use mathlib.Core.List.{List}
+use mathlib.Core.Path.{_∙_, ap}
 use Rattle.syntax.specs.Syntax.{value}
-use Rattle.types.specs.Types.{Ty, Arg}
-use Rattle.types.specs.Rows.{typeAt}
+use Rattle.types.specs.Types.{Ty}
 use Rattle.types_rows.specs.Read.{tab, meanV, partsOf}
-use Rattle.valid_typing.specs.Typing.{typesIn}
 use Rattle.valid_typing.proofs.Forms.{link-fits, is-tuple, not-tuple, tuple-low}
-use Rattle.valid_typing.specs.components.Components.{typesFrom}
 use Rattle.valid_typing.proofs.components.Lists.{other-differs, tuple-same, length-differs}
 use mathlib.Core.Option.{some}
 use mathlib.Core.Bool.{false}
@@ -20,55 +16,45 @@ read-value-requires : tie.Need-read-value-requires
 read-value-requires c κs =
     let s : tie.Start = search in
     let link2 : tie.After-link = search in
-    let h = link-fits ((s .args) .n) ((s .args) .t) ((link2 .link) .result) ((link2 .link) .ensures) in
-    (omega (arith, (s .pre) .0 .few), omega arith)
+    let h = link-fits (s .args .n) (s .args .t) (link2 .link .result) (link2 .link .ensures) in
+    (omega (arith, s .pre .0 .few), omega arith)
 
 returns : tie.Need-returns
 returns c =
-    let s : tie.Start = search in
     let link2 : tie.After-link = search in
     let readv : tie.After-read-value = search in
     let match2 : tie.At-match-keys2 = search in
-    let a = (s .args) in
-    other-differs (typeAt value (typesIn (a .rows .now) (a .parts .now) (a .n)) (a .t)) (typesFrom (typesIn (a .rows .now) (a .parts .now) (a .n)) (a .found .now) 0 (a .c)) (not-tuple (a .rows .now) (a .parts .now) (a .n) (a .t) ((link2 .link) .result) ((link2 .link) .ensures) ((readv .read-value) .ensures .0) ((match2 .match) .keys2))
+    other-differs _ _ (not-tuple _ _ _ _ _ (link2 .link .ensures) (readv .read-value .ensures .0) (match2 .match .keys2))
 
 returns-2 : tie.Need-returns-2
 returns-2 c =
-    let s : tie.Start = search in
     let v2 : tie.After-v = search in
     let link2 : tie.After-link = search in
-    let readv : tie.After-read-value = search in
-    let if2 : tie.Then1 = search in
-    let a = (s .args) in
-    let x = (v2 .v) .given in
-    length-differs (typeAt value (typesIn (a .rows .now) (a .parts .now) (a .n)) (a .t)) (meanV (tab (a .rows .now) (a .parts .now))) (a .parts .now) ((link2 .link) .result) (x .0 .0) (x .0 .1 .0) (a .c) (typesIn (a .rows .now) (a .parts .now) (a .n)) (a .found .now) (is-tuple (a .rows .now) (a .parts .now) (a .n) (a .t) ((link2 .link) .result) ((link2 .link) .ensures) ((readv .read-value) .ensures .0) (x .1)) ((if2 .if1) .taken)
+    let x = v2 .v .given in
+    length-differs _ _ _ _ (x .0 .0) (x .0 .1 .0) _ _ _ (is-tuple _ _ _ _ _ (link2 .link .ensures) (search) (x .1)) (search)
 
 same-parts-requires : tie.Need-same-parts-requires
 same-parts-requires c κs =
-    let s : tie.Start = search in
     let link2 : tie.After-link = search in
     let v2 : tie.After-v = search in
     let readv : tie.After-read-value = search in
-    let if2 : tie.Else1 = search in
-    let h = link-fits ((s .args) .n) ((s .args) .t) ((link2 .link) .result) ((link2 .link) .ensures) in
-    let l = tuple-low ((link2 .link) .result) ((v2 .v) .given .1) ((readv .read-value) .ensures .1) in
-    ((s .pre) .0, l .2, h, l .0, omega (arith, l .1, (if2 .if1) .left), s .pre .2)
+    let h = link-fits _ _ _ (link2 .link .ensures) in
+    let l = tuple-low _ (v2 .v .given .1) (readv .read-value .ensures .1) in
+    (search, record { some = l .2; row = h; start = l .0 }, omega (arith, l .1), search)
 
 returns-3 : tie.Need-returns-3
 returns-3 c =
     let s : tie.Start = search in
     let v2 : tie.After-v = search in
     let link2 : tie.After-link = search in
-    let readv : tie.After-read-value = search in
     let if2 : tie.Else1 = search in
     let samep : tie.After-same-parts = search in
     let a = (s .args) in
-    let x = (v2 .v) .given in
-    let T : List Arg = typesIn (a .rows .now) (a .parts .now) (a .n) in
+    let x = v2 .v .given in
     let vs : ℕ → Ty value = meanV (tab (a .rows .now) (a .parts .now)) in
-    tuple-same (typeAt value T (a .t)) (partsOf vs (a .parts .now) false ((link2 .link) .result) (x .0 .0) (a .c)) (typesFrom T (a .found .now) 0 (a .c)) (is-tuple (a .rows .now) (a .parts .now) (a .n) (a .t) ((link2 .link) .result) ((link2 .link) .ensures) ((readv .read-value) .ensures .0) (x .1) ∙ ap (λ (k : ℕ). some (partsOf vs (a .parts .now) false ((link2 .link) .result) (x .0 .0) k)) ((if2 .if1) .left)) ((samep .same-parts) .ensures)
+    tuple-same _ (partsOf _ _ false _ (x .0 .0) _) _ (is-tuple _ _ _ _ _ (link2 .link .ensures) (search) (x .1) ∙ ap (λ (k : ℕ). some (partsOf vs (a .parts .now) false (link2 .link .result) (x .0 .0) k)) (if2 .if1 .left)) (samep .same-parts .ensures)
 
 pub same-tuple-spec : {M : Type 1} → statement M
 same-tuple-spec =
-    tie.close
-    (tie.spec (λ c. search needs) (λ c κs. search needs) read-value-requires (λ c. search needs) returns returns-2 same-parts-requires (λ c. search needs) returns-3)
+    tie.close (tie.spec (λ c. search needs) (λ c κs. search needs) read-value-requires (λ c. search needs) returns returns-2
+    same-parts-requires (λ c. search needs) returns-3)

@@ -1,8 +1,7 @@
 use native.Mathlib.Omega.{arith}
-use Prim.Native.Nat.{ℕ, _-_}
-use Rattle.types_rows.specs.Read.{tab, meanV}
+use Prim.Native.Nat.{_-_}
+use Rattle.types_rows.specs.Read.{meanV}
 use mathlib.Core.Path.{_∙_, ap}
-use Rattle.valid_typing.specs.Typing.{typesIn}
 use Rattle.valid_typing.proofs.target.Registers.{lower-le, fits-none, fits-unknown, fits-type}
 use borrow.Author.Needs.{needs}
 use Rattle.valid_typing.proofs.target.register_fits.Statement.{statement}
@@ -10,36 +9,29 @@ use Rattle.valid_typing.proofs.target.register_fits.Tie as tie
 
 returns : tie.Need-returns
 returns c =
-    let s : tie.Start = search in
     let if2 : tie.Then1 = search in
-    let a = (s .args) in fits-none (meanV (tab (a .rows .now) (a .parts .now))) (typesIn (a .rows .now) (a .parts .now) (a .n)) (a .h) (a .x) (a .u) ((if2 .if1) .taken)
+    fits-none _ _ _ _ _ (if2 .if1 .taken)
 
 returns-2 : tie.Need-returns-2
 returns-2 c =
-    let s : tie.Start = search in
     let if3 : tie.Else1 = search in
-    let if4 : tie.Then2 = search in
-    let a = (s .args) in fits-unknown (meanV (tab (a .rows .now) (a .parts .now))) (typesIn (a .rows .now) (a .parts .now) (a .n)) (a .h) (a .x) (a .u) ((if3 .if1) .left) ((if4 .if2) .taken)
+    fits-unknown _ _ _ _ _ (if3 .if1 .left) (search)
 
 row-of-requires : tie.Need-row-of-requires
 row-of-requires c κs =
     let s : tie.Start = search in
     let link2 : tie.After-link = search in
-    let k = lower-le ((s .args) .h) ((s .args) .x - 1) in
-    ((s .pre) .0 .few, omega (arith, (link2 .link) .ensures, (s .pre) .1))
+    let k = lower-le (s .args .h) (s .args .x - 1) in
+    (s .pre .0 .few, omega (arith, link2 .link .ensures, s .pre .1))
 
 returns-3 : tie.Need-returns-3
 returns-3 c =
     let s : tie.Start = search in
     let rowof : tie.After-row-of = search in
     let if3 : tie.Else1 = search in
-    let if4 : tie.Else2 = search in
-    let link2 : tie.After-link = search in
-    let samer : tie.After-same-rows = search in
-    let a = (s .args) in
-    fits-type (meanV (tab (a .rows .now) (a .parts .now))) (typesIn (a .rows .now) (a .parts .now) (a .n)) (a .h) (a .x) (a .u) ((rowof .row-of) .result) ((if3 .if1) .left) ((if4 .if2) .left) ((rowof .row-of) .ensures .0 (a .rows .now) (a .parts .now) ((s .pre) .0) ∙ ap (meanV (tab (a .rows .now) (a .parts .now))) ((link2 .link) .ensures)) ((samer .same-rows) .ensures)
+    fits-type _ _ _ _ _ _ (if3 .if1 .left) (search) (rowof .row-of .ensures .0 _ _ (s .pre .0) ∙ ap (meanV _) (search)) (search)
 
 pub register-fits-spec : {M : Type 1} → statement M
 register-fits-spec =
-    tie.close
-    (tie.spec returns returns-2 (λ c. search needs) (λ c κs. search needs) row-of-requires (λ c. search needs) (λ c κs. search needs) (λ c. search needs) returns-3)
+    tie.close (tie.spec returns returns-2 (λ c. search needs) (λ c κs. search needs) row-of-requires (λ c. search needs)
+    (λ c κs. search needs) (λ c. search needs) returns-3)
