@@ -1,23 +1,22 @@
 -- The step by tables is the step of the program that they represent: `step-is`.
 use mathlib.Core.Path.{_≡_, refl, ap, ap₂, sym, _∙_}
-use mathlib.Core.Bool.{Bool, true, false, _&&_, cond}
-use mathlib.Core.Option.{Option, none, some}
+use mathlib.Core.Bool.{Bool, true, false, cond}
+use mathlib.Core.Option.{none, some}
 use mathlib.Core.List.{List, [], _∷_, map}
-use Prim.Native.Nat.{ℕ, zero, suc, _+_, _-_, _*_, _<_, _≤_}
+use Prim.Native.Nat.{ℕ, zero, suc, _+_, _-_, _<_, _≤_}
 use native.Mathlib.Nat.{zero-add, suc-add, add-zero, add-suc}
 use native.Mathlib.Decide.{decLt}
 use native.Mathlib.Omega.{arith}
-use lib.Dec.{leb, ltb, eqb, leb·zero, leb·suc-zero, leb·suc-suc}
-use lib.ListN.{length, getD, getElem?, replicate}
-use borrow.Author.Tests.{lt-ltb, le-ltb, ltb-true}
-use Rattle.syntax.specs.Syntax.{Base, Operand, plain, inst, Arith, Branch, Instr, aop, bop, mov, ld, st, malloc, getsp, setsp, salloc, sfree, sld, sst, slp, ssp, jmp, halt}
-use Rattle.exec.specs.Machine.{Word, integer, handle, Memory, at, put, puts, State, Bodies, flat, startOf, fetch, compute, signOf, taken, Stop, stuck, Result, go, stop, baseWord, wordOf, only, unless, setPosition, jump, exec, execNext, step}
+use lib.Dec.{ltb, eqb, leb·zero, leb·suc-zero, leb·suc-suc}
+use lib.ListN.{length, getD, getElem?}
+use borrow.Author.Tests.{ltb-true}
+use Rattle.syntax.specs.Syntax.{Operand, Arith, Branch, Instr, aop, bop, mov, ld, st, malloc, getsp, setsp, salloc, sfree, sld, sst, slp, ssp, jmp, halt}
+use Rattle.exec.specs.Machine.{Word, Memory, State, Bodies, startOf, fetch, stuck, Result, go, stop, baseWord, wordOf, only, unless, setPosition, jump, exec, execNext, step}
 use Rattle.tables.specs.Tables.{cell, OperandTable, span, baseOf, operandOf, operandAt, operandsAt, instrAt, instrsFrom}
 use Rattle.exec_words.specs.arith.Codes.{arithOf, branchOf}
-use Rattle.exec_words.specs.memory.Lent.{lent, operandTable, tupleOf}
-use Rattle.exec_machine.specs.declared.Stop.{Stop as Reason}
-use Rattle.exec_machine.specs.declared.Stop.the-variants.{Halted, StackFull, HeapFull, Stuck}
-use Rattle.exec_machine.specs.Step.{Tables, operandsOf, given, provided, nextArith, nextJump, nextBranch, nextLoad, nextStore, nextTuple, nextCut, nextPush, nextPop, nextRead, nextWrite, nextReadThrough, nextWriteThrough, nextOf, nextAt, resultOf, stepAt, Next, Go, Register, Stack, Heap, Depth, Junk, Tuple, End}
+use Rattle.exec_words.specs.memory.Lent.{operandTable, tupleOf}
+use Rattle.exec_machine.specs.declared.Stop.the-variants.{Stuck}
+use Rattle.exec_machine.specs.Step.{Tables, operandsOf, given, provided, nextArith, nextJump, nextBranch, nextLoad, nextStore, nextTuple, nextCut, nextPush, nextPop, nextRead, nextWrite, nextReadThrough, nextWriteThrough, nextOf, nextAt, resultOf, stepAt, Next, End}
 use Rattle.exec_machine.specs.Represents.{Represents}
 use Rattle.exec_machine.proofs.Codes.{is-arith, is-branch, is-mov, is-ld, is-st, is-malloc, is-getsp, is-setsp, is-salloc, is-sfree, is-sld, is-sst, is-slp, is-ssp, is-jmp, is-halt}
 use Rattle.exec_machine.proofs.Forms.{length-operands}

@@ -1,11 +1,9 @@
 -- From what a function for an instruction answers to what the next instruction does.
 use mathlib.Core.Path.{_≡_, refl, ap, ap₂, sym, _∙_}
-use mathlib.Core.Bool.{Bool, true, false, cond}
 use mathlib.Core.List.{List}
 use Prim.Native.Nat.{ℕ, zero, suc, _+_, _-_, _<_, _≤_}
 use native.Mathlib.Numerals.{add-one}
 use native.Mathlib.Omega.{arith}
-use lib.Dec.{ltb}
 use lib.ListN.{length}
 use borrow.Author.Tests.{lt-ltb, le-ltb}
 use Rattle.syntax.specs.Syntax.{Instr}
@@ -15,7 +13,7 @@ use Rattle.exec_words.specs.arith.Codes.{arithOf, branchOf}
 use Rattle.exec_words.specs.declared.memory.Word.{Word as Pair}
 use Rattle.exec_words.specs.memory.Lent.{wordIs, operandTable}
 use Rattle.exec_machine.specs.declared.Stop.the-variants.{Halted, Stuck}
-use Rattle.exec_machine.specs.Step.{Tables, tables, pair, nextArith, nextJump, nextBranch, nextLoad, nextStore, nextTuple, nextCut, nextPush, nextPop, nextRead, nextWrite, nextReadThrough, nextWriteThrough, nextOf, nextAt, Next, Register, End}
+use Rattle.exec_machine.specs.Step.{tables, pair, nextArith, nextJump, nextBranch, nextLoad, nextStore, nextTuple, nextCut, nextPush, nextPop, nextRead, nextWrite, nextReadThrough, nextWriteThrough, nextOf, nextAt, Next, Register, End}
 use Rattle.exec_machine.proofs.Codes.{is-arith, is-branch, is-mov, is-ld, is-st, is-malloc, is-getsp, is-setsp, is-salloc, is-sfree, is-sld, is-sst, is-slp, is-ssp, is-jmp, is-halt}
 
 pub length-operands : (ω : OperandTable) (v n : ℕ) → length (operandsAt ω v n) ≡ n

@@ -1,10 +1,9 @@
 -- Laws of the functions that make a row, and of rows in the table.
 use mathlib.Core.Path.{_≡_, refl, ap, ap₂, sym, _∙_, subst}
-use mathlib.Core.Bool.{Bool, true, false, _&&_, cond}
+use mathlib.Core.Bool.{Bool, cond}
 use mathlib.Core.List.{List, [], _∷_}
 use Prim.Native.Nat.{ℕ, zero, suc, _+_, _-_, _*_, _<_, _≤_}
-use native.Mathlib.Nat.{zero-add, add-zero, add-suc, suc-add, le-of-suc-le-suc, not-suc-le-zero, le-trans}
-use native.Mathlib.Numerals.{add-one}
+use native.Mathlib.Nat.{add-zero, add-suc, suc-add, le-of-suc-le-suc, not-suc-le-zero}
 use native.Mathlib.Omega.{arith}
 use lib.Dec.{T, ltb, eqb, eqb→eq}
 use lib.ListN.{length, getD, set, length-set, List·getD-eq-default}
@@ -15,9 +14,9 @@ use Rattle.exec.specs.Machine.{compute, signOf, taken}
 use Rattle.tables.specs.Tables.{cell}
 use Rattle.exec_words.specs.arith.Codes.{arithOf, branchOf}
 use Rattle.exec_words.proofs.memory.Laws.{any-default}
-use Rattle.exec_words.proofs.arith.Table.{every, at, at2}
+use Rattle.exec_words.proofs.arith.Table.{every, at}
 use Rattle.exec_machine.specs.Step.{Tables, tables}
-use Rattle.exec_plan.specs.Plan.{forms, halts, columns, chosen, classOf, fifthOf, formIn, addedOf, lastOf, putRow, codeAt, operandIn, countAt, kindAt, numberAt, targetAt, columnAt, formFor, formAt, goalAt, goalIn, lastAt, rowOf, stuckRow, Plan}
+use Rattle.exec_plan.specs.Plan.{forms, halts, columns, chosen, classOf, fifthOf, formIn, addedOf, lastOf, putRow, kindAt, columnAt, formFor, formAt, goalAt, goalIn, lastAt, rowOf, stuckRow, Plan}
 
 -- ---- past a table of rows
 pub no-row : (t : List (List ℕ)) (k i d : ℕ) → length t ≤ k → d ≡ getD (getD t k []) i d

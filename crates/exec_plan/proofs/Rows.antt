@@ -9,16 +9,16 @@ use native.Mathlib.Omega.{arith}
 use lib.Dec.{T, ltb, eqb, eqb→eq}
 use lib.ListN.{length, getD, List·getD-eq-default}
 use borrow.Author.Tests.{lt-ltb, le-ltb, eq-eqb, ltb-true, eqb-false}
-use Rattle.syntax.specs.Syntax.{Base, reg, lit, lab, Operand, plain, Instr, Arith, add, sub, Branch}
+use Rattle.syntax.specs.Syntax.{Base, reg, lit, lab, Operand, plain, Instr, Arith, add, sub}
 use Rattle.exec.specs.Machine.{Word, Memory, at, State, Sign, negative, null, positive, signOf, taken, intKind, label, integer, height, compute, baseWord, wordOf}
 use Rattle.tables.specs.Tables.{cell, OperandTable, baseOf, operandOf, operandAt, operandsAt, instrAt, span}
 use Rattle.exec_words.specs.arith.Codes.{arithOf, branchOf, column}
 use Rattle.exec_words.specs.memory.Lent.{operandTable}
 use Rattle.exec_words.proofs.memory.Laws.{word-of}
-use Rattle.exec_machine.specs.declared.Stop.the-variants.{Halted, Stuck}
+use Rattle.exec_machine.specs.declared.Stop.the-variants.{Stuck}
 use Rattle.exec_machine.specs.Represents.{LowBase, LowOperand, LowOperands, Registered, Fit}
-use Rattle.exec_machine.specs.Step.{Tables, tables, operandsOf, pair, given, provided, nextArith, nextJump, nextBranch, nextLoad, nextStore, nextTuple, nextCut, nextPush, nextPop, nextRead, nextWrite, nextReadThrough, nextWriteThrough, nextAt, Next, Go, Register, End}
-use Rattle.exec_machine.proofs.Codes.{is-arith, is-branch, is-mov, is-ld, is-st, is-malloc, is-getsp, is-setsp, is-salloc, is-sfree, is-sld, is-sst, is-slp, is-ssp, is-jmp}
+use Rattle.exec_machine.specs.Step.{Tables, operandsOf, pair, given, provided, nextArith, nextJump, nextBranch, nextLoad, nextStore, nextTuple, nextCut, nextPush, nextPop, nextRead, nextWrite, nextReadThrough, nextWriteThrough, nextAt, Next, Go, Register, End}
+use Rattle.exec_machine.proofs.Codes.{is-arith, is-branch, is-mov, is-ld, is-st, is-malloc, is-getsp, is-setsp, is-sld, is-sst, is-slp, is-ssp, is-jmp}
 use Rattle.exec_machine.proofs.Forms.{here, nowhere, arith-is, branch-is, jmp-is, mov-is, malloc-is, getsp-is, setsp-is, salloc-is, sfree-is, sld-is, sst-is, slp-is, ssp-is, ld-is, st-is, halt-is}
 use Rattle.exec_plan.specs.Plan.{forms, halts, columns, readsOperand, chosen, codeAt, operandIn, countAt, kindAt, numberAt, targetAt, columnAt, classOf, fifthOf, formIn, addedOf, lastOf, formFor, formAt, goalAt, goalIn, lastAt, rowOf, stuckRow, Plan, planned}
 use Rattle.exec_plan.proofs.Laws.{all-three, past-form, form-in, fifth-goal, fifth-low, form-back, class-small}

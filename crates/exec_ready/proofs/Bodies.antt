@@ -2,7 +2,7 @@
 use Prim.Native.Nat.{ℕ, zero, suc, _+_, _-_, _≤_, _<_}
 use native.Mathlib.Omega.{arith}
 use native.Mathlib.Nat.{add-zero, zero-add}
-use mathlib.Core.Path.{_≡_, refl, ap, ap₂, sym, subst, _∙_}
+use mathlib.Core.Path.{_≡_, refl, ap, ap₂, sym, _∙_}
 use mathlib.Core.List.{List, [], _∷_, _++_, map}
 use lib.ListN.{length, length-append, take}
 use Rattle.syntax.specs.Syntax.{value, Instr}
@@ -11,7 +11,7 @@ use Rattle.types.specs.Types.{Arg}
 use Rattle.types.specs.Rows.{typeAt}
 use Rattle.tables.specs.Tables.{cell, OperandTable, instrAt, instrsFrom, blocksFrom}
 use Rattle.tables.proofs.Steps.{length-instrs}
-use Rattle.valid.specs.Program.{Block, Program, blockOf, blocksOf}
+use Rattle.valid.specs.Program.{Block, Program, blocksOf}
 use Rattle.valid.proofs.Order.{body-of}
 use Rattle.exec.specs.Machine.{Bodies, flat, startOf}
 use Rattle.exec.specs.Run.{bodies}

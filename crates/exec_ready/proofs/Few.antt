@@ -1,16 +1,16 @@
 -- An entry declares at most 16 samples: "tuple of 0 to 16 value rows".
-use Prim.Native.Nat.{ℕ, zero, suc, _+_, _≤_, _<_}
+use Prim.Native.Nat.{ℕ, zero, suc, _≤_, _<_}
 use native.Mathlib.Omega.{arith}
-use mathlib.Core.Path.{_≡_, refl, ap, sym, subst, _∙_}
+use mathlib.Core.Path.{_≡_, refl, sym, subst, _∙_}
 use mathlib.Core.Bool.{Bool, true, false, cond}
 use mathlib.Core.List.{List}
-use lib.Dec.{eqb, ltb}
-use lib.ListN.{length, getD}
+use lib.Dec.{ltb}
+use lib.ListN.{getD}
 use borrow.Author.Tests.{ne-eqb, ltb-true}
 use Rattle.syntax.specs.Syntax.{value, stack, Instr}
-use Rattle.types.specs.Types.{Ty, int, junk, var, tuple, pointer, code, nil, push, gap, items}
+use Rattle.types.specs.Types.{Ty, push}
 use Rattle.types.specs.Rows.{typeAt, typesOf}
-use Rattle.tables.specs.Tables.{RowTable, cell, span, rowFrom, rowAt, rowsIn}
+use Rattle.tables.specs.Tables.{RowTable, cell, rowFrom, rowAt, rowsIn}
 use Rattle.tables.proofs.Spans.{span-length}
 use Rattle.types_rows.specs.Read.{lower, valueWith, valueAt, slotAt, onSlot, partsOf, buildV, meanV, meanS}
 use Rattle.types_rows.specs.declared.Val.{Val}

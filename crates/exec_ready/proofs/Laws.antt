@@ -10,9 +10,9 @@ use lib.Dec.{eqb, ltb}
 use lib.ListN.{length, replicate}
 use borrow.Author.Tests.{ne-eqb}
 use Rattle.syntax.specs.Syntax.{value, Instr}
-use Rattle.syntax.specs.Fault.{Fault, fault, numberOf, given, Pass, Refusal, itemsOf, lowest, refuse, lowestLine, orElse, earliest}
+use Rattle.syntax.specs.Fault.{fault, numberOf, given, Pass, Refusal, itemsOf, lowest, lowestLine, orElse, earliest}
 use Rattle.syntax.proofs.Least.{leastOf, Numbered, numbered-given, numbered-append, line-next, line-here}
-use Rattle.text.specs.PassOne.{Listing, passOne, entriesOf, rowsOf, listingsOf}
+use Rattle.text.specs.PassOne.{passOne}
 use Rattle.types.specs.Types.{items, code, aStack, Arg}
 use Rattle.types.specs.Rows.{typeAt, typesOf}
 use Rattle.tables.specs.Tables.{cell, rowsIn, instrsFrom, blocksFrom, OperandTable}
@@ -21,13 +21,13 @@ use Rattle.types_rows.specs.Read.{tab, CountedTo}
 use Rattle.valid.specs.Program.{Block, Program, blockOf, blocksOf, programOf, programFrom}
 use Rattle.valid.specs.PassThree.{declared, isFormed, isEntry, blockFaults}
 use Rattle.valid.specs.Verdict.{passTwoOf}
-use Rattle.exec.specs.Run.{bodies, wanted, barred}
+use Rattle.exec.specs.Run.{wanted, barred}
 use Rattle.exec.proofs.Barred.{firstFaults, entryPass, barred-is}
 use Rattle.text_decode.specs.store.Store.{Store, rowTable, operandsOf}
 use Rattle.load.specs.declared.Loaded.{Loaded}
 use Rattle.load.specs.Loaded.{refusalOf as loadRefusal, IsLoaded, LoadIs}
 use Rattle.exec_ready.specs.declared.Ready.{Ready}
-use Rattle.exec_ready.specs.Ready.{barredAt, refusalOf, Startable, ReadyIs}
+use Rattle.exec_ready.specs.Ready.{barredAt, refusalOf, ReadyIs}
 use Rattle.exec_ready.proofs.Bodies.{represents-is}
 use Rattle.exec_ready.proofs.Few.{few-samples}
 use Rattle.exec_ready.proofs.Registers.{registers-low}

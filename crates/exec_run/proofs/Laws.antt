@@ -23,7 +23,6 @@ use Rattle.exec_step.specs.declared.moved.Moved.{Moved}
 use Rattle.exec_step.specs.declared.moved.Moved.the-variants as moved
 use Rattle.exec_step.specs.moved.Stepped.{held, Still, Stepped, RowAt, Inside}
 use Rattle.exec_step.specs.Rows.{formOf, FitRow}
-use Rattle.exec_run.specs.declared.Outcome.the-variants.{Paused, Ended}
 use Rattle.exec_run.specs.Runs.{later, Safe, Planned, PlaceIn}
 
 -- ---- runs

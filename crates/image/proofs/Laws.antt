@@ -1,17 +1,14 @@
 -- Parts of a list: what is written in one leaves the others.
-use Prim.Native.Nat.{ℕ, zero, suc, _+_, _-_, _*_, _<_, _≤_}
-use native.Mathlib.Nat.{le-trans, le-refl}
+use Prim.Native.Nat.{ℕ, _+_, _-_, _<_, _≤_}
 use native.Mathlib.Omega.{arith}
-use mathlib.Core.Path.{_≡_, refl, ap, sym, subst, _∙_}
+use mathlib.Core.Path.{_≡_, refl, ap, sym, _∙_}
 use mathlib.Core.Bool.{Bool, true, false, cond}
-use mathlib.Core.Logic.{_⊎_, inl, inr, ⊎-elim}
-use mathlib.Core.List.{List, [], _∷_, _++_}
+use mathlib.Core.List.{List, _++_}
 use lib.Dec.{ltb}
-use lib.ListN.{length, getD, set, take, drop, length-set, length-take, length-drop, take-append-drop}
+use lib.ListN.{length, getD, set, take, drop, length-set, length-drop, take-append-drop}
 use lib.Seq.{take-append-le, drop-append-le, take-at, drop-at, drop-drop, length-take-le, getD-take, getD-drop, take-set-le, take-set-lt, drop-set-lt, drop-set-add}
 use borrow.Author.Tests.{ltb-false, le-ltb, lt-ltb}
 use borrow.Rule.Slice.PartMut.{putMid, postOf, take-put, drop-put, same-len-mid}
-use Rattle.image.specs.declared.Places.{Places}
 use Rattle.image.specs.Sections.{part, Ordered, Outside}
 use Rattle.image.specs.Layout.{noPlaces, smallPlaces, smallSharedPlaces, largePlaces, largeSharedPlaces, placesOf}
 

@@ -1,25 +1,25 @@
 -- Where pass two is clear each block's row is a code row, so a label has that row's type.
-use Prim.Native.Nat.{ℕ, zero, suc, _+_, _≤_, _<_}
+use Prim.Native.Nat.{ℕ, zero, suc, _+_, _<_}
 use native.Mathlib.Nat.{add-zero}
 use native.Mathlib.Omega.{arith}
 use mathlib.Core.Path.{_≡_, refl, ap, ap₂, sym, subst, _∙_}
-use mathlib.Core.Bool.{Bool, true, false, _&&_, not, cond}
-use mathlib.Core.Option.{Option, none, some}
+use mathlib.Core.Bool.{Bool, true, not, cond}
+use mathlib.Core.Option.{none, some}
 use mathlib.Core.List.{List, [], _∷_, _++_, map, append-eq-nil-iff}
 use lib.Dec.{ltb, leb·suc-suc}
-use lib.ListN.{length, getD, getElem?}
+use lib.ListN.{length, getElem?}
 use borrow.Author.Tests.{lt-ltb, le-ltb, ltb-true}
 use Rattle.syntax.specs.Partial.{when}
-use Rattle.syntax.specs.Syntax.{Kind, value, stack, Row, rowI, rowN, rowE, rowV, rowX, rowP, rowU, rowK, rowA, rowC, Instr, Entry, row, block, instr}
-use Rattle.syntax.specs.Fault.{Fault, Clear, given}
+use Rattle.syntax.specs.Syntax.{Kind, value, Row, rowI, rowN, rowE, rowV, rowX, rowP, rowU, rowK, rowA, rowC, Instr, Entry, instr}
+use Rattle.syntax.specs.Fault.{Clear, given}
 use Rattle.syntax.proofs.Least.{given-none}
 use Rattle.text.specs.PassOne.{Listing}
 use Rattle.text.proofs.Entries.{blocksEntries, entriesIn}
-use Rattle.types.specs.Types.{Ty, code, Arg, arg, ofKind, junk}
-use Rattle.types.specs.Rows.{Ref, ref, codeRow, typeAt, meaning, typesOf, isCode, isOf, isSort, allBelow, allOfSort, rowsFaults, refsFaults, entryFaults, entriesFaults}
+use Rattle.types.specs.Types.{Arg, ofKind}
+use Rattle.types.specs.Rows.{ref, codeRow, typeAt, meaning, typesOf, isCode, isOf, isSort, allBelow, allOfSort, rowsFaults, refsFaults, entryFaults, entriesFaults}
 use Rattle.types.proofs.Equal.{and-inv, none-true, not-false}
 use Rattle.types.proofs.Meaning.{typeIn, type-is, rows-clear}
-use Rattle.tables.specs.Tables.{RowTable, cell, rowAt, rowsIn, OperandTable, instrsFrom, blocksFrom}
+use Rattle.tables.specs.Tables.{RowTable, cell, rowAt, rowsIn, OperandTable, blocksFrom}
 use Rattle.tables.proofs.Steps.{length-rows, row-in}
 use Rattle.valid_scope.proofs.Rows.{row-getD}
 use Rattle.valid.specs.Program.{Block, Program, blockOf, blocksOf}

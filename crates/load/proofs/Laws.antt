@@ -2,21 +2,19 @@
 use Prim.Native.Nat.{ℕ, zero, suc, _+_, _-_, _*_, _≤_, _<_}
 use native.Mathlib.Omega.{arith}
 use mathlib.Core.Path.{_≡_, refl, ap, ap₂, sym, subst, _∙_}
-use mathlib.Core.Bool.{Bool, true, false, cond}
+use mathlib.Core.Bool.{Bool, true, false}
 use mathlib.Core.Option.{Option, none, some}
 use mathlib.Core.List.{List, [], _∷_, _++_}
 use lib.Dec.{eqb, ltb}
 use lib.ListN.{length, replicate, length-replicate}
-use borrow.Author.Tests.{ne-eqb, eq-eqb, ltb-true, ltb-false}
+use borrow.Author.Tests.{ne-eqb, ltb-true, ltb-false}
 use Rattle.syntax.specs.Syntax.{Row, Entry}
 use Rattle.syntax.specs.Fault.{Refusal, Pass, Clear, lowestLine, orElse, earliest}
 use Rattle.text.specs.PassOne.{Listing, passOne, entriesOf, rowsOf, listingsOf}
 use Rattle.text.proofs.Entries.{entriesIn, entries-in}
-use Rattle.types.specs.Types.{Arg}
 use Rattle.types.specs.Rows.{typesOf, rowsFaults, entriesFaults, passTwo}
-use Rattle.tables.specs.Tables.{RowTable, cell, rowAt, rowsIn, OperandTable, instrAt, blocksFrom}
-use Rattle.tables.proofs.Steps.{length-rows}
-use Rattle.valid.specs.Program.{Program, programOf, programFrom, blocksOf}
+use Rattle.tables.specs.Tables.{RowTable, cell, rowAt, rowsIn, OperandTable, blocksFrom}
+use Rattle.valid.specs.Program.{programOf, programFrom, blocksOf}
 use Rattle.valid.specs.Verdict.{passTwoOf}
 use Rattle.valid.proofs.Clear.{earliest-clear, clear-split}
 use Rattle.types_pass_two.specs.declared.refs.Found.{Found}
@@ -26,16 +24,16 @@ use Rattle.image.specs.declared.Places.{Places}
 use Rattle.image.specs.Sections.{Ordered, rowSection, blockSection, instrSection, partSection, useSection, topSection}
 use Rattle.image.specs.Layout.{placesOf, largePlaces, largeSharedPlaces}
 use Rattle.image.proofs.Laws.{part-length, ordered, large, large-shared}
-use Rattle.text_decode.specs.store.Store.{Store, rowTable, operandsOf, Room, storeIn}
+use Rattle.text_decode.specs.store.Store.{Store, rowTable, operandsOf, storeIn}
 use Rattle.text_decode.proofs.state.Room.{lengths}
 use Rattle.text_decode.specs.declared.state.Read.{Read}
 use Rattle.text_decode.specs.Decoded as decode
-use Rattle.valid_context.specs.premises.Bounds.{SmallRow, SmallInstr}
+use Rattle.valid_context.specs.premises.Bounds.{SmallRow}
 use Rattle.valid_context.specs.premises.Answers.{Holds}
 use Rattle.valid_context.proofs.premises.Grammar.{rows-small, instrs-small}
 use Rattle.load.specs.prepare.Prepared.{Prepared, Kept}
 use Rattle.load.specs.declared.Loaded.{Loaded}
-use Rattle.load.specs.Loaded.{Space, SpaceFor, SmallRead, SpaceIn, faulty, refusalOf, IsLoaded, LoadIs}
+use Rattle.load.specs.Loaded.{Space, SpaceFor, SmallRead, SpaceIn, faulty, refusalOf, LoadIs}
 use Rattle.load.proofs.Codes.{CodeOk, all-codes, holds-is}
 
 -- a fault that is named

@@ -2,13 +2,13 @@
 -- Assumes nothing.
 use mathlib.Core.Path.{_≡_, refl, ap, sym, _∙_}
 use mathlib.Core.Bool.{Bool, cond}
-use mathlib.Core.List.{List, []}
+use mathlib.Core.List.{List}
 use Prim.Native.Nat.{ℕ, _+_, _<_, _≤_, zero-le}
 use native.Mathlib.Omega.{arith}
 use lib.ListN.{length, drop, length-drop}
 use lib.Seq.{drop-drop}
 use Rattle.text.specs.Bytes.{sameBytes, linesOf}
-use Rattle.text_lines.specs.Parts.{lineAt, NextLine}
+use Rattle.text_lines.specs.Parts.{lineAt}
 use Rattle.text_lines.proofs.Parts.{one-more, lines-none}
 use Rattle.text_reader.specs.Reading.{lineFrom, nextFrom}
 use Rattle.text_reader.proofs.Reading.{next-is, line-there}

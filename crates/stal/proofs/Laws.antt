@@ -5,18 +5,17 @@ use mathlib.Core.Bool.{Bool}
 use mathlib.Core.List.{List, [], _∷_}
 use Rattle.valid.specs.Verdict.{check}
 use Rattle.valid_context.specs.premises.Answers.{In}
-use Rattle.valid_verdict.specs.Answers.{Said, accept, refuse, saidOf, saidBy, itemsIn, Names, Answers}
+use Rattle.valid_verdict.specs.Answers.{Said, refuse, saidBy, itemsIn, Names, Answers}
 use Rattle.valid_verdict.specs.declared.Answer.{Answer}
 use Rattle.valid_verdict.specs.declared.Answer.the-variants.{Accepted, Refused, Unfit}
 use Rattle.valid_check.specs.Lent.{AnswersIn}
 use Rattle.exec.specs.Run as exec
 use Rattle.exec_machine.specs.Step.{stateOf}
-use Rattle.exec_outcome.specs.declared.Answer as run
 use Rattle.exec_outcome.specs.declared.Outcome.{Outcome}
 use Rattle.exec_outcome.specs.Answers.{answerIs, outcomeIs}
 use Rattle.stal_numbers.specs.declared.Verdict.{Verdict}
 use Rattle.stal_numbers.specs.declared.Reply.{Reply}
-use Rattle.stal_numbers.specs.Numbers.{verdict, verdictBy, verdictOf, Last, Tells, TellsIn, replyOf, call, callOf, stateIn}
+use Rattle.stal_numbers.specs.Numbers.{verdictBy, verdictOf, Last, Tells, TellsIn, replyOf, call, callOf, stateIn}
 
 -- ---- start and continue
 pub called : (o : Outcome) (r : Reply) (rk rn sk sn hk hn : List ℕ) (d u p : ℕ) (e : exec.Outcome) → outcomeIs o rk rn sk sn hk hn ≡ e → (d ≡ o .place .depth) × (u ≡ o .place .used) × (p ≡ o .place .position) → r ≡ replyOf (answerIs (o .answer)) → call r (stateIn rk rn sk sn hk hn d u p) ≡ callOf e

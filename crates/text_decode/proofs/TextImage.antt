@@ -2,15 +2,14 @@
 -- Assumes nothing.
 use mathlib.Core.Path.{_≡_, ap, sym, subst, _∙_}
 use mathlib.Core.List.{List}
-use Prim.Native.Nat.{ℕ, _≤_}
-use native.Mathlib.Omega.{arith}
+use Prim.Native.Nat.{ℕ}
 use lib.ListN.{length}
 use Rattle.image.specs.declared.Places.{Places}
 use Rattle.image.specs.Sections.{Ordered}
 use Rattle.image.specs.Layout.{placesOf}
 use Rattle.image.proofs.Laws.{ordered}
-use Rattle.text_decode.specs.store.Store.{Store, storeIn, stored}
-use Rattle.text_decode.proofs.state.Room.{Lengths, lengths}
+use Rattle.text_decode.specs.store.Store.{storeIn, stored}
+use Rattle.text_decode.proofs.state.Room.{lengths}
 use Rattle.text_decode.proofs.LoopLaws.{AsLong}
 
 module _ (p : Places) (l₀ l : List ℕ) (e : p ≡ placesOf (length l₀)) (s : length l ≡ length l₀) where

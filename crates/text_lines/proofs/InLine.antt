@@ -152,9 +152,6 @@ module _ (s : List ℕ) (at e : ℕ) (p : InLine s at) (is : e ≡ at + length (
       ∙ part-is 44 (lineIn s) at e is
 
 -- ---- the last LF of a text
-pub last-here : (text : List ℕ) (i : ℕ) → 0 < i → i ≤ length text → getD text (i - 1) 0 ≡ 10 → i + length (firstPart 10 (drop i text)) ≡ length text → LastEnd text i
-last-here text i a h e w = record { within = h; ended = λ z. e; rest = w }
-
 pub last-none : (text : List ℕ) (i : ℕ) → i ≤ 0 → i + length (firstPart 10 (drop i text)) ≡ length text → LastEnd text 0
 last-none text i h w =
     let q : i ≡ 0 = omega arith in

@@ -9,7 +9,7 @@ use native.Mathlib.Nat.{le-of-lt}
 use native.Mathlib.Numerals.{add-one}
 use denote.Ref.{RefT, now}
 use lib.Dec.{ltb, leb}
-use lib.ListN.{length, getD, set, take, drop, drop-of-length-le, length-drop, length-set, length-map}
+use lib.ListN.{length, getD, set, take, drop, length-drop, length-set, length-map}
 use lib.Seq.{drop-drop, take-all, take-nil, take-suc, take-suc-set, take-take, drop-set-lt, set-out, length-take-le}
 use borrow.Author.Tests.{lt-ltb, le-ltb, le-leb, lt-leb, ltb-true, ltb-false, leb-true, leb-false}
 use Rattle.text.specs.Bytes.{Line, linesOf}

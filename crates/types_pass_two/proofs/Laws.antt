@@ -10,7 +10,7 @@ use lib.ListN.{length, length-replicate, getD, replicate, getD-replicate, List·
 use lib.Dec.{ltb, leb, eqb}
 use borrow.Author.Tests.{ne-eqb, eqb-true, eqb-false, leb-true, leb-false, ltb-false}
 use Rattle.syntax.specs.Syntax.{Row}
-use Rattle.syntax.specs.Fault.{Fault, Clear, given, numberOf, lowest, Refusal, itemsOf, lowestLine, orElse}
+use Rattle.syntax.specs.Fault.{Fault, Clear, given, numberOf, lowest, Refusal, lowestLine, orElse}
 use Rattle.syntax.proofs.Least.{least, leastOf, given-none, line-next, line-here}
 use Rattle.text.specs.PassOne.{Listing}
 use Rattle.text.proofs.Entries.{entriesIn}

@@ -1,22 +1,21 @@
 -- What a row means here is the type that crate types gives it: with no condition on the tables.
-use mathlib.Core.Path.{_≡_, refl, ap, ap₂, sym, _∙_, subst}
+use mathlib.Core.Path.{_≡_, refl, ap, ap₂, sym, _∙_}
 use mathlib.Core.Bool.{Bool, true, false, cond}
-use mathlib.Core.List.{List, [], _∷_, _++_, map, reverse, reverse-reverse}
-use mathlib.Core.Option.{Option, none, some}
+use mathlib.Core.List.{List, [], _∷_, _++_, map, reverse-reverse}
 use Prim.Native.Nat.{ℕ, zero, suc, _+_, _-_, _<_, _≤_}
 use native.Mathlib.Omega.{arith}
 use native.Mathlib.Nat.{not-suc-le-zero, add-zero, zero-add}
-use lib.Dec.{eqb, leb, ltb, leb·suc-suc}
+use lib.Dec.{leb, ltb}
 use lib.ListN.{length, length-append, getD, List·getD-eq-default, List·getD-append}
 use lib.Seq.{getD-at}
-use borrow.Author.Tests.{eq-eqb, ne-eqb, leb-true, leb-false, ltb-true, ltb-false, le-leb, lt-leb, lt-ltb, le-ltb}
-use Rattle.syntax.specs.Syntax.{Kind, value, stack, Row, rowI, rowN, rowE, rowV, rowX, rowP, rowU, rowK, rowA, rowC}
-use Rattle.types.specs.Types.{Ty, int, junk, var, tuple, pointer, code, nil, push, svar, gap, join, items, Arg, arg, ofKind}
+use borrow.Author.Tests.{ne-eqb, leb-true, leb-false, ltb-true, ltb-false, le-leb, lt-ltb, le-ltb}
+use Rattle.syntax.specs.Syntax.{Kind, value, stack, Row, rowA}
+use Rattle.types.specs.Types.{tuple, pointer, push, gap, join, items, Arg, arg, ofKind}
 use Rattle.types.specs.Rows.{typeAt, components, registers, meaning, meanings, typesOf}
-use Rattle.tables.specs.Tables.{RowTable, cell, span, letterOf, knownOf, lettersAt, codeRowAt, rowFrom, rowAt, rowsFrom, rowsIn}
-use Rattle.types_rows.specs.declared.Val.the-variants.{Int, Junk, ValVar, ValFill, Tuple, Pointer, Code}
-use Rattle.types_rows.specs.declared.Stk.the-variants.{Nil, StkVar, StkFill, Push, Join}
-use Rattle.types_rows.specs.Read.{tab, lower, valueWith, stackWith, valueAt, stackAt, isStackAt, slotAt, onSlot, partsOf, buildV, buildS, meanV, meanS, mean, argOf, itemsAt, CountedTo, Counted}
+use Rattle.tables.specs.Tables.{RowTable, cell, span, knownOf, lettersAt, codeRowAt, rowFrom, rowAt, rowsFrom, rowsIn}
+use Rattle.types_rows.specs.declared.Val.the-variants.{Junk, ValVar}
+use Rattle.types_rows.specs.declared.Stk.the-variants.{Nil, StkVar, Join}
+use Rattle.types_rows.specs.Read.{lower, valueWith, stackWith, isStackAt, slotAt, onSlot, partsOf, buildV, buildS, meanV, meanS, mean, argOf, CountedTo, Counted}
 use Rattle.types_rows.proofs.Laws.{noArg, value-is, stack-is}
 
 -- ---- the table of types grows by one row

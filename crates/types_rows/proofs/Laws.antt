@@ -1,5 +1,5 @@
 -- Laws of rows and of what they mean.
-use mathlib.Core.Path.{_≡_, refl, ap, ap₂, sym, _∙_, subst}
+use mathlib.Core.Path.{_≡_, refl, ap, ap₂, sym, _∙_}
 use mathlib.Core.Bool.{Bool, true, false, cond}
 use mathlib.Core.List.{List, [], _∷_}
 use Prim.Native.Nat.{ℕ, zero, suc, _+_, _-_, _<_, _≤_}
@@ -7,9 +7,9 @@ use native.Mathlib.Omega.{arith}
 use native.Mathlib.Nat.{not-suc-le-zero}
 use lib.Dec.{eqb, leb, ltb, leb·suc-suc}
 use lib.ListN.{length, getD}
-use borrow.Author.Tests.{eq-eqb, ne-eqb, leb-false, leb-true, ltb-true, ltb-false, eqb-true, eqb-false, le-leb, lt-leb, lt-ltb, le-ltb}
+use borrow.Author.Tests.{ne-eqb, leb-false, leb-true, ltb-true, eqb-false, le-leb, lt-leb, lt-ltb, le-ltb}
 use Rattle.syntax.specs.Syntax.{Kind, value, stack}
-use Rattle.types.specs.Types.{Ty, int, junk, var, tuple, pointer, code, nil, push, svar, gap, join, items, variable, below, Act, walk, raising, raise, Arg, arg, ofKind}
+use Rattle.types.specs.Types.{Ty, int, junk, var, tuple, pointer, code, nil, push, svar, gap, join, items, variable, walk, raise, Arg, arg, ofKind}
 use Rattle.types.proofs.Filling.{join-nil, items-join, walk-join, Side, lo, hi, side, below-lt, below-ge}
 use Rattle.tables.specs.Tables.{RowTable, cell, lettersAt}
 use Rattle.types_rows.specs.declared.Val.{Val}
@@ -21,8 +21,8 @@ use Rattle.types_rows.specs.declared.Slot.the-variants.{Gap, Known}
 use Rattle.types_rows.specs.declared.Step.{Step}
 use Rattle.types_rows.specs.declared.Step.the-variants.{Stay, Down}
 use Rattle.types_rows.specs.declared.Item.{Item}
-use Rattle.types_rows.specs.declared.Item.the-variants.{NoItem, ValItem, VarItem}
-use Rattle.types_rows.specs.Read.{tab, lower, valueWith, stackWith, valueAt, stackAt, slotAt, onSlot, partsOf, buildV, buildS, valueTo, stackTo, meanV, meanS, mean, placed, acting, valueUnder, stackUnder, partsUnder, codeOf, codeUnder, placeV, placeS, OkV, OkS, OkSlot, dropS, takeS, itemsAt, CountedTo, downOf, Narrowed, headOf, ItemOf}
+use Rattle.types_rows.specs.declared.Item.the-variants.{NoItem}
+use Rattle.types_rows.specs.Read.{lower, valueWith, stackWith, valueAt, stackAt, slotAt, onSlot, partsOf, buildV, buildS, valueTo, stackTo, meanV, meanS, placed, acting, valueUnder, stackUnder, partsUnder, codeOf, codeUnder, placeV, placeS, OkV, OkS, OkSlot, dropS, takeS, itemsAt, CountedTo, downOf, Narrowed, headOf, ItemOf}
 
 pub never : {A : Type 0} → _≡_ {A = ℕ} 0 1 → A
 never e = absurd (omega arith)
@@ -392,9 +392,6 @@ module _ (τ : RowTable) (r j n : ℕ) where
   -- what the search keeps
   abbrev pub Found : ℕ → ℕ → Type 0
   Found x i = (x ≤ r) × (i ≤ j) × (takeS n (dropS j (meanS τ r)) ≡ takeS n (dropS i (meanS τ x))) × (items (meanS τ x) - i ≤ items (meanS τ r) - j)
-
-  pub found-first : Found r j
-  found-first = (omega arith, omega arith, refl, omega arith)
 
   pub found-next : (x i y k : ℕ) {s : Step} → CountedTo τ r → Found x i → s ≡ downOf (τ .rows) (stackAt (τ .rows) StkVar x) i n → s ≡ Down y k → Found y k
   found-next x i y k c f e g =

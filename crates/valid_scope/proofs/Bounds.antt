@@ -1,6 +1,6 @@
 -- Past a bound of the variables of the rows before it no variable is free in a row but its own.
 use Prim.Native.Nat.{ℕ, zero, suc, _+_, _*_, _<_, _≤_}
-use native.Mathlib.Nat.{zero-add, suc-add, not-suc-le-zero}
+use native.Mathlib.Nat.{zero-add, suc-add}
 use native.Mathlib.Omega.{arith}
 use mathlib.Core.Path.{_≡_, refl, ap, sym, _∙_}
 use mathlib.Core.Bool.{Bool, true, false, cond}
@@ -19,9 +19,6 @@ use Rattle.valid_scope.proofs.Rows.{low, row-high, row-past, no-variabl
 use Rattle.valid_scope.proofs.Laws.{type-use, top-past, Filled, free-more}
 
 -- ---- clearing
-pub clear-first : (before : List ℕ) (i j : ℕ) → Cleared before before i i
-clear-first before i j = (λ x h. refl, λ x h l. absurd (omega arith))
-
 pub clear-next : (before after : List ℕ) (i j x : ℕ) → i ≤ x → x < length after → Cleared before after i x → Cleared before (set after x 0) i (x + 1)
 clear-next before after i j x h l c = (λ y k. getD-set-other after x y 0 0 (λ e. omega arith) ∙ c .0 y k, λ y k m. go y k m (eqb y x) refl)
   where
@@ -119,6 +116,3 @@ module _ (τ : RowTable) (r limit : ℕ) (before after : List ℕ) (past : (k : 
 
   pub free-filled : Checked τ r → Free τ r before → Filled τ r limit before → Free τ (suc r) after
   free-filled z h f = free-more τ r after z (free-cleared h) (filled-cleared f)
-
-pub within-none : (τ : RowTable) → Within τ 0 0
-within-none τ r k l h = absurd (not-suc-le-zero l)

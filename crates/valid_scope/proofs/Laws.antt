@@ -78,9 +78,6 @@ free-more τ r uses c h f = λ x k l. below-suc (λ x. (k : ℕ) → useAt uses 
     own k false e = let i = ltb-false k 64 e in sym (use-past uses k r i) ∙ sym (row-high uses k i (rowAt τ r) (c .small)) ∙ type-use τ r uses k c h
 
 -- ---- both tables
-pub scoped-none : (τ : RowTable) (uses tops : List ℕ) → Scoped τ 0 uses tops
-scoped-none τ uses tops = record { room = omega arith; free = λ x k l. absurd (not-suc-le-zero l); top = λ x l. absurd (not-suc-le-zero l) }
-
 -- one row more: its uses are there, found from the old ones, and its top is v
 pub scoped-more : (τ : RowTable) (r v m : ℕ) (b : Bool) (old uses tops : List ℕ) → Checked τ r → Scoped τ r old tops → b ≡ rowRespected
     old tops (rowAt τ r) → m ≡ topOf (λ k. freeIn k (rowType τ r)) 64 → v ≡ cond b m 255 → 64 * r + 64 ≤ length uses → r < length tops

@@ -17,8 +17,8 @@ use Rattle.image.proofs.Laws.{part-length, back, lent, nothing, then, wider, be
 use Rattle.valid_scope.specs.variables.Free.{topOf, freeIn}
 use Rattle.valid_scope.specs.variables.Uses.{rowRespected}
 use Rattle.valid_scope.specs.Scoped.{rowType, Free, Within, Cleared, Scoped, Checked}
-use Rattle.valid_scope.proofs.Laws.{Filled, free-kept, filled-more, top-none, top-more, scoped-none, scoped-more}
-use Rattle.valid_scope.proofs.Bounds.{free-filled, within-none}
+use Rattle.valid_scope.proofs.Laws.{Filled, free-kept, filled-more, top-none, top-more, scoped-more}
+use Rattle.valid_scope.proofs.Bounds.{free-filled}
 
 -- ---- the uses of one row
 -- the entries below k of row r are filled, the rows before it are right, and so is the top so far
@@ -82,9 +82,6 @@ pub record Finding (p : Places) (n : ℕ) (l l′ : List ℕ) (bound r : ℕ) : 
   pub scoped : Scoped (tab (rowSection p l) (partSection p l)) r (useSection p l′) (topSection p l′)
   pub small : bound ≤ 64
   pub within : Within (tab (rowSection p l) (partSection p l)) r bound
-
-pub finding-first : (p : Places) (n : ℕ) (l : List ℕ) → Finding p n l l 0 0
-finding-first p n l = record { few = omega arith; out = nothing (p .uses) (p .shared) l; scoped = scoped-none (tab (rowSection p l) (partSection p l)) (useSection p l) (topSection p l); small = omega arith; within = within-none (tab (rowSection p l) (partSection p l)) }
 
 module _ {p : Places} {n : ℕ} {l l′ : List ℕ} {bound r : ℕ} (o : Ordered p (length l)) (f : Finding p n l l′ bound r) where
   pub same-rows : rowSection p l′ ≡ rowSection p l

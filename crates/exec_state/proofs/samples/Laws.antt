@@ -11,7 +11,7 @@ use lib.ListN.{length, take, drop, set}
 use lib.Seq.{length-take-le}
 use borrow.Author.Tests.{ne-eqb, eqb-true}
 use Rattle.syntax.specs.Partial.{bind, when}
-use Rattle.text.specs.Bytes.{Line, ended, unended, linesOf, literal}
+use Rattle.text.specs.Bytes.{Line, linesOf, literal}
 use Rattle.text.specs.Samples.{sample, samplesFrom, samplesOf}
 use Rattle.text_lines.specs.Parts.{firstPart}
 use Rattle.text_lines.proofs.Parts.{line-ended, line-unended, lines-none}

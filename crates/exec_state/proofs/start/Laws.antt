@@ -1,11 +1,11 @@
 -- Laws of the registers and the first tuple at the start.
-use mathlib.Core.Path.{_≡_, refl, ap, ap₂, sym, _∙_}
+use mathlib.Core.Path.{_≡_, ap, ap₂, sym, _∙_}
 use mathlib.Core.List.{List, [], _∷_, map}
-use Prim.Native.Nat.{ℕ, zero, suc, _+_, _-_, _<_, _≤_}
+use Prim.Native.Nat.{ℕ, suc, _+_, _-_, _<_, _≤_}
 use native.Mathlib.Omega.{arith}
 use lib.ListN.{length, getD, drop, replicate, drop-of-length-le}
 use lib.Seq.{drop-cons}
-use Rattle.exec.specs.Machine.{Word, Memory, State, put, puts, integer, handle, junkWord}
+use Rattle.exec.specs.Machine.{Word, Memory, put, puts, integer, handle, junkWord}
 use Rattle.exec.specs.Run.{initial}
 use Rattle.exec_words.specs.memory.Lent.{lent}
 use Rattle.exec_machine.specs.declared.Place.{Place}

@@ -1,6 +1,6 @@
 -- Laws of the operations, of the signed reading, and of signs.
 use mathlib.Core.Path.{_≡_, refl, ap, sym, _∙_, subst⁻¹}
-use mathlib.Core.Bool.{Bool, true, false, not, cond}
+use mathlib.Core.Bool.{Bool, true, false, not}
 use mathlib.Core.List.{List, [], _∷_}
 use Prim.Native.Nat.{ℕ, zero, suc, _+_, _-_, _*_, _%_, _^_, _<_, _≤_}
 use native.Mathlib.Omega.{arith}
@@ -15,7 +15,7 @@ use mir.Val.{SFits, toZ, ofZ}
 use mir.Facts.{toZ-ofZ}
 use borrow.Author.Tests.{lt-ltb, le-ltb, ltb-true, ltb-false, eq-eqb, ne-eqb}
 use Rattle.syntax.specs.Bits.{half, signed}
-use Rattle.syntax.specs.Syntax.{add, sub, Branch}
+use Rattle.syntax.specs.Syntax.{add, sub}
 use Rattle.exec.specs.Machine.{compute, Sign, negative, null, positive, signOf, taken}
 use Rattle.exec_words.specs.arith.Codes.{arithOf, branchOf, signAt, column}
 use Rattle.exec_words.proofs.arith.Table.{at2}

@@ -2,7 +2,7 @@
 -- Assumes nothing.
 use mathlib.Core.Path.{_≡_}
 use mathlib.Core.List.{List}
-use Prim.Native.Nat.{ℕ, _-_, _≤_}
+use Prim.Native.Nat.{ℕ, _-_}
 use native.Mathlib.Omega.{arith}
 use native.Mathlib.Nat.{le-refl}
 use lib.ListN.{length}
@@ -12,7 +12,7 @@ use Rattle.image.specs.Sections.{Ordered, Outside, partSection}
 use Rattle.image.proofs.Laws.{before, wider}
 use Rattle.text_decode.specs.line.Answers.{operandsIn, PlainIs, RowIs, FormIs}
 use Rattle.text_decode.specs.declared.line.Said.{Said}
-use Rattle.text_decode.proofs.line.ImageLaws.{PartsBack, parts-back}
+use Rattle.text_decode.proofs.line.ImageLaws.{parts-back}
 use Rattle.text_decode.proofs.line.LineLaws.{row-form, plain-line}
 
 module _ (code : ℕ) (fs : List (List ℕ)) (k v a : ℕ) (p : Places) (l ns : List ℕ) (o : Ordered p (length l)) where

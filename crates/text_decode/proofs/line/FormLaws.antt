@@ -1,10 +1,10 @@
 -- Laws of the forms as tables: what a line says, by the plain fields of its form and the operands that follow.
 -- Assumes nothing.
 use mathlib.Core.Path.{_≡_, refl, ap, sym, _∙_}
-use mathlib.Core.Bool.{Bool, true, false, _&&_, cond}
+use mathlib.Core.Bool.{Bool, true, false, cond}
 use mathlib.Core.List.{List, [], _∷_, map}
 use mathlib.Core.Option.{Option, none, some, Option·none-ne-some, Option·some-injective}
-use Prim.Native.Nat.{ℕ, zero, suc, _+_, _-_, _<_, _≤_}
+use Prim.Native.Nat.{ℕ, zero, suc, _+_, _-_, _<_}
 use native.Mathlib.Omega.{arith}
 use native.Mathlib.Nat.{zero-add, suc-add, add-suc, add-zero, not-suc-le-zero}
 use lib.Dec.{eqb, leb, leb·zero, lit<}
@@ -12,7 +12,7 @@ use lib.ListN.{length, getD}
 use borrow.Author.Tests.{ne-eqb, lt-leb, leb-false}
 use Rattle.syntax.specs.Partial.{bind, when}
 use Rattle.syntax.specs.Syntax.{Kind, rowU, rowC, Operand, Entry, row}
-use Rattle.text.specs.Grammar.{Form, _>>=_, end, each, rest, rowNumber, index, amount, register, letters, known, operand, Named, forms}
+use Rattle.text.specs.Grammar.{Form, _>>=_, end, each, rest, rowNumber, letters, known, operand, Named, forms}
 use Rattle.tables.specs.Tables.{rowFrom, knownOf}
 use Rattle.text_fields.specs.names.Names.{formAt}
 use Rattle.text_decode.specs.line.Fields.{plainField, readSlot, readSlots, atMost, keptAs, partNumber}

@@ -1,14 +1,14 @@
 -- A section of an image is lent and comes back: it is what came back, and the sections beside it are as they were.
 -- Assumes nothing.
-use mathlib.Core.Path.{_≡_, refl, ap, sym, _∙_}
-use mathlib.Core.List.{List, [], _∷_}
-use Prim.Native.Nat.{ℕ, _+_, _-_, _*_, _<_, _≤_}
+use mathlib.Core.Path.{_≡_}
+use mathlib.Core.List.{List}
+use Prim.Native.Nat.{ℕ, _-_}
 use native.Mathlib.Omega.{arith}
 use native.Mathlib.Nat.{le-refl}
 use lib.ListN.{length}
 use borrow.Rule.Slice.PartMut.{putMid}
 use Rattle.image.specs.declared.Places.{Places}
-use Rattle.image.specs.Sections.{part, Ordered, Outside, rowSection, blockSection, instrSection, partSection, operandSection, argSection}
+use Rattle.image.specs.Sections.{Ordered, Outside, rowSection, blockSection, instrSection, partSection, operandSection, argSection}
 use Rattle.image.proofs.Laws.{Back, returned, before, behind, wider}
 
 module _ (p : Places) (l : List ℕ) (o : Ordered p (length l)) (y : List ℕ) where

@@ -2,17 +2,17 @@
 -- Assumes nothing.
 use mathlib.Core.Path.{_≡_, refl, ap, ap₂, sym, _∙_}
 use mathlib.Core.Bool.{Bool, true, false, _&&_, cond, true≢false}
-use mathlib.Core.List.{List, [], _∷_, _++_, map, reverse, reverse-reverse}
+use mathlib.Core.List.{List, [], _∷_, map, reverse, reverse-reverse}
 use mathlib.Core.Option.{Option, none, some, Option·none-ne-some, Option·some-injective}
-use Prim.Native.Nat.{ℕ, zero, suc, _+_, _-_, _*_, _<_, _≤_, zero-le}
+use Prim.Native.Nat.{ℕ, zero, suc, _+_, _-_, _<_, _≤_, zero-le}
 use native.Mathlib.Omega.{arith}
-use native.Mathlib.Nat.{le-refl, add-zero, lt-irrefl}
+use native.Mathlib.Nat.{le-refl, lt-irrefl}
 use lib.Dec.{T, leb, eqb, leb→le}
 use lib.ListN.{length, getD, take, drop, set, length-map, length-reverse}
 use lib.Seq.{sets, take-set-le, getD-set-same, getD-set-other, length-sets}
-use borrow.Author.Tests.{le-leb, lt-leb, ne-eqb, eq-eqb, leb-true}
+use borrow.Author.Tests.{le-leb, lt-leb, ne-eqb, leb-true}
 use Rattle.syntax.specs.Partial.{bind, when}
-use Rattle.syntax.specs.Syntax.{Kind, value, stack, Row, rowU, rowC, Operand, Entry, row}
+use Rattle.syntax.specs.Syntax.{Kind, value, stack, Row, rowU, rowC, Entry, row}
 use Rattle.text.specs.Bytes.{bytes, sameBytes}
 use Rattle.text.specs.Grammar.{forms, eachLetter, letters, operand}
 use Rattle.tables.specs.Tables.{span, letterOf, knownOf, lettersAt, codeRowAt, rowFrom, OperandTable, operandsAt}
@@ -25,19 +25,15 @@ use Rattle.text_fields.specs.names.Letters.{countOf, kindCode, codesOf}
 use Rattle.text_fields.specs.names.Names.{formAt}
 use Rattle.text_decode.specs.line.Fields.{fieldsFrom, readSlot, readSlots, atMost, partNumber}
 use Rattle.text_decode.specs.line.Forms.{formTable, formCell, kindsOf, fewest, entryWith}
-use Rattle.text_decode.specs.line.Answers.{slotOf, slotsOf, PartsRead, SameOperands, OperandsRead, noEntry, saidBy, PlainForm, PlainIs, RowIs, FormIs}
+use Rattle.text_decode.specs.line.Answers.{slotOf, slotsOf, PartsRead, SameOperands, OperandsRead, noEntry, PlainForm, PlainIs, RowIs, FormIs}
 use Rattle.text_decode.specs.declared.line.Slot.{Slot}
 use Rattle.text_decode.specs.declared.line.Slots.{Slots}
 use Rattle.text_decode.specs.declared.line.Count.{Count}
 use Rattle.text_decode.specs.declared.line.Said.{Said}
 use Rattle.text_decode.proofs.line.Walk.{fields-past, fields-next}
 use Rattle.text_decode.proofs.line.FormLaws.{entryBy, plain-form, tuple-form, code-none, code-form}
-use Rattle.text_decode.proofs.line.OperandLaws.{same-fewer}
 
 -- ---- the table
-pub fewest-one : (m : ℕ) → m ≡ 1 → 1 ≡ fewest m
-fewest-one m e = sym (ap fewest e)
-
 pub fewest-other : (m : ℕ) → (m ≡ 1 → ⊥) → 0 ≡ fewest m
 fewest-other zero h = refl
 fewest-other (suc zero) h = absurd (h refl)

@@ -14,9 +14,8 @@ use Rattle.text_lines.specs.Parts.{firstPart}
 use Rattle.text_fields.specs.plain_operands.Answers.{OperandIs}
 use Rattle.text_fields.specs.declared.plain_operands.OperandRead.{OperandRead}
 use Rattle.text_decode.specs.line.Fields.{fieldsFrom}
-use Rattle.text_decode.specs.line.Answers.{operandTable, operandsIn, withOperand, OperandRoom, OperandsRead}
-use Rattle.text_decode.specs.declared.line.Count.{Count}
-use Rattle.text_decode.proofs.line.ImageLaws.{ArgsBack, args-back, KindsBack, kinds-back}
+use Rattle.text_decode.specs.line.Answers.{operandsIn, withOperand, OperandRoom, OperandsRead}
+use Rattle.text_decode.proofs.line.ImageLaws.{args-back, KindsBack, kinds-back}
 use Rattle.text_decode.proofs.line.OperandLaws.{OperandsGo, operands-bad, operands-on}
 
 -- places in an image are places in one of the same length

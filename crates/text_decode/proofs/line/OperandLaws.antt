@@ -1,10 +1,10 @@
 -- Laws of the loop that reads a line's fields as operands into the tables.
 -- Assumes nothing.
-use mathlib.Core.Path.{_≡_, refl, ap, ap₂, sym, _∙_}
+use mathlib.Core.Path.{_≡_, refl, ap, ap₂, _∙_}
 use mathlib.Core.Bool.{Bool, true, false, _&&_}
 use mathlib.Core.List.{List, [], _∷_, _++_}
 use mathlib.Core.Option.{Option, none, some, Option·none-ne-some, Option·some-injective}
-use Prim.Native.Nat.{ℕ, zero, suc, _+_, _-_, _*_, _<_, _≤_, zero-le}
+use Prim.Native.Nat.{ℕ, suc, _+_, _-_, _*_, _<_, _≤_, zero-le}
 use native.Mathlib.Omega.{arith}
 use native.Mathlib.Nat.{le-refl, le-add-right, not-suc-le-zero}
 use lib.Dec.{eqb, leb, lit<}
@@ -20,9 +20,8 @@ use Rattle.tables.proofs.Spans.{same-less, same-at, same-sets, span-same, span-
 use Rattle.text_lines.specs.Parts.{firstPart, lineIn}
 use Rattle.text_fields.specs.plain_operands.Answers.{answerOf, argsOf, OperandIs}
 use Rattle.text_fields.specs.declared.plain_operands.OperandRead.{OperandRead}
-use Rattle.text_decode.specs.line.Fields.{fieldsFrom, atMost}
+use Rattle.text_decode.specs.line.Fields.{fieldsFrom}
 use Rattle.text_decode.specs.line.Answers.{SameOperands, operandTable, withOperand, OperandRoom, OperandsRead, Carried}
-use Rattle.text_decode.specs.declared.line.Count.{Count}
 use Rattle.text_decode.proofs.line.FormLaws.{each-length}
 use Rattle.text_decode.proofs.line.Walk.{Walked, walk-start, walk-on, walk-bad, walk-many, walk-end, fields-past, fields-next}
 

@@ -1,21 +1,19 @@
 -- Laws of the loop that reads a line's fields as rows or registers into a table.
 -- Assumes nothing.
-use mathlib.Core.Path.{_≡_, refl, ap, ap₂, sym, _∙_}
+use mathlib.Core.Path.{_≡_, refl, ap₂, _∙_}
 use mathlib.Core.Bool.{Bool, true, false}
 use mathlib.Core.List.{List, [], _∷_, _++_}
-use mathlib.Core.Option.{Option, none, some}
-use Prim.Native.Nat.{ℕ, zero, suc, _+_, _-_, _<_, _≤_, zero-le}
+use mathlib.Core.Option.{none, some}
+use Prim.Native.Nat.{ℕ, _+_, _-_, _<_, _≤_, zero-le}
 use native.Mathlib.Omega.{arith}
 use native.Mathlib.Nat.{le-refl, le-add-right}
-use lib.ListN.{length, getD, take, drop, set, length-set}
+use lib.ListN.{length, take, drop, set, length-set}
 use lib.Seq.{take-set-le, getD-set-same}
-use Rattle.syntax.specs.Partial.{when}
 use Rattle.tables.specs.Tables.{span}
 use Rattle.tables.proofs.Spans.{span-same, span-snoc}
 use Rattle.text_lines.specs.Parts.{firstPart}
-use Rattle.text_decode.specs.line.Fields.{fieldsFrom, atMost, partNumber}
+use Rattle.text_decode.specs.line.Fields.{fieldsFrom, partNumber}
 use Rattle.text_decode.specs.line.Answers.{PartsRead}
-use Rattle.text_decode.specs.declared.line.Count.{Count}
 use Rattle.text_decode.proofs.line.Walk.{Walked, walk-start, walk-on, walk-bad, walk-many, walk-end, fields-past, fields-next}
 
 -- n fields are read, and what is left starts at i

@@ -4,7 +4,7 @@ use mathlib.Core.Path.{_≡_, refl, ap, sym, _∙_}
 use mathlib.Core.Bool.{Bool, true, false, cond, false≢true}
 use mathlib.Core.List.{List, [], _∷_}
 use mathlib.Core.Option.{Option, none, some}
-use Prim.Native.Nat.{ℕ, zero, suc, _+_, _-_, _<_, _≤_, zero-le}
+use Prim.Native.Nat.{ℕ, suc, _+_, _-_, _<_, _≤_, zero-le}
 use native.Mathlib.Omega.{arith}
 use native.Mathlib.Numerals.{add-one}
 use lib.Dec.{eqb}
@@ -13,7 +13,7 @@ use borrow.Author.Tests.{eq-eqb, ne-eqb}
 use Rattle.syntax.specs.Partial.{bind, when}
 use Rattle.text.specs.Bytes.{bytes, sameBytes, isDigit, allDigits, isDecimal, number}
 use Rattle.text.specs.Grammar.{rowNumber, index, amount, register, known, operand}
-use Rattle.text_lines.specs.Parts.{firstPart, lineIn, fieldIn, InLine, StopAt}
+use Rattle.text_lines.specs.Parts.{lineIn, fieldIn, InLine, StopAt}
 use Rattle.text_lines.proofs.Parts.{part-is}
 use Rattle.text_lines.proofs.InLine.{next-place, field-on, field-first, stop-on, stop-last, stop-behind, field-part}
 use Rattle.text_fields.specs.numbers.Numbers.{ScanIs}
@@ -23,11 +23,11 @@ use Rattle.text_fields.proofs.numbers.Laws.{number-bounds}
 use Rattle.text_fields.proofs.numbers.Scans.{scan-some}
 use Rattle.text_fields.specs.plain_operands.Answers.{OperandIs}
 use Rattle.text_fields.specs.declared.plain_operands.OperandRead.{OperandRead}
-use Rattle.text_decode.specs.line.Fields.{fieldsFrom, plainField, mostOf, readSlot, keptAs, partNumber}
+use Rattle.text_decode.specs.line.Fields.{plainField, mostOf, keptAs, partNumber}
 use Rattle.text_decode.specs.line.Answers.{Carried, noSlot, SlotIs, AtEnd, noEntry}
 use Rattle.text_decode.specs.declared.line.Slot.{Slot}
 use Rattle.text_decode.specs.declared.line.Said.{Said}
-use Rattle.text_decode.proofs.line.FieldLaws.{plain-small, part-small, slot-zero, slot-past, slot-bad, slot-is}
+use Rattle.text_decode.proofs.line.FieldLaws.{plain-small, slot-zero, slot-past, slot-bad, slot-is}
 
 -- ---- by the field's kind
 module _ (kind : ℕ) where

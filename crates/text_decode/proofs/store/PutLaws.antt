@@ -19,7 +19,7 @@ use Rattle.text_lines.proofs.InLine.{line-from, stop-from}
 use Rattle.text_decode.specs.line.Fields.{fieldsFrom}
 use Rattle.text_decode.specs.line.Answers.{Carried, AtEnd, FormIs}
 use Rattle.text_decode.specs.declared.line.Said.{Said}
-use Rattle.text_decode.proofs.line.ImageLaws.{RowsBack, rows-back, BlocksBack, blocks-back, InstrsBack, instrs-back}
+use Rattle.text_decode.proofs.line.ImageLaws.{rows-back, blocks-back, instrs-back}
 use Rattle.text_decode.specs.store.Store.{Store}
 use Rattle.text_decode.specs.store.Lines.{lineOf, noLine, LineIs, LineEnds, Stored}
 use Rattle.text_decode.specs.declared.store.Used.{Used}

@@ -15,7 +15,7 @@ use borrow.Author.Tests.{eq-eqb, ne-eqb, le-leb, lt-leb, leb-true, leb-false, le
 use Rattle.syntax.specs.Bits.{modulus, half}
 use Rattle.syntax.specs.Partial.{bind, when}
 use Rattle.text.specs.Bytes.{isDigit, allDigits, isDecimal, spelled, number, literal}
-use Rattle.text.specs.Grammar.{rowNumber, index, amount, register}
+use Rattle.text.specs.Grammar.{rowNumber, register}
 use Rattle.text_fields.specs.numbers.Numbers.{numberOf, digitOf, upTo, zeroLed}
 use Rattle.text_fields.specs.declared.numbers.Number.{Number}
 use Rattle.text_fields.specs.declared.numbers.Number.the-variants.{Value, Bad}

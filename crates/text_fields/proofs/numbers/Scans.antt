@@ -13,7 +13,7 @@ use Rattle.syntax.specs.Partial.{bind, when}
 use Rattle.text.specs.Bytes.{allDigits, spelled, number}
 use Rattle.text.specs.Grammar.{register}
 use Rattle.text_lines.specs.Parts.{fieldIn, InLine}
-use Rattle.text_lines.proofs.InLine.{next-place, field-on, field-longer, field-stop, field-first, no-stop}
+use Rattle.text_lines.proofs.InLine.{next-place, field-on, field-longer, field-first}
 use Rattle.text_fields.specs.numbers.Numbers.{digitOf, upTo, zeroLed, noScan, DigitIs, ScanIs}
 use Rattle.text_fields.specs.declared.numbers.Scan.{Scan}
 use Rattle.text_fields.proofs.numbers.Laws.{digit-low, digit-high, digit-is, digit-from, no-digit, up-cons, too-high, number-none, number-led, number-is, led-short, led-first, number-bounds, register-none, register-is, register-other}

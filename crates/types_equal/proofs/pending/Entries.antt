@@ -1,24 +1,23 @@
 -- Laws of an entry by its form.
 use mathlib.Core.Path.{_≡_, refl, ap, ap₂, sym, _∙_, subst}
 use mathlib.Core.Bool.{Bool, true, false, _&&_, cond}
-use mathlib.Core.List.{List, [], _∷_}
-use Prim.Native.Nat.{ℕ, zero, suc, _+_, _-_, _*_, _<_, _≤_}
+use mathlib.Core.List.{List, []}
+use Prim.Native.Nat.{ℕ, suc, _+_, _-_, _<_, _≤_}
 use native.Mathlib.Omega.{arith}
 use native.Mathlib.Nat.{not-suc-le-zero}
-use lib.Dec.{ltb}
-use lib.ListN.{length, getD}
+use lib.ListN.{getD}
 use borrow.Author.Tests.{lt-ltb, le-ltb}
-use Rattle.syntax.specs.Syntax.{Kind, value, stack}
-use Rattle.types.specs.Types.{Ty, nil, push, svar, join, walk, raise, Arg, ofKind, fitsKind, meets}
+use Rattle.syntax.specs.Syntax.{stack}
+use Rattle.types.specs.Types.{push, join, walk, raise, Arg, ofKind, fitsKind, meets}
 use Rattle.tables.specs.Tables.{RowTable}
 use Rattle.types_rows.specs.declared.Stk.{Stk}
 use Rattle.types_rows.specs.declared.Stk.the-variants.{Nil, StkVar, StkFill, Push, Join}
-use Rattle.types_rows.specs.Read.{tab, isStackAt, stackAt, meanV, meanS, acting, valueUnder, stackUnder, argsOf, placeS, OkS}
+use Rattle.types_rows.specs.Read.{isStackAt, stackAt, meanV, meanS, acting, valueUnder, stackUnder, argsOf, placeS, OkS}
 use Rattle.types_rows.proofs.Laws.{noArg, typeS, stack-read}
 use Rattle.types_equal.specs.declared.pending.Form.{Form}
-use Rattle.types_equal.specs.declared.pending.Form.the-variants.{Skip, One, Two, OwnTop, GivenTop, VarTop, Misfit}
+use Rattle.types_equal.specs.declared.pending.Form.the-variants.{One, Misfit}
 use Rattle.types_equal.specs.pending.Pending.{entryType, entryMeets, Low, Givens, weight, argForm, ownForm, givenForm, Lower, FormOf}
-use Rattle.types_equal.proofs.pending.Meets.{raised, no-args, meets-none, length-args, arg-type, fits-stack, meetsS, stack-meets}
+use Rattle.types_equal.proofs.pending.Meets.{raised, length-args, arg-type, fits-stack, meetsS, stack-meets}
 
 -- ---- entries of the two sorts
 module _ (τ : RowTable) (A : List Arg) (by d : ℕ) where

@@ -1,7 +1,7 @@
 -- Laws of what is pending.
 use mathlib.Core.Path.{_≡_, refl, ap, ap₂, sym, _∙_, subst}
 use mathlib.Core.Bool.{Bool, true, false, _&&_}
-use mathlib.Core.List.{List, [], _∷_}
+use mathlib.Core.List.{List, []}
 use Prim.Native.Nat.{ℕ, zero, suc, _+_, _-_, _*_, _<_, _≤_}
 use native.Mathlib.Omega.{arith}
 use native.Mathlib.Nat.{not-suc-le-zero}
@@ -9,14 +9,12 @@ use lib.Dec.{eqb, ltb}
 use lib.ListN.{length, getD, set, length-set}
 use lib.Seq.{getD-set-same, getD-set-other}
 use borrow.Author.Tests.{eqb-true, eqb-false, ltb-true, ltb-false}
-use Rattle.syntax.specs.Syntax.{Kind, value, stack}
-use Rattle.types.specs.Types.{Ty, nil, push, svar, join, Arg, meets}
+use Rattle.syntax.specs.Syntax.{stack}
+use Rattle.types.specs.Types.{Ty, push, join, Arg, meets}
 use Rattle.types.proofs.Filling.{join-assoc}
 use Rattle.tables.specs.Tables.{RowTable}
-use Rattle.types_rows.specs.Read.{tab, meanV, valueUnder, argsOf}
-use Rattle.types_equal.specs.declared.pending.Form.{Form}
+use Rattle.types_rows.specs.Read.{meanV, valueUnder}
 use Rattle.types_equal.specs.declared.pending.Form.the-variants.{Skip, One, Two, OwnTop, GivenTop, VarTop, Misfit}
-use Rattle.types_equal.specs.declared.pending.Next.{Next}
 use Rattle.types_equal.specs.declared.pending.Next.the-variants.{End, OwnNext, GivenNext, VarNext, Wrong}
 use Rattle.types_equal.specs.pending.Pending.{entryType, pendingType, entryMeets, pendingMeets, Low, Pends, room, weight, power, mass, Lower, FormOf, Rest, NextIs}
 use Rattle.types_equal.proofs.pending.Meets.{and-assoc}

@@ -1,25 +1,24 @@
 -- Laws of arguments and their kinds.
-use mathlib.Core.Path.{_≡_, refl, ap, ap₂, sym, _∙_}
+use mathlib.Core.Path.{_≡_, refl, ap, sym, _∙_}
 use mathlib.Core.Bool.{Bool, true, false, _&&_, not, cond}
 use mathlib.Core.List.{List, [], _∷_, map}
 use Prim.Native.Nat.{ℕ, zero, suc, _+_, _-_, _<_, _≤_}
 use native.Mathlib.Omega.{arith}
 use native.Mathlib.Nat.{not-suc-le-zero}
-use lib.Dec.{eqb, leb, ltb}
+use lib.Dec.{eqb, ltb}
 use lib.ListN.{length, getD, length-map}
-use borrow.Author.Tests.{lt-ltb, le-ltb, ltb-true, ltb-false}
+use borrow.Author.Tests.{lt-ltb, le-ltb, ltb-false}
 use Rattle.syntax.specs.Syntax.{Kind, value, stack}
-use Rattle.types.specs.Types.{walk, raising, raise, Ty, int, junk, var, tuple, pointer, code, nil, push, svar, gap, join, items, below, Arg, arg, ofKind, fitsKind, meets}
+use Rattle.types.specs.Types.{walk, raising, raise, Ty, int, junk, var, tuple, pointer, code, nil, push, svar, gap, join, below, Arg, arg, ofKind, fitsKind, meets}
 use Rattle.types.proofs.Filling.{Side, lo, hi, side, below-lt, below-ge}
 use Rattle.tables.specs.Tables.{RowTable, cell, span}
 use Rattle.types_rows.specs.declared.Val.{Val}
 use Rattle.types_rows.specs.declared.Val.the-variants.{Int, Junk, ValVar, ValFill, Tuple, Pointer, Code}
 use Rattle.types_rows.specs.declared.Stk.{Stk}
 use Rattle.types_rows.specs.declared.Stk.the-variants.{Nil, StkVar, StkFill, Push, Join}
-use Rattle.types_rows.specs.Read.{lower, valueWith, stackWith, valueAt, stackAt, isStackAt, partsOf, buildV, buildS, meanV, meanS, mean, codeOf, argOf, argsOf, placeV, placeS}
+use Rattle.types_rows.specs.Read.{lower, valueWith, stackWith, valueAt, stackAt, isStackAt, partsOf, buildV, buildS, meanV, meanS, mean, codeOf, argOf, argsOf, placeV, placeS, placed, acting}
 use Rattle.types_rows.proofs.Laws.{noArg, value-is, stack-is}
 use Rattle.types_rows.proofs.Bridge.{arg-is}
-use Rattle.types_rows.specs.Read.{placed, acting}
 
 -- ---- tests
 pub and-false : (b : Bool) → b && false ≡ false

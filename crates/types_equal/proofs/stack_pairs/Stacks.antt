@@ -1,6 +1,6 @@
 -- Laws of stack rows side by side.
-use mathlib.Core.Path.{_≡_, refl, ap, ap₂, sym, _∙_}
-use mathlib.Core.Bool.{Bool, true, false, cond}
+use mathlib.Core.Path.{_≡_, refl, ap, ap₂, sym, _∙_, subst}
+use mathlib.Core.Bool.{Bool, true, false, cond, _&&_}
 use mathlib.Core.List.{List, []}
 use Prim.Native.Nat.{ℕ, suc, _+_, _<_}
 use native.Mathlib.Omega.{arith}
@@ -9,17 +9,10 @@ use lib.Dec.{eqb}
 use lib.ListN.{getD}
 use borrow.Author.Tests.{eqb-true}
 use Rattle.syntax.specs.Syntax.{stack}
-use Rattle.types.specs.Types.{Ty}
-use Rattle.types.specs.Equal.{same}
-use Rattle.types.proofs.Equal.{same-refl}
-use Rattle.types_equal.specs.stack_pairs.Fit.{AtSame}
-use mathlib.Core.Path.{_≡_, refl, ap, ap₂, sym, _∙_, subst}
-use mathlib.Core.Bool.{Bool, true, false, _&&_, cond}
-use mathlib.Core.List.{List, []}
-use lib.ListN.{getD}
 use Rattle.types.specs.Types.{Ty, raise, Arg, ofKind, meets}
 use Rattle.types.specs.Equal.{same}
 use Rattle.types.proofs.Equal.{same-refl}
+use Rattle.types_equal.specs.stack_pairs.Fit.{AtSame, fitValues, sameStacks, fitPending, DuoIs}
 use Rattle.tables.specs.Tables.{RowTable}
 use Rattle.types_rows.specs.declared.Stk.{Stk}
 use Rattle.types_rows.specs.declared.Stk.the-variants.{StkFill}
@@ -32,7 +25,6 @@ use Rattle.types_equal.proofs.pending.Meets.{and-false, and-swap, raise
 use Rattle.types_equal.specs.declared.stack_pairs.Duo.{Duo}
 use Rattle.types_equal.specs.declared.stack_pairs.Duo.the-variants.{Unlike, Onward}
 use Rattle.types_equal.specs.stack_pairs.Items.{duoOf}
-use Rattle.types_equal.specs.stack_pairs.Fit.{AtSame, fitValues, sameStacks, fitPending, DuoIs}
 
 -- ---- the same place
 pub at-same : (m by d l by₂ d₂ r : ℕ) → l ≡ r → m ≡ 0 → by ≡ by₂ → eqb d d₂ ≡ true → AtSame m by d l by₂ d₂ r

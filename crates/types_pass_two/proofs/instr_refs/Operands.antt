@@ -1,5 +1,5 @@
 -- The least fault of operands and instructions, by their entries.
-use Prim.Native.Nat.{ℕ, zero, suc, _+_, _-_, _*_, _≤_, _<_, min}
+use Prim.Native.Nat.{ℕ, zero, suc, _+_, _-_, _≤_, _<_, min}
 use native.Mathlib.Omega.{arith}
 use mathlib.Core.Path.{_≡_, refl, sym, ap, ap₂, _∙_}
 use mathlib.Core.Bool.{Bool, true, false, _&&_, not, cond}
@@ -15,9 +15,8 @@ use Rattle.tables.proofs.Cases.{_&_, each, instr-cases}
 use Rattle.tables.proofs.Steps.{operands-step}
 use Rattle.types.specs.Rows.{valueRow, codeRow, anyRow, Ref, ref, operandRefs, operandsRefs, names, baseLabels, labels, allBelow, refsFaults, entryFaults}
 use Rattle.types_rows.specs.Read.{tab}
-use Rattle.types_pass_two.specs.instr_refs.Instrs.{operandTable}
+use Rattle.types_pass_two.specs.instr_refs.Instrs.{operandTable, labelLeast, operandsLeast, givenPlace, operandCount, countOf}
 use Rattle.types_pass_two.specs.row_refs.Least.{refLeast, refsLeast, listRefs}
-use Rattle.types_pass_two.specs.instr_refs.Instrs.{labelLeast, operandsLeast, givenPlace, operandCount, countOf}
 use Rattle.types_pass_two.specs.declared.row_refs.Part.the-variants.{Argument}
 use Rattle.types_pass_two.proofs.row_refs.References.{refs-least, numbered-refs, one-ref, refs-append, arguments}
 

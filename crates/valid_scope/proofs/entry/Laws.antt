@@ -5,26 +5,26 @@ use native.Mathlib.Omega.{arith}
 use mathlib.Core.Path.{_≡_, refl, ap, ap₂, sym, subst, _∙_}
 use mathlib.Core.Bool.{Bool, true, false, _&&_, not, cond}
 use mathlib.Core.List.{List, [], _∷_, _++_, map}
-use lib.Dec.{eqb, ltb, leb}
+use lib.Dec.{eqb, ltb}
 use lib.ListN.{getD}
 use types.Run.{OneOf, miss}
 use denote.Enum.Declared.{tagOf}
 use borrow.Author.Tests.{ne-eqb, eq-eqb, eqb-true, ltb-true}
 use Rattle.syntax.specs.Syntax.{Kind, value, stack, Instr}
-use Rattle.syntax.specs.Fault.{Fault, fault, numberOf, lowest, given}
+use Rattle.syntax.specs.Fault.{numberOf, lowest, given}
 use Rattle.syntax.proofs.Least.{leastOf}
-use Rattle.types.specs.Types.{Ty, int, junk, var, tuple, pointer, code, nil, push, svar, gap, items, Arg, arg, aStack, aFile}
+use Rattle.types.specs.Types.{Ty, int, junk, tuple, code, nil, push, svar, gap, items, arg, aStack}
 use Rattle.types.specs.Equal.{same, sameLetters}
 use Rattle.types.specs.Rows.{typeAt, typesOf}
 use Rattle.tables.specs.Tables.{RowTable, cell, span, letterOf, lettersAt, rowsIn}
-use Rattle.types_rows.specs.Read.{tab, lower, valueWith, valueAt, placeV, OkV, OkSlot, isStackAt, slotAt, onSlot, buildV, meanV, meanS, mean, partsOf, itemsAt, CountedTo, argOf}
+use Rattle.types_rows.specs.Read.{tab, lower, valueWith, valueAt, placeV, OkV, OkSlot, isStackAt, slotAt, onSlot, buildV, meanV, meanS, partsOf, itemsAt, CountedTo, argOf}
 use Rattle.types_rows.specs.declared.Val.{Val}
 use Rattle.types_rows.specs.declared.Val.the-variants.{Int, Junk, ValVar, ValFill, Tuple, Pointer, Code}
 use Rattle.types_rows.specs.declared.Slot.{Slot}
-use Rattle.types_rows.specs.declared.Slot.the-variants.{Gap, Known}
+use Rattle.types_rows.specs.declared.Slot.the-variants.{Known}
 use Rattle.types_rows.proofs.Val.{the-type}
-use Rattle.types_rows.proofs.Laws.{lower-low, plain-value, value-is, never, noArg}
-use Rattle.types_rows.proofs.Bridge.{type-at, type-in, arg-at}
+use Rattle.types_rows.proofs.Laws.{lower-low, plain-value, value-is, never}
+use Rattle.types_rows.proofs.Bridge.{type-at, arg-at}
 use Rattle.valid.specs.Program.{Block, blockOf}
 use Rattle.valid.specs.Rules.{ints, entryRegs}
 use Rattle.valid.specs.PassThree.{declared, isFormed, formedArg, isEntry, blockFaults}

@@ -9,7 +9,7 @@ use lib.Dec.{leb}
 use lib.ListN.{length, getD, take, drop}
 use Rattle.syntax.specs.Partial.{when}
 use Rattle.syntax.specs.Syntax.{Kind, value, stack, Base, Operand, plain, inst}
-use Rattle.syntax.specs.Fault.{Fault, numberOf}
+use Rattle.syntax.specs.Fault.{Fault, numberOf, fault}
 use Rattle.syntax.proofs.Least.{least}
 use Rattle.types.specs.Types.{Ty, int, junk, var, tuple, pointer, code, Arg, arg, kindOf, ofKind, filled, aStack, Wf}
 use Rattle.types.specs.Rows.{typeAt, typesOf}
@@ -27,18 +27,6 @@ use Rattle.types_equal.specs.filling.Filling.{isFull, fillsTo}
 use Rattle.valid_typing.specs.Typing.{typesIn, Ready, givenRow, argsIn}
 use Rattle.valid_typing.proofs.OperandFaults.{applied-told, operand-told}
 use Rattle.valid_typing.proofs.Args.{given-is, given-typed, args-are, back-args}
-use mathlib.Core.Path.{_≡_, refl, ap, sym, _∙_}
-use mathlib.Core.Bool.{Bool, true, false, _&&_, cond}
-use mathlib.Core.List.{List, []}
-use lib.ListN.{length, getD}
-use Rattle.syntax.specs.Syntax.{Kind, value, stack, Operand}
-use Rattle.syntax.specs.Fault.{fault, numberOf}
-use Rattle.types.specs.Types.{Ty, int, junk, var, tuple, pointer, code, Arg}
-use Rattle.types.specs.Rows.{typeAt}
-use Rattle.tables.specs.Tables.{OperandTable, operandAt}
-use Rattle.valid.specs.Program.{Program}
-use Rattle.valid.specs.PassThree.{operand}
-use Rattle.valid_context.specs.premises.Bounds.{Short}
 
 not-not : (b : Bool) → not (not b) ≡ b
 not-not true = refl
