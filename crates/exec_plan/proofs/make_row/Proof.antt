@@ -58,8 +58,11 @@ kind-of-of-constant-kind x = search
 abbrev number-at-of-constant-kind : tie.After-constant-kind → tie.After-number-at
 number-at-of-constant-kind x = search
 
+abbrev start-of-entry : tie.After-entry → tie.Start
+start-of-entry x = search
+
 abbrev start-of-constant-kind : tie.After-constant-kind → tie.Start
-start-of-constant-kind x = search
+start-of-constant-kind x = start-of-entry (entry-of-constant-kind x)
 
 abbrev start-of-entry5 : tie.After-entry5 → tie.Start
 start-of-entry5 x = search
