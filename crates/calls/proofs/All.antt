@@ -6,7 +6,7 @@ use mathlib.Core.Bool.{Bool, true, false}
 use mathlib.Core.Option.{Option, none, some}
 use mathlib.Core.List.{List, [], _∷_, _++_}
 use lib.ListN.{length, getD, getElem?, set, replicate}
-use Rattle.syntax.specs.Partial.{bind, when}
+use Rattle.syntax.specs.Partial.{chain, guarded}
 use Rattle.valid.proofs.Reading.{none-some, some-inj}
 
 abbrev pub All : {A : Type 0} → (A → Type 0) → List A → Type 0
@@ -41,10 +41,10 @@ module _ {A : Type 0} (Q : A → Type 0) where
   all-weaken R f [] h = tt
   all-weaken R f (x ∷ xs) h = (f x (h .0), all-weaken R f xs (h .1))
 
-pub bind-inv : {A B : Type 0} (o : Option A) (k : A → Option B) (y : B) → bind o k ≡ some y → (x : A) × (o ≡ some x) × (k x ≡ some y)
+pub bind-inv : {A B : Type 0} (o : Option A) (k : A → Option B) (y : B) → chain o k ≡ some y → (x : A) × (o ≡ some x) × (k x ≡ some y)
 bind-inv none k y e = none-some e
 bind-inv (some x) k y e = (x, refl, e)
 
-pub when-inv : {A : Type 0} (b : Bool) (x y : A) → when b x ≡ some y → (b ≡ true) × (x ≡ y)
+pub when-inv : {A : Type 0} (b : Bool) (x y : A) → guarded b x ≡ some y → (b ≡ true) × (x ≡ y)
 when-inv true x y e = (refl, some-inj e)
 when-inv false x y e = none-some e

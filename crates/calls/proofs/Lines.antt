@@ -8,7 +8,7 @@ use mathlib.Core.Option.{Option, none, some}
 use mathlib.Core.List.{List, [], _∷_, map}
 use lib.Dec.{leb, eqb}
 use lib.ListN.{length}
-use Rattle.syntax.specs.Partial.{bind, when}
+use Rattle.syntax.specs.Partial.{chain, guarded}
 use Rattle.syntax.specs.Syntax.{Row, rowI, rowN, rowE, rowV, rowX, rowP, rowU, rowK, rowA, rowC, Base, reg, lit, lab, Operand, plain, inst, Instr, aop, bop, mov, ld, st, malloc, getsp, setsp, salloc, sfree, sld, sst, slp, ssp, jmp, halt, Entry, row, block, instr}
 use Rattle.text.specs.Bytes.{bytes, sameBytes, split, isDecimal, spelled, number, literal, Line, ended, unended, fieldsOf, linesOf}
 use Rattle.text.specs.Grammar.{Field, Form, _>>=_, end, each, rest, rowNumber, register, carrier, orLiteral, carried, fromParts, operand, Named, forms, formNamed, entryOf, parse}
@@ -80,7 +80,7 @@ register-in : (f : Field) (r : ℕ) → register f ≡ some r → r < 8
 unfolding register
 register-in [] r e = none-some e
 register-in (b ∷ s) r e =
-    let h = bind-inv (when (eqb b (code "r")) s) _ r e in
+    let h = bind-inv (guarded (eqb b (code "r")) s) _ r e in
     let j = bind-inv (number 1 8 (h .0)) _ r (h .2) in
     let l = number-high 1 8 (h .0) (j .0) (j .1) in
     let q : j .0 - 1 ≡ r = some-inj (j .2) in
@@ -91,7 +91,7 @@ unfolding carrier
 carrier-in [] b e = none-some e
 carrier-in (c ∷ s) b e = go (eqb c (code "#")) e
   where
-    go : (t : Bool) → cond t (bind (number 0 63 s) (λ l. some (lab l))) (bind (register (c ∷ s)) (λ r. some (reg r))) ≡ some b → BaseIn b
+    go : (t : Bool) → cond t (chain (number 0 63 s) (λ l. some (lab l))) (chain (register (c ∷ s)) (λ r. some (reg r))) ≡ some b → BaseIn b
     go true e = let h = bind-inv (number 0 63 s) _ b e in rw (← (some-inj (h .2))) tt
     go false e = let h = bind-inv (register (c ∷ s)) _ b e in rw (← (some-inj (h .2))) (register-in (c ∷ s) (h .0) (h .1))
 

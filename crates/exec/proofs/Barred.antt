@@ -8,7 +8,7 @@ use mathlib.Core.Option.{Option, none, some}
 use mathlib.Core.List.{List, [], _∷_, _++_, append-assoc}
 use lib.Dec.{leb, eqb, le→leb, leb→le, eqb→eq, eqb-refl}
 use lib.ListN.{length, replicate}
-use Rattle.syntax.specs.Partial.{when}
+use Rattle.syntax.specs.Partial.{guarded}
 use Rattle.syntax.specs.Fault.{Fault, fault, numberOf, given, Pass, Refusal, refuse, lowest, lowestLine, orElse, earliest}
 use Rattle.text.specs.PassOne.{passOne}
 use Rattle.types.proofs.Equal.{so-true, to-so}
@@ -41,7 +41,7 @@ low rows r h = kept rows r (so-true (leb (r .number) 6) (le→leb (r .number) 6 
 on-line : (rows : ℕ) (r : Refusal) → r .line ≡ suc rows → barredBy rows (some r) ≡ some r
 on-line rows r e = go (leb (r .number) 6)
   where
-    go : (b : Bool) → when (b || eqb (r .line) (suc rows)) r ≡ some r
+    go : (b : Bool) → guarded (b || eqb (r .line) (suc rows)) r ≡ some r
     go true = refl
     go false = rw (e, so-true (eqb (suc rows) (suc rows)) (eqb-refl (suc rows)))
 

@@ -5,7 +5,7 @@ use mathlib.Core.Option.{Option, none, some}
 use mathlib.Core.List.{List, [], _∷_, map}
 use lib.Dec.{leb, ltb, eqb}
 use lib.ListN.{length}
-use Rattle.syntax.specs.Partial.{when}
+use Rattle.syntax.specs.Partial.{guarded}
 use Rattle.syntax.specs.Fault.{Refusal, earliest}
 use Rattle.syntax.specs.Syntax.{Instr}
 use Rattle.text.specs.Samples.{samplesOf}
@@ -146,7 +146,7 @@ wanted (B ∷ Bs) = declared (B .regs)
 -- the refusal, if it bars a start: a fault 1 to 6, or one on the first line behind the rows
 abbrev pub barredBy : ℕ → Option Refusal → Option Refusal
 barredBy rows none = none
-barredBy rows (some r) = when (leb (r .number) 6 || eqb (r .line) (suc rows)) r
+barredBy rows (some r) = guarded (leb (r .number) 6 || eqb (r .line) (suc rows)) r
 
 -- "Starting refuses when check finds 1 to 6, any fault on block 0's line, or no block": block 0's line, or the one where it is missed,
 -- is the first behind the type lines.

@@ -8,7 +8,7 @@ use mathlib.Core.List.{List, []}
 use lib.Dec.{eqb}
 use lib.ListN.{length, take}
 use lib.Seq.{length-take-le}
-use Rattle.syntax.specs.Partial.{when}
+use Rattle.syntax.specs.Partial.{guarded}
 use Rattle.tables.proofs.Steps.{length-instrs}
 use Rattle.valid.specs.Program.{Program}
 use Rattle.exec.specs.Machine.{State, Bodies, flat}
@@ -48,7 +48,7 @@ module _ (n : ℕ) where
   miscounted none e P w m σ = refl
   miscounted (some xs) e P w m σ = go (eqb (length xs) n) refl e
     where
-      go : (b : Bool) → eqb (length xs) n ≡ b → none ≡ when b xs → cond (eqb (length xs) (wanted (P .blocks))) (cond (longEnough σ) (outcome (run (bodies P) (budget m) (initial xs σ))) (refuse σ 16 0)) (refuse σ 15 0) ≡ refuse σ 15 0
+      go : (b : Bool) → eqb (length xs) n ≡ b → none ≡ guarded b xs → cond (eqb (length xs) (wanted (P .blocks))) (cond (longEnough σ) (outcome (run (bodies P) (budget m) (initial xs σ))) (refuse σ 16 0)) (refuse σ 15 0) ≡ refuse σ 15 0
       go true q f = some-none f
       go false q f = let k : eqb (length xs) (wanted (P .blocks)) ≡ false = ap (eqb (length xs)) (sym w) ∙ q in rw k refl
 
@@ -58,14 +58,14 @@ module _ (n : ℕ) where
   counted l none e = some-none (sym e)
   counted l (some xs) e = go (eqb (length xs) n) refl e
     where
-      go : (b : Bool) → eqb (length xs) n ≡ b → some l ≡ when b xs → (some xs ≡ some l) × (eqb (length l) n ≡ true)
+      go : (b : Bool) → eqb (length xs) n ≡ b → some l ≡ guarded b xs → (some xs ≡ some l) × (eqb (length l) n ≡ true)
       go true q f = (sym f, ap (λ (o : Option (List ℕ)). eqb (length (inside o)) n) f ∙ q)
       go false q f = some-none (sym f)
 
 -- ---- starting
-module _ (want : ℕ) (o : Option (List ℕ)) (xs : List ℕ) (b : Bool) (e : when b (take want xs) ≡ exactly want o) (P : Program) (w : want ≡ wanted (P .blocks)) (m : ℕ) (σ : State) where
+module _ (want : ℕ) (o : Option (List ℕ)) (xs : List ℕ) (b : Bool) (e : guarded b (take want xs) ≡ exactly want o) (P : Program) (w : want ≡ wanted (P .blocks)) (m : ℕ) (σ : State) where
   pub starts-15 : not b ≡ true → startOn P o m σ ≡ refuse σ 15 0
-  starts-15 h = miscounted want o (ap (λ (x : Bool). when x (take want xs)) (sym (not-yes b h)) ∙ e) P w m σ
+  starts-15 h = miscounted want o (ap (λ (x : Bool). guarded x (take want xs)) (sym (not-yes b h)) ∙ e) P w m σ
 
   module _ (h : not b ≡ false) where
     abbrev l : List ℕ
@@ -73,7 +73,7 @@ module _ (want : ℕ) (o : Option (List ℕ)) (xs : List ℕ) (b : Bool) (e : wh
 
     on-samples : startOn P o m σ ≡ cond (longEnough σ) (outcome (run (bodies P) (budget m) (initial (take want xs) σ))) (refuse σ 16 0)
     on-samples =
-        let k = counted want l o (ap (λ (x : Bool). when x l) (sym (not-no b h)) ∙ e) in
+        let k = counted want l o (ap (λ (x : Bool). guarded x l) (sym (not-no b h)) ∙ e) in
         let q : eqb (length l) (wanted (P .blocks)) ≡ true = ap (eqb (length l)) (sym w) ∙ k .1 in
         ap (λ (x : Option (List ℕ)). startOn P x m σ) (k .0) ∙ ap (λ (x : Bool). cond x (cond (longEnough σ) (outcome (run (bodies P) (budget m) (initial l σ))) (refuse σ 16 0)) (refuse σ 15 0)) q
 

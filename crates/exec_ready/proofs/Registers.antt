@@ -8,7 +8,7 @@ use mathlib.Core.List.{List, [], _∷_, map}
 use lib.Dec.{eqb, leb, ltb}
 use lib.ListN.{length, getD}
 use borrow.Author.Tests.{leb-true, eqb-true, eqb-false, ltb-true, ltb-false}
-use Rattle.syntax.specs.Partial.{bind, when}
+use Rattle.syntax.specs.Partial.{chain, guarded}
 use Rattle.syntax.specs.Syntax.{Row, rowI, rowN, rowE, rowV, rowX, rowP, rowK, rowA, Base, reg, lit, lab, Operand, plain, inst, Arith, add, sub, mul, Branch, beq, bneq, bgt, blt, bgte, blte, Instr, aop, bop, mov, ld, st, malloc, getsp, setsp, salloc, sfree, sld, sst, slp, ssp, jmp, halt, Entry, row, block, instr}
 use Rattle.text.specs.Bytes.{bytes, sameBytes, split, literal, Line, ended, unended, fieldsOf, linesOf, isDecimal, spelled, number}
 use Rattle.text.specs.Grammar.{Field, Form, _>>=_, end, each, rest, rowNumber, register, carrier, orLiteral, carried, fromParts, operand, Named, arith as arithForm, branch, forms, formNamed, entryOf, parse}
@@ -24,11 +24,11 @@ Given P (some x) = P x
 
 -- ---- fields
 -- "r1 to r8" are kept as 0 to 7
-number-low : (s : List ℕ) → Given (λ (n : ℕ). n < 8) (bind (number 1 8 s) (λ n. some (n - 1)))
+number-low : (s : List ℕ) → Given (λ (n : ℕ). n < 8) (chain (number 1 8 s) (λ n. some (n - 1)))
 unfolding Given number
 number-low s = go (isDecimal s) (leb 1 (spelled 0 s)) (leb (spelled 0 s) 8) refl
   where
-    go : (a b c : Bool) → leb (spelled 0 s) 8 ≡ c → Given (λ (n : ℕ). n < 8) (bind (when (a && (b && c)) (spelled 0 s)) (λ n. some (n - 1)))
+    go : (a b c : Bool) → leb (spelled 0 s) 8 ≡ c → Given (λ (n : ℕ). n < 8) (chain (guarded (a && (b && c)) (spelled 0 s)) (λ n. some (n - 1)))
     go true true true e = let q = leb-true (spelled 0 s) 8 e in omega arith
     go true true false e = tt
     go true false c e = tt
@@ -39,7 +39,7 @@ unfolding Given register
 register-low [] = tt
 register-low (b ∷ s) = go (eqb b 114)
   where
-    go : (t : Bool) → Given (λ (n : ℕ). n < 8) (bind (when t s) (λ s. bind (number 1 8 s) (λ n. some (n - 1))))
+    go : (t : Bool) → Given (λ (n : ℕ). n < 8) (chain (guarded t s) (λ s. chain (number 1 8 s) (λ n. some (n - 1))))
     go true = number-low s
     go false = tt
 
@@ -48,15 +48,15 @@ unfolding Given carrier
 carrier-low [] = tt
 carrier-low (b ∷ s) = go (eqb b 35) (number 0 63 s) (register (b ∷ s)) (register-low (b ∷ s))
   where
-    label : (o : Option ℕ) → Given LowBase (bind o (λ l. some (lab l)))
+    label : (o : Option ℕ) → Given LowBase (chain o (λ l. some (lab l)))
     label none = tt
     label (some l) = tt
 
-    name : (o : Option ℕ) → Given (λ (n : ℕ). n < 8) o → Given LowBase (bind o (λ r. some (reg r)))
+    name : (o : Option ℕ) → Given (λ (n : ℕ). n < 8) o → Given LowBase (chain o (λ r. some (reg r)))
     name none h = tt
     name (some r) h = h
 
-    go : (t : Bool) (l r : Option ℕ) → Given (λ (n : ℕ). n < 8) r → Given LowBase (cond t (bind l (λ l. some (lab l))) (bind r (λ r. some (reg r))))
+    go : (t : Bool) (l r : Option ℕ) → Given (λ (n : ℕ). n < 8) r → Given LowBase (cond t (chain l (λ l. some (lab l))) (chain r (λ r. some (reg r))))
     go true l r h = label l
     go false l r h = name r h
 
@@ -65,7 +65,7 @@ unfolding Given carried
 carried-low [] t = tt
 carried-low (b ∷ ts) t = go (carrier b) (carrier-low b) (each rowNumber ts) (rowNumber t) (leb 1 (length ts) && leb (length ts) 8)
   where
-    go : (o : Option Base) → Given LowBase o → (os : Option (List ℕ)) (n : Option ℕ) (x : Bool) → Given LowOperand (bind o (λ c. bind os (λ rs. bind n (λ r. when x (inst c rs r)))))
+    go : (o : Option Base) → Given LowBase o → (os : Option (List ℕ)) (n : Option ℕ) (x : Bool) → Given LowOperand (chain o (λ c. chain os (λ rs. chain n (λ r. guarded x (inst c rs r)))))
     go none h os n x = tt
     go (some c) h none n x = tt
     go (some c) h (some rs) none x = tt
@@ -76,11 +76,11 @@ operand-low : (f : Field) → Given LowOperand (operand f)
 unfolding Given operand
 operand-low f = go (split 61 f)
   where
-    literal-low : (o : Option ℕ) → Given LowOperand (bind (bind o (λ n. some (lit n))) (λ c. some (plain c)))
+    literal-low : (o : Option ℕ) → Given LowOperand (chain (chain o (λ n. some (lit n))) (λ c. some (plain c)))
     literal-low none = tt
     literal-low (some n) = tt
 
-    base : (b : Field) (o : Option Base) → Given LowBase o → Given LowOperand (bind (orLiteral o b) (λ c. some (plain c)))
+    base : (b : Field) (o : Option Base) → Given LowBase o → Given LowOperand (chain (orLiteral o b) (λ c. some (plain c)))
     base b none h = literal-low (literal b)
     base b (some c) h = h
 
@@ -95,7 +95,7 @@ unfolding Given each
 operands-low [] = tt
 operands-low (f ∷ fs) = go (operand f) (operand-low f) (each operand fs) (operands-low fs)
   where
-    go : (o : Option Operand) → Given LowOperand o → (os : Option (List Operand)) → Given LowOperands os → Given LowOperands (bind o (λ x. bind os (λ xs. some (x ∷ xs))))
+    go : (o : Option Operand) → Given LowOperand o → (os : Option (List Operand)) → Given LowOperands os → Given LowOperands (chain o (λ x. chain os (λ xs. some (x ∷ xs))))
     go none h os k = tt
     go (some v) h none k = tt
     go (some v) h (some vs) k = (h, k)
@@ -123,7 +123,7 @@ field : {A : Type 0} {P : A → Type 0} (p : Field → Option A) → ((f : Field
 unfolding Given _>>=_
 field {A} {P} p h k g = record { reads = all }
   where
-    go : (fs : List Field) (o : Option A) → Given P o → Given LowEntry (bind o (λ x. k x fs))
+    go : (fs : List Field) (o : Option A) → Given P o → Given LowEntry (chain o (λ x. k x fs))
     go fs none q = tt
     go fs (some x) q = g x q .reads fs
 
@@ -145,7 +145,7 @@ others : {A : Type 0} {P : List A → Type 0} (right : ℕ → Bool) (p : Field 
 unfolding Given rest
 others {A} {P} right p e h g = record { reads = λ fs. go (each p fs) (h fs) (right (length fs)) }
   where
-    go : (o : Option (List A)) → Given P o → (t : Bool) → Given LowEntry (bind o (λ xs. when t (e xs)))
+    go : (o : Option (List A)) → Given P o → (t : Bool) → Given LowEntry (chain o (λ xs. guarded t (e xs)))
     go none q t = tt
     go (some xs) q true = g xs q
     go (some xs) q false = tt

@@ -3,7 +3,7 @@
 ghost use mathlib.Core.Path.{_≡_};
 ghost use Prim.Native.Nat.{_≤_};
 ghost use lib.ListN.{length, take};
-ghost use Rattle.syntax.specs.Partial.{when};
+ghost use Rattle.syntax.specs.Partial.{guarded};
 ghost use Rattle.text.specs.Samples.{samplesOf};
 ghost use Rattle.exec_state.specs.samples.Counted.{exactly};
 use text_fields::numbers::Number;
@@ -11,7 +11,7 @@ use text_fields::numbers::Number;
 // The samples, one to a line. Reading stops at the first line that is malformed or one too many.
 pub fn read_samples(text: &[u8], want: usize, out: &mut [u32]) -> bool
     requires { ⌜ want ≤ length (now out) ⌝ }
-    ensures { λ r. ⌜ when r (take want (now (out .exit))) ≡ exactly want (samplesOf (now (text .entry))) ⌝ }
+    ensures { λ r. ⌜ guarded r (take want (now (out .exit))) ≡ exactly want (samplesOf (now (text .entry))) ⌝ }
 {
     let mut at = 0;
     let mut n = 0;

@@ -9,7 +9,7 @@ use mathlib.Core.List.{List, [], _∷_, _++_, map, append-eq-nil-iff}
 use lib.Dec.{ltb, leb·suc-suc}
 use lib.ListN.{length, getElem?}
 use borrow.Author.Tests.{lt-ltb, le-ltb, ltb-true}
-use Rattle.syntax.specs.Partial.{when}
+use Rattle.syntax.specs.Partial.{guarded}
 use Rattle.syntax.specs.Syntax.{Kind, value, Row, rowI, rowN, rowE, rowV, rowX, rowP, rowU, rowK, rowA, rowC, Instr, Entry, instr}
 use Rattle.syntax.specs.Fault.{Clear, given}
 use Rattle.syntax.proofs.Least.{given-none}
@@ -113,7 +113,7 @@ module _ (τ : RowTable) (n : ℕ) (β ι : List ℕ) (ω : OperandTable) (ni : 
   abbrev types : List Arg
   types = typesOf (rowsIn τ n)
 
-  labels-from : (b k : ℕ) → ((l : ℕ) → l < k → CodeOk τ n (cell 2 β (b + l) 0)) → (l : ℕ) → labelType P Δ (getElem? (blocksOf types (blocksFrom β ι ω ni b k)) l) ≡ when (ltb l k) (typeAt value types (cell 2 β (b + l) 0))
+  labels-from : (b k : ℕ) → ((l : ℕ) → l < k → CodeOk τ n (cell 2 β (b + l) 0)) → (l : ℕ) → labelType P Δ (getElem? (blocksOf types (blocksFrom β ι ω ni b k)) l) ≡ guarded (ltb l k) (typeAt value types (cell 2 β (b + l) 0))
   unfolding blocksFrom blocksOf
   labels-from b zero a l = rw (le-ltb l 0 (omega arith)) (unfold labelType in refl)
   labels-from b (suc zero) a zero = rw (add-zero b) (label-type P Δ _ τ n (cell 2 β b 0) cl (subst (λ (x : ℕ). CodeOk τ n (cell 2 β x 0)) (add-zero b) (a 0 (omega arith))))
@@ -132,5 +132,5 @@ holds-is τ n β ι ω ni nb P cl a e f = record {
   labels = λ Δ l.
       ap (λ (B : List Block). labelType P Δ (getElem? B l)) f
       ∙ labels-from τ n β ι ω ni P Δ cl 0 nb (λ j h. subst (λ (x : ℕ). CodeOk τ n (cell 2 β x 0)) (omega arith) (a j h)) l
-      ∙ ap₂ (λ (T : List Arg) (x : ℕ). when (ltb l nb) (typeAt value T (cell 2 β x 0))) (sym e) (omega arith);
+      ∙ ap₂ (λ (T : List Arg) (x : ℕ). guarded (ltb l nb) (typeAt value T (cell 2 β x 0))) (sym e) (omega arith);
 }

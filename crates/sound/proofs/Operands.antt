@@ -7,7 +7,7 @@ use mathlib.Core.Bool.{Bool, true, false, _&&_}
 use mathlib.Core.Option.{some}
 use mathlib.Core.List.{List, [], _∷_, _++_, map, append-assoc, append-nil}
 use lib.ListN.{length, length-append, length-map}
-use Rattle.syntax.specs.Partial.{when}
+use Rattle.syntax.specs.Partial.{guarded}
 use Rattle.syntax.specs.Syntax.{Kind, value, stack, Base, Operand}
 use Rattle.types.specs.Types.{Ty, code, Arg, walk, filling, fill, fillArg, meets, filled, Use, aStack, aFile, Wf, Args, noargs}
 use Rattle.types.proofs.Filling.{walk-closed, filling-low, filling-closed, fill-fill, close-fill-commute, close-args, args-app, args-len}
@@ -24,7 +24,7 @@ filled-is : (A : List Arg) (q : List Kind) (a r : Ty stack) (t : Ty value) → f
 unfolding filled
 filled-is A q a r t e = go (meets A (length q) a && meets A (length q) r) (code q (fill (length q) A a) (fill (length q) A r)) e
   where
-    go : (b : Bool) (u : Ty value) → when b u ≡ some t → t ≡ u
+    go : (b : Bool) (u : Ty value) → guarded b u ≡ some t → t ≡ u
     go true u e = cc
     go false u e = cc
 

@@ -7,7 +7,7 @@ use mathlib.Core.Option.{Option, none, some}
 use mathlib.Core.List.{List, [], _∷_, _++_, map}
 use lib.Dec.{leb→le}
 use lib.ListN.{length, getD, getElem?}
-use Rattle.syntax.specs.Partial.{bind, when}
+use Rattle.syntax.specs.Partial.{chain, guarded}
 use Rattle.syntax.specs.Syntax.{Kind, value, stack, Row, rowI, rowN, rowE, rowV, rowX, rowP, rowU, rowK, rowA, rowC, Instr, Entry, row, block, instr}
 use Rattle.text.specs.Bytes.{bytes, sameBytes, Line, ended, unended, fieldsOf, linesOf}
 use Rattle.text.specs.Grammar.{Form, _>>=_, end, each, rest, Named, forms, formNamed, entryOf, parse}
@@ -52,7 +52,7 @@ unfolding _>>=_
 then-short p k h [] e q = none-some q
 then-short {A} p k h (f ∷ fs) e q = go (p f) q
   where
-    go : (o : Option A) → bind o (λ x. k x fs) ≡ some e → Short e
+    go : (o : Option A) → chain o (λ x. k x fs) ≡ some e → Short e
     go none q = none-some q
     go (some x) q = h x fs e q
 
@@ -67,7 +67,7 @@ module _ {A : Type 0} (p : List ℕ → Option A) where
   each-length [] xs q = let e : [] ≡ xs = cc in rw (← e)
   each-length (f ∷ fs) xs q = go (p f) (each p fs) (each-length fs) q
     where
-      go : (o : Option A) (os : Option (List A)) → ((ys : List A) → os ≡ some ys → length ys ≡ length fs) → bind o (λ x. bind os (λ ys. some (x ∷ ys))) ≡ some xs → length xs ≡ suc (length fs)
+      go : (o : Option A) (os : Option (List A)) → ((ys : List A) → os ≡ some ys → length ys ≡ length fs) → chain o (λ x. chain os (λ ys. some (x ∷ ys))) ≡ some xs → length xs ≡ suc (length fs)
       go none os h q = none-some q
       go (some x) none h q = none-some q
       go (some x) (some ys) h q = let e : x ∷ ys ≡ xs = cc in rw (← e) (ap suc (h ys refl))
@@ -76,11 +76,11 @@ module _ {A : Type 0} (p : List ℕ → Option A) where
   unfolding rest
   rest-short right c h fs e q = go (each p fs) (each-length fs) q
     where
-      go : (os : Option (List A)) → ((xs : List A) → os ≡ some xs → length xs ≡ length fs) → bind os (λ xs. when (right (length fs)) (c xs)) ≡ some e → Short e
+      go : (os : Option (List A)) → ((xs : List A) → os ≡ some xs → length xs ≡ length fs) → chain os (λ xs. guarded (right (length fs)) (c xs)) ≡ some e → Short e
       go none l q = none-some q
       go (some xs) l q = right-or (right (length fs)) refl q
         where
-          right-or : (b : Bool) → right (length fs) ≡ b → when b (c xs) ≡ some e → Short e
+          right-or : (b : Bool) → right (length fs) ≡ b → guarded b (c xs) ≡ some e → Short e
           right-or true r q = let x : c xs ≡ e = cc in rw (← x) (h xs (rw (l xs refl) r))
           right-or false r q = none-some q
 

@@ -3,11 +3,11 @@ use mathlib.Core.Bool.{Bool, true, false}
 use mathlib.Core.Option.{Option, none, some}
 
 -- f of the value; none where there is none
-abbrev pub bind : {A B : Type 0} → Option A → (A → Option B) → Option B
-bind none f = none
-bind (some x) f = f x
+abbrev pub chain : {A B : Type 0} → Option A → (A → Option B) → Option B
+chain none f = none
+chain (some x) f = f x
 
 -- the value where the test holds; none where it does not
-abbrev pub when : {A : Type 0} → Bool → A → Option A
-when true x = some x
-when false x = none
+abbrev pub guarded : {A : Type 0} → Bool → A → Option A
+guarded true x = some x
+guarded false x = none

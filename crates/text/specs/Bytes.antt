@@ -8,7 +8,7 @@ use mathlib.Core.Option.{Option, none, some}
 use mathlib.Core.List.{List, [], _∷_}
 use lib.Dec.{eqb, leb}
 use Rattle.syntax.specs.Bits.{modulus, half}
-use Rattle.syntax.specs.Partial.{bind, when}
+use Rattle.syntax.specs.Partial.{chain, guarded}
 
 -- a text written out: the codes of its characters
 unfoldable pub bytes : String → List ℕ
@@ -76,9 +76,9 @@ spelled n (b ∷ s) = spelled (n * 10 + (b - code "0")) s
 
 -- a number from low to high
 unfoldable pub number : ℕ → ℕ → List ℕ → Option ℕ
-number low high s = when (isDecimal s && (leb low (spelled 0 s) && leb (spelled 0 s) high)) (spelled 0 s)
+number low high s = guarded (isDecimal s && (leb low (spelled 0 s) && leb (spelled 0 s) high)) (spelled 0 s)
 
 -- "a literal of 32 signed bits", as bits. "Only literals and samples may be negative; `-0` is not a number."
 unfoldable pub literal : List ℕ → Option ℕ
 literal [] = none
-literal (b ∷ s) = cond (eqb b (code "-")) (bind (number 1 half s) (λ n. some (modulus - n))) (number 0 (half - 1) (b ∷ s))
+literal (b ∷ s) = cond (eqb b (code "-")) (chain (number 1 half s) (λ n. some (modulus - n))) (number 0 (half - 1) (b ∷ s))

@@ -8,7 +8,7 @@ use mathlib.Core.List.{List, [], _∷_}
 use lib.Dec.{eqb, leb}
 use lib.ListN.{length}
 use Rattle.syntax.specs.Syntax.{Kind, value, stack, Row, rowI, rowN, rowE, rowV, rowX, rowP, rowU, rowK, rowA, rowC, Base, reg, lit, lab, Operand, plain, inst, Arith, add, sub, mul, Branch, beq, bneq, bgt, blt, bgte, blte, Instr, aop, bop, mov, ld, st, malloc, getsp, setsp, salloc, sfree, sld, sst, slp, ssp, jmp, halt, Entry, row, block, instr}
-use Rattle.syntax.specs.Partial.{bind, when}
+use Rattle.syntax.specs.Partial.{chain, guarded}
 use Rattle.text.specs.Bytes.{bytes, sameBytes, split, Line, ended, unended, fieldsOf, number, literal}
 
 -- a field: its bytes
@@ -23,7 +23,7 @@ Form = List Field → Option Entry
 infixl 60 _>>=_
 unfoldable pub _>>=_ : {A : Type 0} → (Field → Option A) → (A → Form) → Form
 _>>=_ p k [] = none
-_>>=_ p k (f ∷ fs) = bind (p f) (λ x. k x fs)
+_>>=_ p k (f ∷ fs) = chain (p f) (λ x. k x fs)
 
 -- no field is left
 unfoldable pub end : Entry → Form
@@ -33,11 +33,11 @@ end e (f ∷ fs) = none
 -- every field read alike; none if one is not of that form
 unfoldable pub each : {A : Type 0} → (Field → Option A) → List Field → Option (List A)
 each p [] = some []
-each p (f ∷ fs) = bind (p f) (λ x. bind (each p fs) (λ xs. some (x ∷ xs)))
+each p (f ∷ fs) = chain (p f) (λ x. chain (each p fs) (λ xs. some (x ∷ xs)))
 
 -- all the fields that are left, if their count is right
 unfoldable pub rest : {A : Type 0} → (ℕ → Bool) → (Field → Option A) → (List A → Entry) → Form
-rest right p e fs = bind (each p fs) (λ xs. when (right (length fs)) (e xs))
+rest right p e fs = chain (each p fs) (λ xs. guarded (right (length fs)) (e xs))
 
 -- ---- fields
 -- "row numbers are 0 to 511"
@@ -55,44 +55,44 @@ amount f = number 0 64 f
 -- "Registers are r1 to r8."
 unfoldable pub register : Field → Option ℕ
 register [] = none
-register (b ∷ s) = bind (when (eqb b (code "r")) s) (λ s. bind (number 1 8 s) (λ n. some (n - 1)))
+register (b ∷ s) = chain (guarded (eqb b (code "r")) s) (λ s. chain (number 1 8 s) (λ n. some (n - 1)))
 
 -- "one letter per bound variable (v value, s stack)"
 unfoldable pub letter : ℕ → Option Kind
-letter b = cond (eqb b (code "v")) (some value) (when (eqb b (code "s")) stack)
+letter b = cond (eqb b (code "v")) (some value) (guarded (eqb b (code "s")) stack)
 
 -- all bytes read as letters, in the order of the text
 unfoldable pub eachLetter : List ℕ → Option (List Kind)
 eachLetter [] = some []
-eachLetter (b ∷ s) = bind (letter b) (λ κ. bind (eachLetter s) (λ q. some (κ ∷ q)))
+eachLetter (b ∷ s) = chain (letter b) (λ κ. chain (eachLetter s) (λ q. some (κ ∷ q)))
 
 -- "1 to 8 letters) or `-` for none"
 unfoldable pub letters : Field → Option (List Kind)
-letters f = cond (sameBytes f (bytes "-")) (some []) (bind (eachLetter f) (λ q. when (leb 1 (length q) && leb (length q) 8) q))
+letters f = cond (sameBytes f (bytes "-")) (some []) (chain (eachLetter f) (λ q. guarded (leb 1 (length q) && leb (length q) 8) q))
 
 -- "each a is a register's row or `-` if nothing is known of it"
 unfoldable pub known : Field → Option (Option ℕ)
-known f = cond (sameBytes f (bytes "-")) (some none) (bind (rowNumber f) (λ r. some (some r)))
+known f = cond (sameBytes f (bytes "-")) (some none) (chain (rowNumber f) (λ r. some (some r)))
 
 -- "An operand v is a register, a literal of 32 signed bits, or `#` and a label (0 to 63)."
 unfoldable pub carrier : Field → Option Base
 carrier [] = none
-carrier (b ∷ s) = cond (eqb b (code "#")) (bind (number 0 63 s) (λ l. some (lab l))) (bind (register (b ∷ s)) (λ r. some (reg r)))
+carrier (b ∷ s) = cond (eqb b (code "#")) (chain (number 0 63 s) (λ l. some (lab l))) (chain (register (b ∷ s)) (λ r. some (reg r)))
 
 -- a register or label as read, or else a literal
 abbrev pub orLiteral : Option Base → Field → Option Base
-orLiteral none f = bind (literal f) (λ n. some (lit n))
+orLiteral none f = chain (literal f) (λ n. some (lit n))
 orLiteral (some b) f = some b
 
 -- "A register or label may carry 1 to 8 type arguments and the resulting row: `#1:4:6=9`."
 unfoldable pub carried : List Field → Field → Option Operand
 carried [] t = none
-carried (b ∷ ts) t = bind (carrier b) (λ c. bind (each rowNumber ts) (λ rs. bind (rowNumber t) (λ r. when (leb 1 (length ts) && leb (length ts) 8) (inst c rs r))))
+carried (b ∷ ts) t = chain (carrier b) (λ c. chain (each rowNumber ts) (λ rs. chain (rowNumber t) (λ r. guarded (leb 1 (length ts) && leb (length ts) 8) (inst c rs r))))
 
 -- an operand from its parts between `=`: one is a plain operand, two are what carries arguments and the resulting row
 abbrev pub fromParts : List Field → Option Operand
 fromParts [] = none
-fromParts (b ∷ []) = bind (orLiteral (carrier b) b) (λ c. some (plain c))
+fromParts (b ∷ []) = chain (orLiteral (carrier b) b) (λ c. some (plain c))
 fromParts (l ∷ t ∷ []) = carried (split (code ":") l) t
 fromParts (l ∷ t ∷ u ∷ ps) = none
 

@@ -11,7 +11,7 @@ use lib.Dec.{leb}
 use lib.ListN.{length, getD, take, drop}
 use lib.Seq.{sets}
 use borrow.Author.Tests.{eq-eqb, ne-eqb, le-leb, lt-leb}
-use Rattle.syntax.specs.Partial.{bind, when}
+use Rattle.syntax.specs.Partial.{chain, guarded}
 use Rattle.syntax.specs.Syntax.{Base, reg, lit, lab, Operand, inst}
 use Rattle.text.specs.Bytes.{split, number, literal}
 use Rattle.text.specs.Grammar.{rowNumber, index, register, each, carrier, orLiteral, carried, fromParts, operand}
@@ -26,17 +26,17 @@ and-false true = refl
 and-false false = refl
 
 -- ---- carriers and literals
-label-read : (o : Option ℕ) → plainRead 2 o ≡ answerOf (asPlain (bind o (λ n. some (lab n))))
+label-read : (o : Option ℕ) → plainRead 2 o ≡ answerOf (asPlain (chain o (λ n. some (lab n))))
 unfolding plainRead answerOf
 label-read none = refl
 label-read (some n) = refl
 
-register-read : (o : Option ℕ) → plainRead 0 o ≡ answerOf (asPlain (bind o (λ n. some (reg n))))
+register-read : (o : Option ℕ) → plainRead 0 o ≡ answerOf (asPlain (chain o (λ n. some (reg n))))
 unfolding plainRead answerOf
 register-read none = refl
 register-read (some n) = refl
 
-literal-read : (o : Option ℕ) → plainRead 1 o ≡ answerOf (asPlain (bind o (λ n. some (lit n))))
+literal-read : (o : Option ℕ) → plainRead 1 o ≡ answerOf (asPlain (chain o (λ n. some (lit n))))
 unfolding plainRead answerOf
 literal-read none = refl
 literal-read (some n) = refl
@@ -101,14 +101,14 @@ module _ (n : ℕ) (p : List ℕ) where
       go (some t) none e f q = simp (e, f)
       go (some t) (some ts) e f q =
           let k : n + suc (length ps) ≡ n + 1 + length ps = omega arith in
-          simp (e, f) (ap (λ (j : ℕ). when (leb j 8) j) k)
+          simp (e, f) (ap (λ (j : ℕ). guarded (leb j 8) j) k)
 
   pub count-last : n < 8 → isSome (rowNumber p) ≡ true → rowCount n (p ∷ []) ≡ some (n + 1)
   unfolding rowCount each
   count-last l h =
       let k : n + 1 + 0 ≡ n + 1 = omega arith in
       let q : n + 1 ≤ 8 = omega arith in
-      count-more [] h ∙ ap (λ (j : ℕ). when (leb j 8) j) k ∙ simp (le-leb (n + 1) 8 q)
+      count-more [] h ∙ ap (λ (j : ℕ). guarded (leb j 8) j) k ∙ simp (le-leb (n + 1) 8 q)
 
 pub count-many : (n : ℕ) (ps : List (List ℕ)) → 8 ≤ n → 0 < length ps → rowCount n ps ≡ none
 unfolding rowCount
@@ -132,7 +132,7 @@ unfolding each rowsIn
 each-is [] ts e = let q = Option·some-injective [] ts e in (ap length q, q)
 each-is (p ∷ ps) ts e = go (rowNumber p) (each rowNumber ps) refl refl e (each-is ps)
   where
-    go : (o : Option ℕ) (u : Option (List ℕ)) → rowNumber p ≡ o → each rowNumber ps ≡ u → bind o (λ x. bind u (λ xs. some (x ∷ xs))) ≡
+    go : (o : Option ℕ) (u : Option (List ℕ)) → rowNumber p ≡ o → each rowNumber ps ≡ u → chain o (λ x. chain u (λ xs. some (x ∷ xs))) ≡
         some ts → ((ys : List ℕ) → each rowNumber ps ≡ some ys → (length ps ≡ length ys) × (rowsIn ps ≡ ys))
         → (suc (length ps) ≡ length ts) × (orZero (rowNumber p) ∷ rowsIn ps ≡ ts)
     go none u a b h r = absurd (Option·none-ne-some ts h)
@@ -144,7 +144,7 @@ each-is (p ∷ ps) ts e = go (rowNumber p) (each rowNumber ps) refl refl e (each
 
 -- ---- the two sides of `=`
 abbrev joined : Option Base → Option (List ℕ) → Option ℕ → Bool → Option Operand
-joined c ts r s = bind c (λ x. bind ts (λ xs. bind r (λ y. when s (inst x xs y))))
+joined c ts r s = chain c (λ x. chain ts (λ xs. chain r (λ y. guarded s (inst x xs y))))
 
 no-list : (c : Option Base) (r : Option ℕ) (s : Bool) → joined c none r s ≡ none
 no-list none r s = refl
@@ -165,17 +165,17 @@ abbrev sized : ℕ → Bool
 sized k = leb 1 k && leb k 8
 
 -- 1 to 8 are counted, and no other number
-sized-no : (k : ℕ) → orZero (when (leb k 8) k) ≡ 0 → sized k ≡ false
+sized-no : (k : ℕ) → orZero (guarded (leb k 8) k) ≡ 0 → sized k ≡ false
 sized-no k h = go (leb k 8) refl h
   where
-    go : (t : Bool) → leb k 8 ≡ t → orZero (when t k) ≡ 0 → (leb 1 k && t) ≡ false
+    go : (t : Bool) → leb k 8 ≡ t → orZero (guarded t k) ≡ 0 → (leb 1 k && t) ≡ false
     go true e q = let l : k < 1 = omega arith in simp (lt-leb 1 k l)
     go false e q = and-false (leb 1 k)
 
-sized-yes : (k : ℕ) → (orZero (when (leb k 8) k) ≡ 0 → ⊥) → (sized k ≡ true) × (orZero (when (leb k 8) k) ≡ k)
+sized-yes : (k : ℕ) → (orZero (guarded (leb k 8) k) ≡ 0 → ⊥) → (sized k ≡ true) × (orZero (guarded (leb k 8) k) ≡ k)
 sized-yes k h = go (leb k 8) h
   where
-    go : (t : Bool) → (orZero (when t k) ≡ 0 → ⊥) → ((leb 1 k && t) ≡ true) × (orZero (when t k) ≡ k)
+    go : (t : Bool) → (orZero (guarded t k) ≡ 0 → ⊥) → ((leb 1 k && t) ≡ true) × (orZero (guarded t k) ≡ k)
     go true q = let l : 1 ≤ k = pos-of-ne-zero q in (simp (le-leb 1 k l), refl)
     go false q = absurd (q refl)
 
@@ -183,7 +183,7 @@ count-none : (ps : List (List ℕ)) → each rowNumber ps ≡ none → orZero (r
 unfolding rowCount
 count-none ps e = simp e
 
-count-some : (ps : List (List ℕ)) (ts : List ℕ) → each rowNumber ps ≡ some ts → orZero (rowCount 0 ps) ≡ orZero (when (leb (length ps) 8) (length ps))
+count-some : (ps : List (List ℕ)) (ts : List ℕ) → each rowNumber ps ≡ some ts → orZero (rowCount 0 ps) ≡ orZero (guarded (leb (length ps) 8) (length ps))
 unfolding rowCount
 count-some ps ts e = simp (e, zero-add)
 

@@ -6,7 +6,7 @@ use mathlib.Core.Option.{Option, none, some}
 use mathlib.Core.List.{List, map}
 use lib.Dec.{leb}
 use lib.ListN.{length}
-use Rattle.syntax.specs.Partial.{bind, when}
+use Rattle.syntax.specs.Partial.{chain, guarded}
 use Rattle.syntax.specs.Syntax.{Base, Operand, plain}
 use Rattle.text.specs.Grammar.{rowNumber, each}
 use Rattle.text_fields.specs.declared.plain_operands.OperandRead.{OperandRead}
@@ -23,7 +23,7 @@ plainRead k (some n) = record { kind = k; number = n; count = 0; row = 0 }
 
 -- a base as a plain operand
 abbrev pub asPlain : Option Base → Option Operand
-asPlain o = bind o (λ b. some (plain b))
+asPlain o = chain o (λ b. some (plain b))
 
 -- there is a number
 abbrev pub isSome : Option ℕ → Bool
@@ -37,7 +37,7 @@ orZero (some n) = n
 
 -- n and the number of these parts, if each is a row number and that is at most 8
 unfoldable pub rowCount : ℕ → List (List ℕ) → Option ℕ
-rowCount n ps = bind (each rowNumber ps) (λ ts. when (leb (n + length ps) 8) (n + length ps))
+rowCount n ps = chain (each rowNumber ps) (λ ts. guarded (leb (n + length ps) 8) (n + length ps))
 
 -- the row numbers of the parts, 0 where one is none
 unfoldable pub rowsIn : List (List ℕ) → List ℕ

@@ -8,7 +8,7 @@ ghost use mathlib.Core.Option.{some};
 ghost use Prim.Native.Nat.{_-_, _≤_};
 ghost use lib.Dec.{eqb, leb, ltb};
 ghost use Rattle.syntax.specs.Bits.{modulus};
-ghost use Rattle.syntax.specs.Partial.{bind, when};
+ghost use Rattle.syntax.specs.Partial.{chain, guarded};
 ghost use Rattle.text.specs.Bytes.{number, literal};
 ghost use Rattle.text.specs.Grammar.{rowNumber, index, register};
 ghost use Rattle.text_lines.specs.Parts.{fieldIn, InLine};
@@ -74,7 +74,7 @@ fn zero_led(s: &[u8]) -> bool
 
 // The number, if it is not below low.
 fn at_least(n: Number, low: u32) -> Number
-    ensures { λ r. ⌜ numberOf r ≡ bind (numberOf n) (λ v. when (leb low v) v) ⌝ }
+    ensures { λ r. ⌜ numberOf r ≡ chain (numberOf n) (λ v. guarded (leb low v) v) ⌝ }
 {
     match n {
         Number::Value(v) => {
@@ -102,7 +102,7 @@ fn number_in(s: &[u8], low: u32, high: u32) -> Number
 
 // The bits of a number with its sign changed; of 0 there are none.
 fn negated(n: Number) -> Number
-    ensures { λ r. ⌜ numberOf r ≡ bind (numberOf n) (λ v. when (leb 1 v) (modulus - v)) ⌝ }
+    ensures { λ r. ⌜ numberOf r ≡ chain (numberOf n) (λ v. guarded (leb 1 v) (modulus - v)) ⌝ }
 {
     match n {
         Number::Value(v) => {
@@ -130,7 +130,7 @@ pub fn literal(s: &[u8]) -> Number
 
 // One less, and 0 for 0.
 fn less_one(n: Number) -> Number
-    ensures { λ r. ⌜ numberOf r ≡ bind (numberOf n) (λ v. some (v - 1)) ⌝ }
+    ensures { λ r. ⌜ numberOf r ≡ chain (numberOf n) (λ v. some (v - 1)) ⌝ }
 {
     match n {
         Number::Value(v) => {

@@ -125,16 +125,16 @@ operandsRefs (v ∷ vs) = operandRefs v ++ operandsRefs vs
 
 -- what an instruction names: its row t, if it has one ("value for every t"), and its operands
 pub record Names : Type 0 where
-  pub given : List ℕ
+  pub valueRows : List ℕ
   pub operands : List Operand
 
 -- one operand, and no row t
 abbrev pub operand : Operand → Names
-operand v = record { given = []; operands = v ∷ [] }
+operand v = record { valueRows = []; operands = v ∷ [] }
 
 -- the rows ts, and no operand
 abbrev pub only : List ℕ → Names
-only ts = record { given = ts; operands = [] }
+only ts = record { valueRows = ts; operands = [] }
 
 -- what each instruction names
 unfoldable pub names : Instr → Names
@@ -143,7 +143,7 @@ names (bop o r v) = operand v
 names (mov d v) = operand v
 names (ld d s i) = only []
 names (st d i s) = only []
-names (malloc d t vs) = record { given = t ∷ []; operands = vs }
+names (malloc d t vs) = record { valueRows = t ∷ []; operands = vs }
 names (getsp d t) = only (t ∷ [])
 names (setsp s) = only []
 names (salloc n) = only []
@@ -227,7 +227,7 @@ entryFaults rows blocks (row r) = []
 entryFaults rows blocks (block c) = refsFaults rows (ref codeRow c ∷ [])
 entryFaults rows blocks (instr x) =
     given (not (allBelow blocks (labels (names x .operands)))) 4
-    ++ refsFaults rows (map (ref valueRow) (names x .given) ++ operandsRefs (names x .operands))
+    ++ refsFaults rows (map (ref valueRow) (names x .valueRows) ++ operandsRefs (names x .operands))
 
 -- type lines come first, so a line's faults stand at its own place
 unfoldable pub entriesFaults : List Row → ℕ → List Entry → Pass

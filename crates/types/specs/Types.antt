@@ -6,7 +6,7 @@ use mathlib.Core.Bool.{Bool, true, false, _&&_}
 use mathlib.Core.Option.{Option, none, some}
 use mathlib.Core.List.{List, [], _∷_, _++_}
 use lib.ListN.{length, getElem?}
-use Rattle.syntax.specs.Partial.{when}
+use Rattle.syntax.specs.Partial.{guarded}
 use Rattle.syntax.specs.Syntax.{Kind, value, stack}
 
 -- One family: at `value` the value types, at `stack` lists of items. Such a list is a stack type, a tuple's components, or the
@@ -134,7 +134,7 @@ meets A d (gap a) = meets A d a
 -- "Type arguments fill the first bound variables, left to right; fewer than all is allowed": the code type with letters q left.
 -- The first letters have the last variables, so q stands first. `none`: a variable of the wrong letter would have to be filled.
 unfoldable pub filled : List Arg → List Kind → Ty stack → Ty stack → Option (Ty value)
-filled A q a r = when (meets A (length q) a && meets A (length q) r) (code q (fill (length q) A a) (fill (length q) A r))
+filled A q a r = guarded (meets A (length q) a && meets A (length q) r) (code q (fill (length q) A a) (fill (length q) A r))
 
 -- ---- well-formed types
 -- what a list of items is

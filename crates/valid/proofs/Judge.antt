@@ -9,7 +9,7 @@ use mathlib.Core.List.{List, [], _∷_, _++_, map}
 use lib.ListN.{length, length-append, getElem?, drop, take-append-drop}
 use lib.Seq.{take-append-seam, drop-append-seam}
 use lib.Dec.{leb, leb→le, le→leb}
-use Rattle.syntax.specs.Partial.{bind, when}
+use Rattle.syntax.specs.Partial.{chain, guarded}
 use Rattle.syntax.specs.Syntax.{Kind, value, stack, Base, reg, lit, lab, Operand, plain, inst, Instr, aop, bop, mov, ld, st, malloc, getsp, setsp, salloc, sfree, sld, sst, slp, ssp, jmp, halt}
 use Rattle.syntax.specs.Fault.{Fault, fault, unfit}
 use Rattle.text.specs.PassOne.{isLast}
@@ -73,7 +73,7 @@ weaken : {A : Type 0} {R Q : A → Type 0} {m : Judged A} → ((x : A) → R x �
 weaken h (gives {x} r) = gives (h x r)
 weaken h faulty = faulty
 
-when-by : {A : Type 0} (b : Bool) {x y : A} → when b x ≡ some y → (b ≡ true) × (x ≡ y)
+when-by : {A : Type 0} (b : Bool) {x y : A} → guarded b x ≡ some y → (b ≡ true) × (x ≡ y)
 when-by true e = (refl, some-inj e)
 when-by false e = none-some e
 
@@ -109,7 +109,7 @@ module _ (P : Program) (Δ : List Kind) where
   unfolding assign
   assigned {Q} Γ d t h = go (replaced (Γ .regs) d t) refl
     where
-      go : (o : Option (Ty stack)) → replaced (Γ .regs) d t ≡ o → Gives Q (orFault 9 (bind o (λ g. some (withRegs Γ g))))
+      go : (o : Option (Ty stack)) → replaced (Γ .regs) d t ≡ o → Gives Q (orFault 9 (chain o (λ g. some (withRegs Γ g))))
       go none e = unfold orFault in faulty
       go (some g) e = unfold orFault in gives (h g (put-sound (Γ .regs) d t g e))
 

@@ -288,9 +288,9 @@ unfolding entryFaults
 entry-mid rows n (row r) = tt
 entry-mid rows n (block c) = refs-mid rows (ref codeRow c ∷ [])
 entry-mid rows n (instr x) =
-    all-append 4 6 (given (not (allBelow n (labels (names x .operands)))) 4) (refsFaults rows (map (ref valueRow) (names x .given) ++ operandsRefs (names x .operands)))
+    all-append 4 6 (given (not (allBelow n (labels (names x .operands)))) 4) (refsFaults rows (map (ref valueRow) (names x .valueRows) ++ operandsRefs (names x .operands)))
     (given-in 4 6 (not (allBelow n (labels (names x .operands)))) 4 (omega arith) (omega arith))
-    (refs-mid rows (map (ref valueRow) (names x .given) ++ operandsRefs (names x .operands)))
+    (refs-mid rows (map (ref valueRow) (names x .valueRows) ++ operandsRefs (names x .operands)))
 
 entries-mid : (rows : List Row) (n : ℕ) (es : List Entry) → LinesIn 4 6 (entriesFaults rows n es)
 unfolding entriesFaults

@@ -7,7 +7,7 @@ use mathlib.Core.Option.{Option, none, some}
 use mathlib.Core.List.{List, [], _∷_, _++_, map}
 use lib.ListN.{getElem?}
 use lib.Dec.{eqb→eq}
-use Rattle.syntax.specs.Partial.{bind}
+use Rattle.syntax.specs.Partial.{chain}
 use Rattle.syntax.specs.Syntax.{Kind, value, stack}
 use Rattle.types.specs.Types.{Ty, int, junk, var, tuple, pointer, code, nil, push, svar, gap, join, items, Arg, arg, kindOf, Use, aStack, aTuple, aFile, Wf, Args, noargs, more}
 use Rattle.types.specs.Equal.{same}
@@ -23,7 +23,7 @@ none-some e = let z : _≡_ {A = ℕ} 0 1 = cc in absurd (omega arith)
 pub some-inj : {A : Type 0} {x y : A} → some x ≡ some y → x ≡ y
 some-inj e = cc
 
-bind-by : {A B Q : Type 0} (m : Option A) (f : A → Option B) (y : B) → bind m f ≡ some y → ((x : A) → m ≡ some x → f x ≡ some y → Q) → Q
+bind-by : {A B Q : Type 0} (m : Option A) (f : A → Option B) (y : B) → chain m f ≡ some y → ((x : A) → m ≡ some x → f x ≡ some y → Q) → Q
 bind-by none f y e q = none-some e
 bind-by (some x) f y e q = q x refl e
 

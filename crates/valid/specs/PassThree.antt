@@ -7,7 +7,7 @@ use mathlib.Core.Option.{Option, none, some}
 use mathlib.Core.List.{List, [], _∷_, _++_, map}
 use lib.Dec.{leb, ltb, eqb}
 use lib.ListN.{length, getD, getElem?, take, drop, replicate}
-use Rattle.syntax.specs.Partial.{bind, when}
+use Rattle.syntax.specs.Partial.{chain, guarded}
 use Rattle.syntax.specs.Syntax.{Kind, value, stack, Base, reg, lit, lab, Operand, plain, inst, Instr, aop, bop, mov, ld, st, malloc, getsp, setsp, salloc, sfree, sld, sst, slp, ssp, jmp, halt}
 use Rattle.syntax.specs.Fault.{Fault, fault, unfit, given, Pass}
 use Rattle.types.specs.Types.{Ty, int, junk, var, tuple, pointer, code, nil, push, svar, gap, join, items, Arg, arg, kindOf, filled, Use, aStack, aTuple, aFile}
@@ -69,10 +69,10 @@ itemAt (gap a) (suc i) = itemAt a i
 unfoldable pub replaced : Ty stack → ℕ → Ty value → Option (Ty stack)
 replaced nil i t = none
 replaced (push u a) zero t = some (push t a)
-replaced (push u a) (suc i) t = bind (replaced a i t) (λ b. some (push u b))
+replaced (push u a) (suc i) t = chain (replaced a i t) (λ b. some (push u b))
 replaced (svar k a) i t = none
 replaced (gap a) zero t = some (push t a)
-replaced (gap a) (suc i) t = bind (replaced a i t) (λ b. some (gap b))
+replaced (gap a) (suc i) t = chain (replaced a i t) (λ b. some (gap b))
 
 -- what is under the first n items, if these are value types
 unfoldable pub under : ℕ → Ty stack → Option (Ty stack)
@@ -85,9 +85,9 @@ under (suc n) (gap a) = none
 -- what stands above b in a, if b is a tail of a
 unfoldable pub above : Ty stack → Ty stack → Option (Ty stack)
 above b nil = cond (same nil b) (some nil) none
-above b (push t a) = cond (same (push t a) b) (some nil) (bind (above b a) (λ c. some (push t c)))
-above b (svar k a) = cond (same (svar k a) b) (some nil) (bind (above b a) (λ c. some (svar k c)))
-above b (gap a) = cond (same (gap a) b) (some nil) (bind (above b a) (λ c. some (gap c)))
+above b (push t a) = cond (same (push t a) b) (some nil) (chain (above b a) (λ c. some (push t c)))
+above b (svar k a) = cond (same (svar k a) b) (some nil) (chain (above b a) (λ c. some (svar k c)))
+above b (gap a) = cond (same (gap a) b) (some nil) (chain (above b a) (λ c. some (gap c)))
 
 -- the type is `int`
 unfoldable pub asInt : Ty value → Option (Unit {0})
@@ -198,7 +198,7 @@ module _ (P : Program) (Δ : List Kind) where
 
   -- d is one of the eight registers, so there is always a place
   unfoldable pub assign : Context → ℕ → Ty value → Judged Context
-  assign Γ d t = orFault 9 (bind (replaced (Γ .regs) d t) (λ g. some (withRegs Γ g)))
+  assign Γ d t = orFault 9 (chain (replaced (Γ .regs) d t) (λ g. some (withRegs Γ g)))
 
   -- ---- operands
   -- the type of a label: its block's code row
@@ -214,7 +214,7 @@ module _ (P : Program) (Δ : List Kind) where
 
   -- the letters left, if there are no more arguments than letters and each is of its letter
   unfoldable pub lettersLeft : List Arg → List Kind → Option (List Kind)
-  lettersLeft A l = when (leb (length A) (length l) && sameLetters (map kindOf A) (drop (length l - length A) l)) (take (length l - length A) l)
+  lettersLeft A l = guarded (leb (length A) (length l) && sameLetters (map kindOf A) (drop (length l - length A) l)) (take (length l - length A) l)
 
   -- the resulting row's type t is the filled type
   unfoldable pub isFilled : Ty value → Option (Ty value) → Bool

@@ -11,7 +11,7 @@ use lib.Dec.{leb, ltb}
 use lib.ListN.{length, getD, set}
 use lib.Seq.{getD-set-same, getD-set-other}
 use borrow.Author.Tests.{lt-ltb, le-ltb, ltb-true, le-leb, leb-true}
-use Rattle.syntax.specs.Partial.{when}
+use Rattle.syntax.specs.Partial.{guarded}
 use Rattle.syntax.specs.Syntax.{value, stack}
 use Rattle.types.specs.Types.{Ty, junk, nil, push, svar, gap, join, items, Arg}
 use Rattle.types.specs.Rows.{typeAt}
@@ -109,47 +109,47 @@ module _ (T : List Arg) where
       rw add-suc (item-by T (λ a. join a (spOf T sp d) ≡ onItem T (getD sp (d + k) 0) (spOf T sp (d + k))) (getD sp (d + k) 0) (spAbove T sp d k) (λ e. rw (h, e)) (λ e. rw (h, e)))
 
   -- what is under the first k items
-  pub under-is : (sp : List ℕ) (d k : ℕ) → under k (spOf T sp d) ≡ when (areValues sp d k) (spOf T sp (d - k))
+  pub under-is : (sp : List ℕ) (d k : ℕ) → under k (spOf T sp d) ≡ guarded (areValues sp d k) (spOf T sp (d - k))
   unfolding under areValues spOf
   under-is sp d zero = rw sub-zero
   under-is sp zero (suc k) = refl
   under-is sp (suc d) (suc k) =
       let h = under-is sp d k in
-      rw suc-sub-suc (item-by T (λ a. under (suc k) a ≡ when (ltb (getD sp d 0) firstVar && areValues sp d k) (spOf T sp (d - k))) (getD sp d 0) (spOf T sp d) (λ e. rw e h) (λ e. rw e))
+      rw suc-sub-suc (item-by T (λ a. under (suc k) a ≡ guarded (ltb (getD sp d 0) firstVar && areValues sp d k) (spOf T sp (d - k))) (getD sp d 0) (spOf T sp d) (λ e. rw e h) (λ e. rw e))
 
-  pub item-is : (sp : List ℕ) (d i : ℕ) → itemAt (spOf T sp d) i ≡ when (areValues sp d (suc i)) (typeAt value T (getD sp (d - suc i) 0))
+  pub item-is : (sp : List ℕ) (d i : ℕ) → itemAt (spOf T sp d) i ≡ guarded (areValues sp d (suc i)) (typeAt value T (getD sp (d - suc i) 0))
   unfolding itemAt areValues spOf
   item-is sp zero i = refl
   item-is sp (suc d) zero =
-      rw (suc-sub-suc, sub-zero) (item-by T (λ a. itemAt a 0 ≡ when (ltb (getD sp d 0) firstVar && true) (typeAt value T (getD sp d 0))) (getD sp d 0) (spOf T sp d) (λ e. rw e) (λ e. rw e))
+      rw (suc-sub-suc, sub-zero) (item-by T (λ a. itemAt a 0 ≡ guarded (ltb (getD sp d 0) firstVar && true) (typeAt value T (getD sp d 0))) (getD sp d 0) (spOf T sp d) (λ e. rw e) (λ e. rw e))
   item-is sp (suc d) (suc i) =
       let h = item-is sp d i in
-      rw suc-sub-suc (item-by T (λ a. itemAt a (suc i) ≡ when (ltb (getD sp d 0) firstVar && areValues sp d (suc i)) (typeAt value T (getD sp (d - suc i) 0))) (getD sp d 0) (spOf T sp d) (λ e. rw e h) (λ e. rw e))
+      rw suc-sub-suc (item-by T (λ a. itemAt a (suc i) ≡ guarded (ltb (getD sp d 0) firstVar && areValues sp d (suc i)) (typeAt value T (getD sp (d - suc i) 0))) (getD sp d 0) (spOf T sp d) (λ e. rw e h) (λ e. rw e))
 
   -- the list with another value type for an item
-  put-down : (x i : ℕ) (t : Ty value) (a : Ty stack) (b : Bool) (c : Ty stack) → replaced a i t ≡ when b c → replaced (onItem T x a) (suc i) t ≡ when (ltb x firstVar && b) (onItem T x c)
+  put-down : (x i : ℕ) (t : Ty value) (a : Ty stack) (b : Bool) (c : Ty stack) → replaced a i t ≡ guarded b c → replaced (onItem T x a) (suc i) t ≡ guarded (ltb x firstVar && b) (onItem T x c)
   unfolding replaced
   put-down x i t a b c e = go (ltb x firstVar) b e
     where
-      go : (v b : Bool) → replaced a i t ≡ when b c → replaced (cond v (push (typeAt value T x) a) (svar (x - firstVar) a)) (suc i) t ≡ when (v && b) (cond v (push (typeAt value T x) c) (svar (x - firstVar) c))
+      go : (v b : Bool) → replaced a i t ≡ guarded b c → replaced (cond v (push (typeAt value T x) a) (svar (x - firstVar) a)) (suc i) t ≡ guarded (v && b) (cond v (push (typeAt value T x) c) (svar (x - firstVar) c))
       go true true e = rw e
       go true false e = rw e
       go false b e = refl
 
-  pub put-is : (sp : List ℕ) (d i row : ℕ) → d ≤ length sp → row < firstVar → replaced (spOf T sp d) i (typeAt value T row) ≡ when (areValues sp d (suc i)) (spOf T (set sp (d - suc i) row) d)
+  pub put-is : (sp : List ℕ) (d i row : ℕ) → d ≤ length sp → row < firstVar → replaced (spOf T sp d) i (typeAt value T row) ≡ guarded (areValues sp d (suc i)) (spOf T (set sp (d - suc i) row) d)
   unfolding areValues spOf
   put-is sp zero i row h q = unfold replaced in refl
   put-is sp (suc d) zero row h q =
       let p : d < length sp = omega arith in
       rw (suc-sub-suc, sub-zero, getD-set-same sp d row 0 p, sp-set sp d d row (omega arith), lt-ltb row firstVar q) (unfold replaced in
-      item-by T (λ a. replaced a 0 (typeAt value T row) ≡ when (ltb (getD sp d 0) firstVar && true) (push (typeAt value T row)
+      item-by T (λ a. replaced a 0 (typeAt value T row) ≡ guarded (ltb (getD sp d 0) firstVar && true) (push (typeAt value T row)
       (spOf T sp d))) (getD sp d 0) (spOf T sp d) (λ e. rw e) (λ e. rw e))
   put-is sp (suc d) (suc i) row h q = rw suc-sub-suc (go (areValues sp d (suc i)) refl (put-is sp d i row (omega arith) q))
     where
       l : List ℕ
       l = set sp (d - suc i) row
 
-      go : (b : Bool) → areValues sp d (suc i) ≡ b → replaced (spOf T sp d) i (typeAt value T row) ≡ when b (spOf T l d) → replaced (onItem T (getD sp d 0) (spOf T sp d)) (suc i) (typeAt value T row) ≡ when (ltb (getD sp d 0) firstVar && b) (onItem T (getD l d 0) (spOf T l d))
+      go : (b : Bool) → areValues sp d (suc i) ≡ b → replaced (spOf T sp d) i (typeAt value T row) ≡ guarded b (spOf T l d) → replaced (onItem T (getD sp d 0) (spOf T sp d)) (suc i) (typeAt value T row) ≡ guarded (ltb (getD sp d 0) firstVar && b) (onItem T (getD l d 0) (spOf T l d))
       go true v e = let k = values-fit sp d (suc i) v in rw (getD-set-other sp (d - suc i) d row 0 (omega arith)) (put-down (getD sp d 0) i (typeAt value T row) (spOf T sp d) true (spOf T l d) e)
       go false v e = rw and-false (rw and-false at (put-down (getD sp d 0) i (typeAt value T row) (spOf T sp d) false (spOf T l d) e))
 
@@ -190,7 +190,7 @@ module _ (T : List Arg) where
   pub is-tail : (sp : List ℕ) (d : ℕ) (b : Ty stack) → items b ≤ d → b ≡ spOf T sp (items b) → above b (spOf T sp d) ≡ some (spAbove T sp (items b) (d - items b))
   is-tail sp d b h e = let a = spAbove T sp (items b) (d - items b) in ap (above b) (split-is sp (items b) d h ∙ ap (join a) (sym e)) ∙ above-complete a b
 
-  pub tail-is : (sp : List ℕ) (d : ℕ) (b : Ty stack) → above b (spOf T sp d) ≡ when (leb (items b) d && same b (spOf T sp (items b))) (spAbove T sp (items b) (d - items b))
+  pub tail-is : (sp : List ℕ) (d : ℕ) (b : Ty stack) → above b (spOf T sp d) ≡ guarded (leb (items b) d && same b (spOf T sp (items b))) (spAbove T sp (items b) (d - items b))
   tail-is sp d b = go (leb (items b) d && same b (spOf T sp (items b))) refl
     where
       -- a tail meets the test
@@ -204,23 +204,23 @@ module _ (T : List Arg) where
       other none e f = refl
       other (some c) e f = none-true (sym f ∙ meets c (above-sound b (spOf T sp d) c e))
 
-      go : (v : Bool) → leb (items b) d && same b (spOf T sp (items b)) ≡ v → above b (spOf T sp d) ≡ when v (spAbove T sp (items b) (d - items b))
+      go : (v : Bool) → leb (items b) d && same b (spOf T sp (items b)) ≡ v → above b (spOf T sp d) ≡ guarded v (spAbove T sp (items b) (d - items b))
       go true e = let k = and-inv (leb (items b) d) (same b (spOf T sp (items b))) e in is-tail sp d b (leb-true (items b) d (k .0)) (same-sound b (spOf T sp (items b)) (k .1))
       go false e = other (above b (spOf T sp d)) refl e
 
 -- ---- what the functions of this crate promise
-pub values-told : (sp : List ℕ) (d k : ℕ) {b : Bool} → b ≡ areValues sp d k → (b ≡ areValues sp d k) × ((T : List Arg) → under k (spOf T sp d) ≡ when b (spOf T sp (d - k)))
-values-told sp d k e = (e, λ T. under-is T sp d k ∙ ap (λ (v : Bool). when v (spOf T sp (d - k))) (sym e))
+pub values-told : (sp : List ℕ) (d k : ℕ) {b : Bool} → b ≡ areValues sp d k → (b ≡ areValues sp d k) × ((T : List Arg) → under k (spOf T sp d) ≡ guarded b (spOf T sp (d - k)))
+values-told sp d k e = (e, λ T. under-is T sp d k ∙ ap (λ (v : Bool). guarded v (spOf T sp (d - k))) (sym e))
 
 pub item-none : (sp : List ℕ) (d i : ℕ) → areValues sp d (suc i) ≡ false → (T : List Arg) → itemAt (spOf T sp d) i ≡ linked T 0
 unfolding linked
-item-none sp d i e T = item-is T sp d i ∙ ap (λ (v : Bool). when v (typeAt value T (getD sp (d - suc i) 0))) e
+item-none sp d i e T = item-is T sp d i ∙ ap (λ (v : Bool). guarded v (typeAt value T (getD sp (d - suc i) 0))) e
 
 pub item-some : (sp : List ℕ) (d i x : ℕ) → areValues sp d (suc i) ≡ true → x ≡ getD sp (d - i - 1) 0 → (T : List Arg) → itemAt (spOf T sp d) i ≡ linked T (x + 1)
 unfolding linked
 item-some sp d i x e q T =
     let n : x + 1 ≡ suc (getD sp (d - suc i) 0) = add-one x ∙ ap suc (q ∙ ap (λ (j : ℕ). getD sp j 0) (omega arith)) in
-    rw n (item-is T sp d i ∙ ap (λ (v : Bool). when v (typeAt value T (getD sp (d - suc i) 0))) e)
+    rw n (item-is T sp d i ∙ ap (λ (v : Bool). guarded v (typeAt value T (getD sp (d - suc i) 0))) e)
 
 pub item-low : (sp : List ℕ) (d i x : ℕ) → areValues sp d (suc i) ≡ true → x ≡ getD sp (d - i - 1) 0 → x + 1 ≤ 1024
 item-low sp d i x e q =
@@ -229,9 +229,9 @@ item-low sp d i x e q =
     omega arith
 
 pub put-none : (sp : List ℕ) (d i row : ℕ) → d ≤ length sp → row < firstVar → areValues sp d (suc i) ≡ false → (T : List Arg) → replaced (spOf T sp d) i (typeAt value T row) ≡ none
-put-none sp d i row h q e T = put-is T sp d i row h q ∙ ap (λ (v : Bool). when v (spOf T (set sp (d - suc i) row) d)) e
+put-none sp d i row h q e T = put-is T sp d i row h q ∙ ap (λ (v : Bool). guarded v (spOf T (set sp (d - suc i) row) d)) e
 
 pub put-some : (sp : List ℕ) (d i row : ℕ) → d ≤ length sp → row < firstVar → areValues sp d (suc i) ≡ true → (T : List Arg) → replaced (spOf T sp d) i (typeAt value T row) ≡ some (spOf T (set sp (d - i - 1) row) d)
 put-some sp d i row h q e T =
     let n : d - suc i ≡ d - i - 1 = omega arith in
-    put-is T sp d i row h q ∙ ap₂ (λ (v : Bool) (j : ℕ). when v (spOf T (set sp j row) d)) e n
+    put-is T sp d i row h q ∙ ap₂ (λ (v : Bool) (j : ℕ). guarded v (spOf T (set sp j row) d)) e n

@@ -9,7 +9,7 @@ ghost use mathlib.Core.Path.{_≡_};
 ghost use Prim.Native.Nat.{ℕ, _+_, _-_, _≤_, _<_};
 ghost use mathlib.Core.List.{List};
 ghost use lib.ListN.{length, getD};
-ghost use Rattle.syntax.specs.Partial.{when};
+ghost use Rattle.syntax.specs.Partial.{guarded};
 ghost use Rattle.syntax.specs.Syntax.{value};
 ghost use Rattle.syntax.proofs.Least.{least};
 ghost use Rattle.types.specs.Types.{Arg, junk};
@@ -63,7 +63,7 @@ pub fn register(regs: &[u16], r: usize) -> usize
 // Register d gets the type of row t, if there is such a register.
 pub fn assign(regs: &mut [u16], d: usize, t: usize) -> bool
     requires { ⌜ (8 ≤ length (now regs)) × (t < 65535) ⌝ }
-    ensures { λ out. ⌜ ((T : List Arg) → replaced (regsOf T (now (regs .entry))) d (typeAt value T t) ≡ when out (regsOf T (now (regs .exit)))) ⌝ }
+    ensures { λ out. ⌜ ((T : List Arg) → replaced (regsOf T (now (regs .entry))) d (typeAt value T t) ≡ guarded out (regsOf T (now (regs .exit)))) ⌝ }
 {
     if d < 8 {
         regs[d] = (t + 1) as u16;
@@ -74,7 +74,7 @@ pub fn assign(regs: &mut [u16], d: usize, t: usize) -> bool
 
 // The k items on top are value types.
 pub fn values(sp: &[u16], d: usize, k: usize) -> bool
-    ensures { λ out. ⌜ (out ≡ areValues (now (sp .entry)) d k) × ((T : List Arg) → under k (spOf T (now (sp .entry)) d) ≡ when out (spOf T (now (sp .entry)) (d - k))) ⌝ }
+    ensures { λ out. ⌜ (out ≡ areValues (now (sp .entry)) d k) × ((T : List Arg) → under k (spOf T (now (sp .entry)) d) ≡ guarded out (spOf T (now (sp .entry)) (d - k))) ⌝ }
 {
     if d < k {
         return false;
@@ -118,7 +118,7 @@ pub fn push_junks(sp: &mut [u16], d: usize, k: usize, row: usize)
 // Item i from the top gets the type of a row, if it and those above it are value types. What is above the depth stays.
 pub fn set_item(sp: &mut [u16], d: usize, i: usize, row: usize) -> bool
     requires { ⌜ (d ≤ length (now sp)) × (row < 1024) ⌝ }
-    ensures { λ out. ⌜ ((T : List Arg) → replaced (spOf T (now (sp .entry)) d) i (typeAt value T row) ≡ when out (spOf T (now (sp .exit)) d)) × ((T : List Arg) (k : ℕ) → spAbove T (now (sp .exit)) d k ≡ spAbove T (now (sp .entry)) d k) ⌝ }
+    ensures { λ out. ⌜ ((T : List Arg) → replaced (spOf T (now (sp .entry)) d) i (typeAt value T row) ≡ guarded out (spOf T (now (sp .exit)) d)) × ((T : List Arg) (k : ℕ) → spAbove T (now (sp .exit)) d k ≡ spAbove T (now (sp .entry)) d k) ⌝ }
 {
     if d <= i {
         return false;

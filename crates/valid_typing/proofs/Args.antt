@@ -10,7 +10,7 @@ use lib.Dec.{ltb, eqb, eqb·suc-zero}
 use lib.ListN.{length, getD, take, drop, set, length-set, drop-of-length-le, length-map, List·getD-eq-default}
 use lib.Seq.{length-take-le, take-set-lt, drop-set-lt, drop-cons, getD-set-same}
 use borrow.Author.Tests.{lt-ltb, le-ltb, ltb-true, ltb-false, le-leb, lt-leb}
-use Rattle.syntax.specs.Partial.{when}
+use Rattle.syntax.specs.Partial.{guarded}
 use Rattle.syntax.specs.Syntax.{Kind, value, stack}
 use Rattle.types.specs.Types.{junk, Arg, arg, kindOf, ofKind, aStack}
 use Rattle.types.specs.Rows.{typeAt, typesOf, allBelow}
@@ -310,7 +310,7 @@ module _ (rows parts : List ℕ) (n : ℕ) (args : List ℕ) (p k : ℕ) (below 
   unfolding lettersLeft
   left-few P Δ l = let a = length-map args (λ x. getD (typesIn rows parts n) x (arg value junk)) in let m = length-letters in rw (lt-leb (length A) (length (lettersAt parts p)) (omega arith))
 
-  pub left-is : (P : Program) (Δ : List Kind) (v : Bool) → length args ≤ k → sameLetters (map kindOf A) (drop (k - length args) (lettersAt parts p)) ≡ v → lettersLeft P Δ A (lettersAt parts p) ≡ when v (take (length (lettersAt parts p) - length args) (lettersAt parts p))
+  pub left-is : (P : Program) (Δ : List Kind) (v : Bool) → length args ≤ k → sameLetters (map kindOf A) (drop (k - length args) (lettersAt parts p)) ≡ v → lettersLeft P Δ A (lettersAt parts p) ≡ guarded v (take (length (lettersAt parts p) - length args) (lettersAt parts p))
   unfolding lettersLeft
   left-is P Δ v l e =
       let a = length-map args (λ x. getD (typesIn rows parts n) x (arg value junk)) in

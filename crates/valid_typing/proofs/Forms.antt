@@ -9,7 +9,7 @@ use mathlib.Core.List.{List, [], _∷_}
 use lib.ListN.{getD}
 use types.Run.{OneOf, miss}
 use denote.Enum.Declared.{tagOf}
-use Rattle.syntax.specs.Partial.{when}
+use Rattle.syntax.specs.Partial.{guarded}
 use Rattle.syntax.specs.Syntax.{Kind, value, stack}
 use Rattle.types.specs.Types.{Ty, int, junk, var, tuple, pointer, code, nil, Arg}
 use Rattle.types.specs.Rows.{typeAt}
@@ -34,16 +34,16 @@ pub same-self : (rows parts : List ℕ) (n l r : ℕ) → l ≡ r → true ≡ s
 same-self rows parts n l r e = sym (same-refl (typeAt value (typesIn rows parts n) l)) ∙ ap (λ (x : ℕ). same (typeAt value (typesIn rows parts n) l) (typeAt value (typesIn rows parts n) x)) e
 
 -- and integer types are equal
-type-int : (t : Ty value) (b : Bool) → asInt t ≡ when b tt → b ≡ true → t ≡ int
+type-int : (t : Ty value) (b : Bool) → asInt t ≡ guarded b tt → b ≡ true → t ≡ int
 unfolding asInt
 type-int int b e q = refl
-type-int junk b e q = absurd (Option·none-ne-some tt (e ∙ ap (λ x. when x tt) q))
-type-int (var k) b e q = absurd (Option·none-ne-some tt (e ∙ ap (λ x. when x tt) q))
-type-int (tuple a) b e q = absurd (Option·none-ne-some tt (e ∙ ap (λ x. when x tt) q))
-type-int (pointer a) b e q = absurd (Option·none-ne-some tt (e ∙ ap (λ x. when x tt) q))
-type-int (code p a r) b e q = absurd (Option·none-ne-some tt (e ∙ ap (λ x. when x tt) q))
+type-int junk b e q = absurd (Option·none-ne-some tt (e ∙ ap (λ x. guarded x tt) q))
+type-int (var k) b e q = absurd (Option·none-ne-some tt (e ∙ ap (λ x. guarded x tt) q))
+type-int (tuple a) b e q = absurd (Option·none-ne-some tt (e ∙ ap (λ x. guarded x tt) q))
+type-int (pointer a) b e q = absurd (Option·none-ne-some tt (e ∙ ap (λ x. guarded x tt) q))
+type-int (code p a r) b e q = absurd (Option·none-ne-some tt (e ∙ ap (λ x. guarded x tt) q))
 
-pub same-int : (t u : Ty value) (b c : Bool) → asInt t ≡ when b tt → b ≡ true → asInt u ≡ when c tt → c ≡ true → true ≡ same t u
+pub same-int : (t u : Ty value) (b c : Bool) → asInt t ≡ guarded b tt → b ≡ true → asInt u ≡ guarded c tt → c ≡ true → true ≡ same t u
 same-int t u b c e f g h = sym (same-refl int) ∙ ap₂ same (sym (type-int t b e f)) (sym (type-int u c g h))
 
 -- the form of row t, as it is read
@@ -82,7 +82,7 @@ module _ (P : Program) (Δ : List Kind) (T : List Arg) (g : Ty stack) (r u : ℕ
   unfolding integerAt
   int-unknown z = unknown (λ t. orFault 9 (asInt t)) tt z
 
-  pub int-is : (b : Bool) → (u ≡ 0 → ⊥) → asInt (typeAt value T (u - 1)) ≡ when b tt → toldOf (integerAt P Δ g r) ≡ answer (cond b 0 9) tt
+  pub int-is : (b : Bool) → (u ≡ 0 → ⊥) → asInt (typeAt value T (u - 1)) ≡ guarded b tt → toldOf (integerAt P Δ g r) ≡ answer (cond b 0 9) tt
   unfolding integerAt
   int-is b z h = reads (λ t. orFault 9 (asInt t)) (cond b 0 9) tt z (told-when 8 _ b tt h)
 
@@ -90,11 +90,11 @@ module _ (P : Program) (Δ : List Kind) (T : List Arg) (g : Ty stack) (r u : ℕ
   unfolding pointerAt
   pointer-unknown y z = unknown (λ t. orFault 9 (asPointer t)) y z
 
-  pub pointer-is : (b : Bool) (y : Ty stack) → (u ≡ 0 → ⊥) → asPointer (typeAt value T (u - 1)) ≡ when b y → toldOf (pointerAt P Δ g r) ≡ answer (cond b 0 9) y
+  pub pointer-is : (b : Bool) (y : Ty stack) → (u ≡ 0 → ⊥) → asPointer (typeAt value T (u - 1)) ≡ guarded b y → toldOf (pointerAt P Δ g r) ≡ answer (cond b 0 9) y
   unfolding pointerAt
   pointer-is b y z h = reads (λ t. orFault 9 (asPointer t)) (cond b 0 9) y z (told-when 8 _ b y h)
 
-  tuple-is : (b : Bool) (c : Ty stack) → (u ≡ 0 → ⊥) → asTuple (typeAt value T (u - 1)) ≡ when b c → toldOf (tupleAt P Δ g r) ≡ answer (cond b 0 9) c
+  tuple-is : (b : Bool) (c : Ty stack) → (u ≡ 0 → ⊥) → asTuple (typeAt value T (u - 1)) ≡ guarded b c → toldOf (tupleAt P Δ g r) ≡ answer (cond b 0 9) c
   unfolding tupleAt
   tuple-is b c z h = reads (λ t. orFault 9 (asTuple t)) (cond b 0 9) c z (told-when 8 _ b c h)
 
@@ -104,7 +104,7 @@ module _ (P : Program) (Δ : List Kind) (T : List Arg) (g : Ty stack) (r u : ℕ
   pub component-other : (i : ℕ) (y : Ty value) → (u ≡ 0 → ⊥) → asTuple (typeAt value T (u - 1)) ≡ none → toldOf (componentAt P Δ g r i) ≡ answer 9 y
   component-other i y z h = told-stop (tupleAt P Δ g r) (λ c. orFault 11 (itemAt c i)) 9 nil y (tuple-is false nil z h) (omega arith)
 
-  pub component-is : (i : ℕ) (c : Ty stack) (b : Bool) (y : Ty value) → (u ≡ 0 → ⊥) → asTuple (typeAt value T (u - 1)) ≡ some c → itemAt c i ≡ when b y → toldOf (componentAt P Δ g r i) ≡ answer (cond b 0 11) y
+  pub component-is : (i : ℕ) (c : Ty stack) (b : Bool) (y : Ty value) → (u ≡ 0 → ⊥) → asTuple (typeAt value T (u - 1)) ≡ some c → itemAt c i ≡ guarded b y → toldOf (componentAt P Δ g r i) ≡ answer (cond b 0 11) y
   component-is i c b y z h j = told-next (tupleAt P Δ g r) (λ c. orFault 11 (itemAt c i)) 0 (cond b 0 11) c y (tuple-is true c z h) refl (told-when 10 _ b y j)
 
 -- an item of a tuple

@@ -6,7 +6,7 @@ use mathlib.Core.Bool.{Bool, true, false, cond}
 use mathlib.Core.Option.{Option, none, some}
 use mathlib.Core.List.{List}
 use lib.Dec.{leb}
-use Rattle.syntax.specs.Partial.{when}
+use Rattle.syntax.specs.Partial.{guarded}
 use Rattle.syntax.specs.Syntax.{Kind, value, stack, Operand, Arith, Branch, aop, bop, mov, ld, st, malloc, getsp, setsp, salloc, sfree, sld, sst, slp, ssp, jmp, halt}
 use Rattle.syntax.specs.Fault.{fault, numberOf, lowest}
 use Rattle.types.specs.Types.{Ty, int, tuple, pointer, join, items, Arg}
@@ -28,7 +28,7 @@ ifNone k zero = k
 ifNone k (suc u) = 0
 
 -- ---- single premises
-pub told-when : {A : Type 0} (n : ℕ) (o : Option A) (b : Bool) (x : A) → o ≡ when b x → toldOf (orFault (suc n) o) ≡ answer (cond b 0 (suc n)) x
+pub told-when : {A : Type 0} (n : ℕ) (o : Option A) (b : Bool) (x : A) → o ≡ guarded b x → toldOf (orFault (suc n) o) ≡ answer (cond b 0 (suc n)) x
 told-when n o true x e = rw e (told-some (suc n) x)
 told-when n o false x e = rw e (told-none n x)
 
@@ -42,7 +42,7 @@ pub told-map : {A B : Type 0} (m : Judged A) (n : ℕ) (x : A) (y : B) → toldO
 told-map m zero x y e = told-then m (λ z. holds y) x e ∙ unfold toldOf answer in refl
 told-map m (suc n) x y e = told-stop m (λ z. holds y) (suc n) x y e (omega arith)
 
-pub told-over : {A B : Type 0} (n : ℕ) (o : Option A) (f : A → B) (b : Bool) (x : A) → o ≡ when b x → toldOf (orFault (suc n) o ▹ λ y. holds (f y)) ≡ answer (cond b 0 (suc n)) (f x)
+pub told-over : {A B : Type 0} (n : ℕ) (o : Option A) (f : A → B) (b : Bool) (x : A) → o ≡ guarded b x → toldOf (orFault (suc n) o ▹ λ y. holds (f y)) ≡ answer (cond b 0 (suc n)) (f x)
 unfolding toldOf answer orFault _▹_ lowest numberOf
 told-over n o f true x e = rw e
 told-over n o f false x e = rw e
@@ -88,7 +88,7 @@ module _ (P : Program) (Δ : List Kind) where
   unfolding known
   known-told T g r u e = told-link T 8 (itemAt g r) u e
 
-  pub assign-told : (Γ : Context) (d : ℕ) (t : Ty value) (b : Bool) (g : Ty stack) → replaced (Γ .regs) d t ≡ when b g → toldOf (assign P Δ Γ d t) ≡ answer (cond b 0 9) (withRegs Γ g)
+  pub assign-told : (Γ : Context) (d : ℕ) (t : Ty value) (b : Bool) (g : Ty stack) → replaced (Γ .regs) d t ≡ guarded b g → toldOf (assign P Δ Γ d t) ≡ answer (cond b 0 9) (withRegs Γ g)
   unfolding assign
   assign-told Γ d t true g e = rw e (told-some 9 (withRegs Γ g))
   assign-told Γ d t false g e = rw e (told-none 8 (withRegs Γ g))
@@ -172,7 +172,7 @@ module _ (P : Program) (Δ : List Kind) where
     unfolding judge
     setsp-stops s f b Γ′ p h = stops _ (λ b. orFault 12 (above b (Γ .sp)) ▹ λ a. holds (withSp Γ b)) f b Γ′ p h
 
-    pub setsp-goes : (s f : ℕ) (b a : Ty stack) (v : Bool) → toldOf (pointerAt P Δ (Γ .regs) s) ≡ answer f b → f ≡ 0 → above b (Γ .sp) ≡ when v a → toldOf (judge P Δ Γ (setsp s)) ≡ answer (cond v 0 12) (withSp Γ b)
+    pub setsp-goes : (s f : ℕ) (b a : Ty stack) (v : Bool) → toldOf (pointerAt P Δ (Γ .regs) s) ≡ answer f b → f ≡ 0 → above b (Γ .sp) ≡ guarded v a → toldOf (judge P Δ Γ (setsp s)) ≡ answer (cond v 0 12) (withSp Γ b)
     unfolding judge
     setsp-goes s f b a v p z e =
         told-next _ (λ b. orFault 12 (above b (Γ .sp)) ▹ λ a. holds (withSp Γ b)) f (cond v 0 12) b (withSp Γ b) p z (told-map (orFault 12 (above b (Γ .sp))) (cond v 0 12) a (withSp Γ b) (told-when 11 _ v a e))
@@ -181,7 +181,7 @@ module _ (P : Program) (Δ : List Kind) where
     unfolding judge
     salloc-told n b e = told-map _ (cond b 0 13) tt (withSp Γ (junks n (Γ .sp))) (needs 12 _ b e)
 
-    pub sfree-told : (n : ℕ) (b : Bool) (c : Ty stack) → under n (Γ .sp) ≡ when b c → toldOf (judge P Δ Γ (sfree n)) ≡ answer (cond b 0 11) (withSp Γ c)
+    pub sfree-told : (n : ℕ) (b : Bool) (c : Ty stack) → under n (Γ .sp) ≡ guarded b c → toldOf (judge P Δ Γ (sfree n)) ≡ answer (cond b 0 11) (withSp Γ c)
     unfolding judge
     sfree-told n b c e = told-over 10 _ (withSp Γ) b c e
 
@@ -210,7 +210,7 @@ module _ (P : Program) (Δ : List Kind) where
         go (some t) q = nine-first _ _ (storing i) 0 _ t Γ′ p (rw (← q) at (told-some 11 t)) (unfold least in refl)
 
     -- with an item to replace
-    pub sst-goes : (T : List Arg) (i s u : ℕ) (b : Bool) (c : Ty stack) → itemAt (Γ .regs) s ≡ linked T u → (u ≡ 0 → ⊥) → (itemAt (Γ .sp) i ≡ none → b ≡ false) → replaced (Γ .sp) i (typeAt value T (u - 1)) ≡ when b c
+    pub sst-goes : (T : List Arg) (i s u : ℕ) (b : Bool) (c : Ty stack) → itemAt (Γ .regs) s ≡ linked T u → (u ≡ 0 → ⊥) → (itemAt (Γ .sp) i ≡ none → b ≡ false) → replaced (Γ .sp) i (typeAt value T (u - 1)) ≡ guarded b c
         → toldOf (judge P Δ Γ (sst i s)) ≡ answer (cond b 0 11) (withSp Γ c)
     unfolding judge storing
     sst-goes T i s u b c e z n h = go (itemAt (Γ .sp) i) refl
@@ -229,7 +229,7 @@ module _ (P : Program) (Δ : List Kind) where
     unfolding judge
     slp-stops d s i f b Γ′ p h = stops _ (λ b. (orFault 12 (above b (Γ .sp)) & orFault 11 (itemAt b i)) ▹ λ z. assign P Δ Γ d (z .1)) f b Γ′ p h
 
-    module _ (T : List Arg) (d s i f : ℕ) (b a : Ty stack) (v : Bool) (u : ℕ) (p : toldOf (pointerAt P Δ (Γ .regs) s) ≡ answer f b) (z : f ≡ 0) (ta : above b (Γ .sp) ≡ when v a) (it : itemAt b i ≡ linked T u) where
+    module _ (T : List Arg) (d s i f : ℕ) (b a : Ty stack) (v : Bool) (u : ℕ) (p : toldOf (pointerAt P Δ (Γ .regs) s) ≡ answer f b) (z : f ≡ 0) (ta : above b (Γ .sp) ≡ guarded v a) (it : itemAt b i ≡ linked T u) where
       slp-both : toldOf (orFault 12 (above b (Γ .sp)) & orFault 11 (itemAt b i)) ≡ answer (least (cond v 0 12) (ifNone 11 u)) (a, typeAt value T (u - 1))
       slp-both = told-and _ _ (cond v 0 12) (ifNone 11 u) a (typeAt value T (u - 1)) (told-when 11 _ v a ta) (told-link T 10 _ u it)
 
@@ -264,7 +264,7 @@ module _ (P : Program) (Δ : List Kind) where
     pub through-stops : (d i s t f : ℕ) (b : Ty stack) (y : Ty stack × Ty stack) → toldOf (pointerAt P Δ (Γ .regs) d) ≡ answer f b → (f ≡ 0 → ⊥) → toldOf (through d i s t) ≡ answer f y
     through-stops d i s t f b y p h = stops _ (λ b. orFault 12 (above b (Γ .sp)) & newTail P Δ Γ b i s t) f b y p h
 
-    pub through-goes : (d i s t f k : ℕ) (b a c : Ty stack) (v : Bool) → toldOf (pointerAt P Δ (Γ .regs) d) ≡ answer f b → f ≡ 0 → above b (Γ .sp) ≡ when v a → toldOf (newTail P Δ Γ b i s t) ≡ answer k c
+    pub through-goes : (d i s t f k : ℕ) (b a c : Ty stack) (v : Bool) → toldOf (pointerAt P Δ (Γ .regs) d) ≡ answer f b → f ≡ 0 → above b (Γ .sp) ≡ guarded v a → toldOf (newTail P Δ Γ b i s t) ≡ answer k c
         → toldOf (through d i s t) ≡ answer (least (cond v 0 12) k) (a, c)
     through-goes d i s t f k b a c v p z e q = told-next _ (λ b. orFault 12 (above b (Γ .sp)) & newTail P Δ Γ b i s t) f _ b (a, c) p z (told-and _ _ (cond v 0 12) k a c (told-when 11 _ v a e) q)
 

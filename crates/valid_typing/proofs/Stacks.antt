@@ -10,7 +10,7 @@ use lib.Dec.{ltb, eqb}
 use lib.ListN.{length, getD, set}
 use lib.Seq.{getD-set-same}
 use borrow.Author.Tests.{lt-ltb, le-ltb, le-leb, lt-leb}
-use Rattle.syntax.specs.Partial.{when}
+use Rattle.syntax.specs.Partial.{guarded}
 use Rattle.syntax.specs.Syntax.{Kind, value, stack}
 use Rattle.types.specs.Types.{Ty, int, junk, var, tuple, pointer, code, nil, push, svar, gap, join, items, variable, below, walk, Arg}
 use Rattle.types.specs.Rows.{typeAt}
@@ -309,5 +309,5 @@ module _ (T : List Arg) (sp : List ℕ) (d m : ℕ) (b : Ty stack) (e : m ≡ it
   pub tail-short : d < m → above b (spOf T sp d) ≡ none
   tail-short l = tail-is T sp d b ∙ rw (lt-leb (items b) d (omega arith))
 
-  pub tail-same : {v : Bool} → m ≤ d → v ≡ same b (spOf T sp m) → above b (spOf T sp d) ≡ when v (spAbove T sp (items b) (d - items b))
+  pub tail-same : {v : Bool} → m ≤ d → v ≡ same b (spOf T sp m) → above b (spOf T sp d) ≡ guarded v (spAbove T sp (items b) (d - items b))
   tail-same l h = tail-is T sp d b ∙ rw (le-leb (items b) d (omega arith), ← e, ← h)

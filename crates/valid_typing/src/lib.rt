@@ -21,7 +21,7 @@ ghost use Prim.Native.Nat.{ℕ, _+_, _-_, _≤_, _<_};
 ghost use mathlib.Core.Bool.{true, cond};
 ghost use mathlib.Core.List.{List, map, reverse};
 ghost use lib.ListN.{length, getD, take};
-ghost use Rattle.syntax.specs.Partial.{when};
+ghost use Rattle.syntax.specs.Partial.{guarded};
 ghost use Rattle.syntax.specs.Syntax.{Kind, value, stack};
 ghost use Rattle.types.specs.Types.{junk, nil, svar, Arg, arg, kindOf, items};
 ghost use Rattle.types.specs.Rows.{typeAt, typesOf, allBelow};
@@ -78,7 +78,7 @@ pub fn row_of(n: usize, h: usize) -> usize
 // Row t is the integer type.
 pub fn is_int(rows: &[u16], parts: &[u16], n: usize, t: usize) -> bool
     requires { ⌜ Ready (now rows) (now parts) n × (t ≤ 65535) ⌝ }
-    ensures { λ out. ⌜ asInt (typeAt value (typesIn (now (rows .entry)) (now (parts .entry)) n) t) ≡ when out tt ⌝ }
+    ensures { λ out. ⌜ asInt (typeAt value (typesIn (now (rows .entry)) (now (parts .entry)) n) t) ≡ guarded out tt ⌝ }
 {
     let v = types_rows::read_value(rows, types_rows::link(n + 3, t), 0, 0, 0);
     if let Val::Int = v {
@@ -145,7 +145,7 @@ pub fn pointer(rows: &[u16], parts: &[u16], n: usize, regs: &[u16], r: usize) ->
 // Row t as code.
 pub(crate) fn code(rows: &[u16], parts: &[u16], n: usize, t: usize) -> Coded
     requires { ⌜ Ready (now rows) (now parts) n × (t ≤ 65535) ⌝ }
-    ensures { λ out. ⌜ (asCode (typeAt value (typesIn (now (rows .entry)) (now (parts .entry)) n) t) ≡ when (out .is) (codeIn (now (rows .entry)) (now (parts .entry)) (out .link) (out .stack) (out .start))) × (out .link ≤ n + 2) × (out .stack ≤ n + 1) × (out .start ≤ 65535) ⌝ }
+    ensures { λ out. ⌜ (asCode (typeAt value (typesIn (now (rows .entry)) (now (parts .entry)) n) t) ≡ guarded (out .is) (codeIn (now (rows .entry)) (now (parts .entry)) (out .link) (out .stack) (out .start))) × (out .link ≤ n + 2) × (out .stack ≤ n + 1) × (out .start ≤ 65535) ⌝ }
 {
     let h = types_rows::link(n + 3, t);
     let v = types_rows::read_value(rows, h, 0, 0, 0);
@@ -348,7 +348,7 @@ pub fn is_tail(
     pending: &mut [u32],
 ) -> bool
     requires { ⌜ Ready (now rows) (now parts) n × (x ≤ n + 2) × (1543 ≤ length (now pending)) ⌝ }
-    ensures { λ out. ⌜ above (meanS (tab (now (rows .entry)) (now (parts .entry))) x) (spOf (typesIn (now (rows .entry)) (now (parts .entry)) n) (now (sp .entry)) d) ≡ when out (spAbove (typesIn (now (rows .entry)) (now (parts .entry)) n) (now (sp .entry)) (items (meanS (tab (now (rows .entry)) (now (parts .entry))) x)) (d - items (meanS (tab (now (rows .entry)) (now (parts .entry))) x))) ⌝ }
+    ensures { λ out. ⌜ above (meanS (tab (now (rows .entry)) (now (parts .entry))) x) (spOf (typesIn (now (rows .entry)) (now (parts .entry)) n) (now (sp .entry)) d) ≡ guarded out (spAbove (typesIn (now (rows .entry)) (now (parts .entry)) n) (now (sp .entry)) (items (meanS (tab (now (rows .entry)) (now (parts .entry))) x)) (d - items (meanS (tab (now (rows .entry)) (now (parts .entry))) x))) ⌝ }
 {
     let m = types_rows::item_count(rows, x);
     if d < m {
@@ -543,7 +543,7 @@ fn letter_fits(stack: bool, x: usize) -> bool
 // There is a letter for each argument, and it is of the argument's kind: the code row's registers start at p.
 pub(crate) fn letters_fit(rows: &[u16], parts: &[u16], n: usize, args: &[u16], p: usize) -> bool
     requires { ⌜ (n ≤ 512) × (p ≤ 65535) × (allBelow (n + 2) (now args) ≡ true) ⌝ }
-    ensures { λ out. ⌜ ((P : Program) (Δ : List Kind) → lettersLeft P Δ (map (λ (x : ℕ). getD (typesIn (now (rows .entry)) (now (parts .entry)) n) x (arg value junk)) (now (args .entry))) (lettersAt (now (parts .entry)) p) ≡ when out (lettersLess (now (parts .entry)) p (length (now (args .entry))))) ⌝ }
+    ensures { λ out. ⌜ ((P : Program) (Δ : List Kind) → lettersLeft P Δ (map (λ (x : ℕ). getD (typesIn (now (rows .entry)) (now (parts .entry)) n) x (arg value junk)) (now (args .entry))) (lettersAt (now (parts .entry)) p) ≡ guarded out (lettersLess (now (parts .entry)) p (length (now (args .entry))))) ⌝ }
 {
     let c = args.len();
     let k = types_rows::letter_count(parts, p);

@@ -11,7 +11,7 @@ use lib.Dec.{T, leb, eqb, leb→le}
 use lib.ListN.{length, getD, take, drop, set, length-map, length-reverse}
 use lib.Seq.{sets, take-set-le, getD-set-same, getD-set-other, length-sets}
 use borrow.Author.Tests.{le-leb, lt-leb, ne-eqb, leb-true}
-use Rattle.syntax.specs.Partial.{bind, when}
+use Rattle.syntax.specs.Partial.{chain, guarded}
 use Rattle.syntax.specs.Syntax.{Kind, value, stack, Row, rowU, rowC, Entry, row}
 use Rattle.text.specs.Bytes.{bytes, sameBytes}
 use Rattle.text.specs.Grammar.{forms, eachLetter, letters, operand}
@@ -72,10 +72,10 @@ same-refl n k ω = record { kinds = refl; numbers = refl; args = refl }
 
 module _ (code : ℕ) (line : List ℕ) (at v a : ℕ) (g : PlainForm code) (before : OperandTable) (x : Slots) (is : slotsOf line x ≡ readSlots (kindsOf code) (fieldsFrom line at)) where
   abbrev After : List ℕ → List ℕ × List (List ℕ) → Option Entry
-  After parts r = bind (atMost (formCell code 4) operand (r .1)) (λ vs. when (leb (fewest (formCell code 4)) (length vs)) (entryBy code parts (r .0) vs))
+  After parts r = chain (atMost (formCell code 4) operand (r .1)) (λ vs. guarded (leb (fewest (formCell code 4)) (length vs)) (entryBy code parts (r .0) vs))
 
-  whole : (parts : List ℕ) → formAt forms code (fieldsFrom line at) ≡ bind (slotsOf line x) (After parts)
-  whole parts = plain-form parts code (fieldsFrom line at) (g .known) (g .no-tuple) (g .no-code) ∙ ap (λ (o : Option (List ℕ × List (List ℕ))). bind o (After parts)) (sym is)
+  whole : (parts : List ℕ) → formAt forms code (fieldsFrom line at) ≡ chain (slotsOf line x) (After parts)
+  whole parts = plain-form parts code (fieldsFrom line at) (g .known) (g .no-tuple) (g .no-code) ∙ ap (λ (o : Option (List ℕ × List (List ℕ))). chain o (After parts)) (sym is)
 
   pub plain-no-slots : (s : Said) → s ≡ noEntry → x .ok ≡ false → PlainIs code (fieldsFrom line at) v a before before s
   plain-no-slots s z e = rw z (record {
@@ -103,7 +103,7 @@ module _ (code : ℕ) (line : List ℕ) (at v a : ℕ) (g : PlainForm code) (bef
         })
 
     module _ (k : n .ok ≡ true) where
-      with-operands : (parts : List ℕ) (ω : OperandTable) → SameOperands (v + n .count) (a + n .args) ω after → formAt forms code (fieldsFrom line at) ≡ when (leb (fewest (formCell code 4)) (n .count)) (entryWith code (x .a) (x .b) (x .c) (x .d) parts (operandsAt ω v (n .count)))
+      with-operands : (parts : List ℕ) (ω : OperandTable) → SameOperands (v + n .count) (a + n .args) ω after → formAt forms code (fieldsFrom line at) ≡ guarded (leb (fewest (formCell code 4)) (n .count)) (entryWith code (x .a) (x .b) (x .c) (x .d) parts (operandsAt ω v (n .count)))
       with-operands parts ω s =
           let q : atMost (formCell code 4) operand (fieldsFrom line (x .next + 1)) ≡ some (operandsAt ω v (n .count)) = sym (r .says ω s) ∙ simp k in
           behind parts ∙ simp (q, operands-length)
@@ -135,9 +135,9 @@ unfolding formCell formTable
 tuple-enough = refl
 
 module _ (line : List ℕ) (at p : ℕ) (before after : List ℕ) (n : Count) (r : PartsRead (fieldsFrom line at) false 16 p before after n) where
-  tuple-says : formAt forms 3 (fieldsFrom line at) ≡ bind (when (n .ok) (span after p (n .count))) (λ ts. some (row (rowU ts)))
+  tuple-says : formAt forms 3 (fieldsFrom line at) ≡ chain (guarded (n .ok) (span after p (n .count))) (λ ts. some (row (rowU ts)))
   unfolding partNumber
-  tuple-says = tuple-form (fieldsFrom line at) ∙ ap (λ (o : Option (List ℕ)). bind o (λ ts. some (row (rowU ts)))) (sym (r .says))
+  tuple-says = tuple-form (fieldsFrom line at) ∙ ap (λ (o : Option (List ℕ)). chain o (λ ts. some (row (rowU ts)))) (sym (r .says))
 
   pub tuple-bad : (s : Said) → s ≡ noEntry → n .ok ≡ false → RowIs 3 (fieldsFrom line at) p before after s
   tuple-bad s z e = rw z (record {
@@ -167,12 +167,12 @@ letters-few : (f : List ℕ) (q : List Kind) → letters f ≡ some q → length
 unfolding letters
 letters-few f q h = go (sameBytes f (bytes "-")) (eachLetter f) h
   where
-    pick : (a b : Bool) (z : List Kind) → leb (length z) 8 ≡ b → when (a && b) z ≡ some q → length q ≤ 8
+    pick : (a b : Bool) (z : List Kind) → leb (length z) 8 ≡ b → guarded (a && b) z ≡ some q → length q ≤ 8
     pick true true z w e = rw (← (Option·some-injective z q e)) (leb-true (length z) 8 w)
     pick true false z w e = absurd (Option·none-ne-some q e)
     pick false b z w e = absurd (Option·none-ne-some q e)
 
-    go : (t : Bool) (o : Option (List Kind)) → cond t (some []) (bind o (λ z. when (leb 1 (length z) && leb (length z) 8) z)) ≡ some q → length q ≤ 8
+    go : (t : Bool) (o : Option (List Kind)) → cond t (some []) (chain o (λ z. guarded (leb 1 (length z) && leb (length z) 8) z)) ≡ some q → length q ≤ 8
     go true o e = rw (← (Option·some-injective [] q e)) zero-le
     go false none e = absurd (Option·none-ne-some q e)
     go false (some z) e = pick (leb 1 (length z)) (leb (length z) 8) z refl e
@@ -238,15 +238,15 @@ module _ (line : List ℕ) (at p : ℕ) (before : List ℕ) where
 
   module _ (l : at ≤ length line) (e : ℕ) (is : e ≡ at + length (firstPart 44 (drop at line))) (x : Slot) (xs : slotOf line x ≡ readSlot 2 (fieldsFrom line (e + 1))) where
     abbrev Regs : List Kind → ℕ × List (List ℕ) → Option Entry
-    Regs q r = bind (atMost 8 (partNumber true) (r .1)) (λ ns. when (eqb (length ns) 8) (row (rowC q (r .0) (map knownOf ns))))
+    Regs q r = chain (atMost 8 (partNumber true) (r .1)) (λ ns. guarded (eqb (length ns) 8) (row (rowC q (r .0) (map knownOf ns))))
 
-    code-whole : formAt forms 5 (fieldsFrom line at) ≡ bind (letters (take (e - at) (drop at line))) (λ q. bind (slotOf line x) (Regs q))
+    code-whole : formAt forms 5 (fieldsFrom line at) ≡ chain (letters (take (e - at) (drop at line))) (λ q. chain (slotOf line x) (Regs q))
     code-whole =
         ap (formAt forms 5) (fields-next line at e is l)
         ∙ code-form (take (e - at) (drop at line)) (fieldsFrom line (e + 1))
-        ∙ ap (λ (o : Option (ℕ × List (List ℕ))). bind (letters (take (e - at) (drop at line))) (λ q. bind o (Regs q))) (sym xs)
+        ∙ ap (λ (o : Option (ℕ × List (List ℕ))). chain (letters (take (e - at) (drop at line))) (λ q. chain o (Regs q))) (sym xs)
 
-    never : (o : Option (List Kind)) → bind {B = Entry} o (λ q. none) ≡ none
+    never : (o : Option (List Kind)) → chain {B = Entry} o (λ q. none) ≡ none
     never none = refl
     never (some q) = refl
 
@@ -260,10 +260,10 @@ module _ (line : List ℕ) (at p : ℕ) (before : List ℕ) where
     })
 
     module _ (h : x .ok ≡ true) (after : List ℕ) (n : Count) (r : PartsRead (fieldsFrom line (x .next + 1)) true 8 p before after n) where
-      regs-read : formAt forms 5 (fieldsFrom line at) ≡ bind (letters (take (e - at) (drop at line))) (λ q. bind (when (n .ok) (span after p (n .count))) (λ ns. when (eqb (length ns) 8) (row (rowC q (x .value) (map knownOf ns)))))
+      regs-read : formAt forms 5 (fieldsFrom line at) ≡ chain (letters (take (e - at) (drop at line))) (λ q. chain (guarded (n .ok) (span after p (n .count))) (λ ns. guarded (eqb (length ns) 8) (row (rowC q (x .value) (map knownOf ns)))))
       regs-read =
           code-whole
-          ∙ simp h (ap (λ (o : Option (List ℕ)). bind (letters (take (e - at) (drop at line))) (λ q. bind o (λ ns. when (eqb (length ns) 8) (row (rowC q (x .value) (map knownOf ns)))))) (sym (r .says)))
+          ∙ simp h (ap (λ (o : Option (List ℕ)). chain (letters (take (e - at) (drop at line))) (λ q. chain o (λ ns. guarded (eqb (length ns) 8) (row (rowC q (x .value) (map knownOf ns)))))) (sym (r .says)))
 
       pub code-no-regs : (s : Said) → s ≡ noEntry → n .ok ≡ false → RowIs 5 (fieldsFrom line at) p before after s
       code-no-regs s z k = rw z (record {
@@ -293,7 +293,7 @@ module _ (line : List ℕ) (at p : ℕ) (before : List ℕ) where
           kept′ : take p after′ ≡ take p before
           kept′ = ap (take p) laid ∙ same-sets p after (p + 9) (codesOf (letters (take (e - at) (drop at line)))) (omega arith) ∙ r .kept
 
-          letters-read : formAt forms 5 (fieldsFrom line at) ≡ bind (letters (take (e - at) (drop at line))) (λ q. some (row (rowC q (x .value) (map knownOf (span after p 8)))))
+          letters-read : formAt forms 5 (fieldsFrom line at) ≡ chain (letters (take (e - at) (drop at line))) (λ q. some (row (rowC q (x .value) (map knownOf (span after p 8)))))
           letters-read = regs-read ∙ simp (k, eight, span-length)
 
           pub code-no-letters : (s : Said) → s ≡ noEntry → y ≡ Bad → RowIs 5 (fieldsFrom line at) p before after′ s

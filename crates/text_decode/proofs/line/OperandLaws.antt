@@ -11,7 +11,7 @@ use lib.Dec.{eqb, leb, lit<}
 use lib.ListN.{length, getD, take, drop, set, length-set, length-take}
 use lib.Seq.{sets, take-set-le, getD-set-same, length-sets}
 use borrow.Author.Tests.{leb-true}
-use Rattle.syntax.specs.Partial.{bind, when}
+use Rattle.syntax.specs.Partial.{chain, guarded}
 use Rattle.syntax.specs.Syntax.{Base, reg, lit, lab, Operand, plain, inst}
 use Rattle.text.specs.Bytes.{part, split, isDecimal, number}
 use Rattle.text.specs.Grammar.{each, rowNumber, carrier, orLiteral, carried, fromParts, operand}
@@ -52,7 +52,7 @@ unfolding size each
 rows-long [] ns h = zero-le
 rows-long (f ∷ fs) ns h = go (rowNumber f) refl (each rowNumber fs) (rows-long fs) h
   where
-    go : (o : Option ℕ) → rowNumber f ≡ o → (rs : Option (List ℕ)) → ((ms : List ℕ) → rs ≡ some ms → 2 * length fs ≤ size fs) → bind o (λ x. bind rs (λ xs. some (x ∷ xs))) ≡ some ns → 2 * suc (length fs) ≤ suc (length f) + size fs
+    go : (o : Option ℕ) → rowNumber f ≡ o → (rs : Option (List ℕ)) → ((ms : List ℕ) → rs ≡ some ms → 2 * length fs ≤ size fs) → chain o (λ x. chain rs (λ xs. some (x ∷ xs))) ≡ some ns → 2 * suc (length fs) ≤ suc (length f) + size fs
     go none w rs v e = absurd (Option·none-ne-some ns e)
     go (some x) w none v e = absurd (Option·none-ne-some ns e)
     go (some x) w (some xs) v e = let a = row-long f x w in let b = v xs refl in omega arith
@@ -62,7 +62,7 @@ Neat : ℕ → Operand → Type 0
 Neat k (plain b) = Unit
 Neat k (inst b ts t) = (1 ≤ length ts) × (length ts ≤ 8) × (2 * length ts ≤ k)
 
-when-both : {A : Type 0} (a b : Bool) (x y : A) → when (a && b) x ≡ some y → (a ≡ true) × (b ≡ true) × (x ≡ y)
+when-both : {A : Type 0} (a b : Bool) (x y : A) → guarded (a && b) x ≡ some y → (a ≡ true) × (b ≡ true) × (x ≡ y)
 when-both true true x y e = (refl, refl, Option·some-injective x y e)
 when-both true false x y e = absurd (Option·none-ne-some y e)
 when-both false b x y e = absurd (Option·none-ne-some y e)
@@ -72,7 +72,7 @@ unfolding carried Neat size
 carried-neat [] f k l o h = absurd (Option·none-ne-some o h)
 carried-neat (b ∷ ts) f k l o h = go (carrier b) (each rowNumber ts) refl (rowNumber f) h
   where
-    go : (c : Option Base) (rs : Option (List ℕ)) → each rowNumber ts ≡ rs → (t : Option ℕ) → bind c (λ c. bind rs (λ rs. bind t (λ r. when (leb 1 (length ts) && leb (length ts) 8) (inst c rs r)))) ≡ some o → Neat k o
+    go : (c : Option Base) (rs : Option (List ℕ)) → each rowNumber ts ≡ rs → (t : Option ℕ) → chain c (λ c. chain rs (λ rs. chain t (λ r. guarded (leb 1 (length ts) && leb (length ts) 8) (inst c rs r)))) ≡ some o → Neat k o
     go none rs w t e = absurd (Option·none-ne-some o e)
     go (some c) none w t e = absurd (Option·none-ne-some o e)
     go (some c) (some rs) w none e = absurd (Option·none-ne-some o e)
@@ -89,7 +89,7 @@ unfolding Neat size
 parts-neat [] k d o h = absurd (Option·none-ne-some o h)
 parts-neat (b ∷ []) k d o h = go (orLiteral (carrier b) b) h
   where
-    go : (c : Option Base) → bind c (λ c. some (plain c)) ≡ some o → Neat k o
+    go : (c : Option Base) → chain c (λ c. some (plain c)) ≡ some o → Neat k o
     go none e = absurd (Option·none-ne-some o e)
     go (some c) e = rw (← (Option·some-injective (plain c) o e)) tt
 parts-neat (l ∷ t ∷ []) k d o h = let e = split-size 58 l in carried-neat (split 58 l) t k (omega arith) o h

@@ -10,7 +10,7 @@ use native.Mathlib.Numerals.{add-one}
 use lib.Dec.{eqb}
 use lib.ListN.{length, getD, take, drop}
 use borrow.Author.Tests.{eq-eqb, ne-eqb}
-use Rattle.syntax.specs.Partial.{bind, when}
+use Rattle.syntax.specs.Partial.{chain, guarded}
 use Rattle.text.specs.Bytes.{bytes, sameBytes, isDigit, allDigits, isDecimal, number}
 use Rattle.text.specs.Grammar.{rowNumber, index, amount, register, known, operand}
 use Rattle.text_lines.specs.Parts.{lineIn, fieldIn, InLine, StopAt}
@@ -63,10 +63,10 @@ module _ (s : List ℕ) (at : ℕ) (o : Option ℕ) (x : Scan) (g : ScanIs s at 
   scan-to r e = record { says = g .says ∙ e; ends = g .ends }
 
   pub scan-value : x .ok ≡ true → o ≡ some (x .value)
-  scan-value t = sym (g .says) ∙ ap (λ (b : Bool). when b (x .value)) t
+  scan-value t = sym (g .says) ∙ ap (λ (b : Bool). guarded b (x .value)) t
 
   pub scan-lacks : x .ok ≡ false → o ≡ none
-  scan-lacks t = sym (g .says) ∙ ap (λ (b : Bool). when b (x .value)) t
+  scan-lacks t = sym (g .says) ∙ ap (λ (b : Bool). guarded b (x .value)) t
 
 -- a field as the walk over a line has it
 pub field-here : (s : List ℕ) (at e : ℕ) → e ≡ at + length (fieldIn s at) → take (e - at) (drop at (lineIn s)) ≡ fieldIn s at
@@ -123,11 +123,11 @@ dash-more : (b : ℕ) (f : List ℕ) → partNumber true (45 ∷ b ∷ f) ≡ no
 unfolding partNumber known sameBytes bytes rowNumber number isDecimal allDigits isDigit
 dash-more b f = refl
 
-known-row : (f : List ℕ) → sameBytes f (bytes "-") ≡ false → partNumber true f ≡ bind (number 0 511 f) (λ r. some (suc r))
+known-row : (f : List ℕ) → sameBytes f (bytes "-") ≡ false → partNumber true f ≡ chain (number 0 511 f) (λ r. some (suc r))
 unfolding partNumber known rowNumber
 known-row f e = simp e (go (number 0 511 f))
   where
-    go : (o : Option ℕ) → bind (bind o (λ r. some (some r))) (λ x. some (keptAs x)) ≡ bind o (λ r. some (suc r))
+    go : (o : Option ℕ) → chain (chain o (λ r. some (some r))) (λ x. some (keptAs x)) ≡ chain o (λ r. some (suc r))
     go none = refl
     go (some r) = refl
 
@@ -157,12 +157,12 @@ module _ (s : List ℕ) (at : ℕ) (p : InLine s at) where
         ∙ dash-more (getD s (at + 1) 0) (fieldIn s (at + 1 + 1))
 
   module _ (n : getD s at 0 ≡ 45 → ⊥) where
-    known-number : partNumber true (fieldIn s at) ≡ bind (number 0 511 (fieldIn s at)) (λ r. some (suc r))
+    known-number : partNumber true (fieldIn s at) ≡ chain (number 0 511 (fieldIn s at)) (λ r. some (suc r))
     known-number = known-row (fieldIn s at) (not-dash (fieldIn s at) (λ m q. n (sym (field-first s at p m) ∙ q)))
 
     module _ (x : Scan) (g : ScanIs s at (number 0 511 (fieldIn s at)) x) where
       pub known-bad : x .ok ≡ false → partNumber true (fieldIn s at) ≡ none
-      known-bad t = known-number ∙ ap (λ (o : Option ℕ). bind o (λ r. some (suc r))) (scan-lacks s at (number 0 511 (fieldIn s at)) x g t)
+      known-bad t = known-number ∙ ap (λ (o : Option ℕ). chain o (λ r. some (suc r))) (scan-lacks s at (number 0 511 (fieldIn s at)) x g t)
 
       pub known-small : x .ok ≡ true → x .value ≤ 511
       known-small t = number-bounds 0 511 (fieldIn s at) (x .value) (scan-value s at (number 0 511 (fieldIn s at)) x g t) .1
@@ -170,7 +170,7 @@ module _ (s : List ℕ) (at : ℕ) (p : InLine s at) where
       pub known-is : x .ok ≡ true → ScanIs s at (partNumber true (fieldIn s at)) (record { ok = true; value = x .value + 1; next = x .next })
       known-is t =
           scan-some s at (partNumber true (fieldIn s at)) (x .value + 1) (x .next)
-          (known-number ∙ ap (λ (o : Option ℕ). bind o (λ r. some (suc r))) (scan-value s at (number 0 511 (fieldIn s at)) x g t) ∙ ap some (sym (add-one (x .value))))
+          (known-number ∙ ap (λ (o : Option ℕ). chain o (λ r. some (suc r))) (scan-value s at (number 0 511 (fieldIn s at)) x g t) ∙ ap some (sym (add-one (x .value))))
           (g .ends t)
 
 -- ---- an answer that ends nowhere

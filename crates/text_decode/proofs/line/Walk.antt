@@ -10,7 +10,7 @@ use native.Mathlib.Nat.{zero-add}
 use lib.Dec.{ltb, leb}
 use lib.ListN.{length, take, drop}
 use borrow.Author.Tests.{le-leb, lt-leb, ltb-true, ltb-false}
-use Rattle.syntax.specs.Partial.{bind, when}
+use Rattle.syntax.specs.Partial.{chain, guarded}
 use Rattle.text.specs.Bytes.{split, fieldsOf}
 use Rattle.text.specs.Grammar.{each}
 use Rattle.text_lines.specs.Parts.{firstPart}
@@ -44,11 +44,11 @@ module _ (line : List ℕ) (at e : ℕ) (is : e ≡ at + length (firstPart 44 (d
 
 -- ---- reading each: of the fields fs the first n are read, as xs, and gs are left
 pub record Walked {A : Type 0} (p : List ℕ → Option A) (fs gs : List (List ℕ)) (n : ℕ) (xs : List A) : Type 0 where
-  pub reads : each p fs ≡ bind (each p gs) (λ ys. some (xs ++ ys))
+  pub reads : each p fs ≡ chain (each p gs) (λ ys. some (xs ++ ys))
   pub counts : length fs ≡ n + length gs
 
 module _ {A : Type 0} (p : List ℕ → Option A) where
-  bind-some : (o : Option (List A)) → o ≡ bind o (λ ys. some ([] ++ ys))
+  bind-some : (o : Option (List A)) → o ≡ chain o (λ ys. some ([] ++ ys))
   bind-some none = refl
   bind-some (some ys) = refl
 
@@ -60,7 +60,7 @@ module _ {A : Type 0} (p : List ℕ → Option A) where
     unfolding each
     walk-on g x w e = record { reads = w .reads ∙ simp e (go (each p gs)); counts = let c = w .counts in omega arith }
       where
-        go : (o : Option (List A)) → bind (bind o (λ ys. some (x ∷ ys))) (λ ys. some (xs ++ ys)) ≡ bind o (λ ys. some ((xs ++ (x ∷ [])) ++ ys))
+        go : (o : Option (List A)) → chain (chain o (λ ys. some (x ∷ ys))) (λ ys. some (xs ++ ys)) ≡ chain o (λ ys. some ((xs ++ (x ∷ [])) ++ ys))
         go none = refl
         go (some ys) = ap some (sym (append-assoc xs (x ∷ []) ys))
 
@@ -72,7 +72,7 @@ module _ {A : Type 0} (p : List ℕ → Option A) where
     unfolding atMost
     walk-many m g w h = let c = w .counts in let q : m < length fs = omega arith in go (each p fs) (lt-leb (length fs) m q)
       where
-        go : (o : Option (List A)) → leb (length fs) m ≡ false → none ≡ bind o (λ ys. when (leb (length fs) m) ys)
+        go : (o : Option (List A)) → leb (length fs) m ≡ false → none ≡ chain o (λ ys. guarded (leb (length fs) m) ys)
         go none e = refl
         go (some ys) e = simp e
 

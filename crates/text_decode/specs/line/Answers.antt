@@ -6,7 +6,7 @@ use mathlib.Core.Option.{Option}
 use mathlib.Core.List.{List, [], _∷_}
 use lib.ListN.{length, take}
 use lib.Seq.{sets}
-use Rattle.syntax.specs.Partial.{when}
+use Rattle.syntax.specs.Partial.{guarded}
 use Rattle.syntax.specs.Syntax.{Operand, Entry}
 use Rattle.text.specs.Grammar.{forms, operand}
 use Rattle.tables.specs.Tables.{span, OperandTable, operandsAt}
@@ -24,11 +24,11 @@ use Rattle.text_decode.specs.declared.line.Said.{Said}
 
 -- a field read, and the fields behind it
 abbrev pub slotOf : List ℕ → Slot → Option (ℕ × List (List ℕ))
-slotOf line r = when (r .ok) (r .value, fieldsFrom line (r .next + 1))
+slotOf line r = guarded (r .ok) (r .value, fieldsFrom line (r .next + 1))
 
 -- several fields read, and the fields behind them
 abbrev pub slotsOf : List ℕ → Slots → Option (List ℕ × List (List ℕ))
-slotsOf line r = when (r .ok) (r .a ∷ r .b ∷ r .c ∷ r .d ∷ [], fieldsFrom line (r .next + 1))
+slotsOf line r = guarded (r .ok) (r .a ∷ r .b ∷ r .c ∷ r .d ∷ [], fieldsFrom line (r .next + 1))
 
 -- no field, at the stop `at`
 abbrev pub noSlot : ℕ → Slot
@@ -52,7 +52,7 @@ AtEnd s ok next = ok ≡ true → next ≡ length (lineIn s)
 pub record PartsRead (fs : List (List ℕ)) (known : Bool) (most p : ℕ) (before after : List ℕ) (r : Count) : Type 0 where
   pub kept : take p after ≡ take p before
   pub few : r .count ≤ most
-  pub says : when (r .ok) (span after p (r .count)) ≡ atMost most (partNumber known) fs
+  pub says : guarded (r .ok) (span after p (r .count)) ≡ atMost most (partNumber known) fs
 
 -- the first m operands of two tables are the same, and the first k arguments
 pub record SameOperands (m k : ℕ) (ω ρ : OperandTable) : Type 0 where
@@ -84,7 +84,7 @@ pub record OperandRoom (n k operands numbers args : ℕ) : Type 0 where
 pub record OperandsRead (fs : List (List ℕ)) (most v a : ℕ) (before after : OperandTable) (r : Count) : Type 0 where
   pub kept : SameOperands v a after before
   pub few : r .count ≤ most
-  pub says : (ω : OperandTable) → SameOperands (v + r .count) (a + r .args) ω after → when (r .ok) (operandsAt ω v (r .count)) ≡ atMost most operand fs
+  pub says : (ω : OperandTable) → SameOperands (v + r .count) (a + r .args) ω after → guarded (r .ok) (operandsAt ω v (r .count)) ≡ atMost most operand fs
 
 -- m arguments stand in the first line of s: each takes two of its bytes, a mark and a digit
 abbrev pub Carried : List ℕ → ℕ → Type 0
@@ -97,7 +97,7 @@ noEntry = record { ok = false; a = 0; b = 0; c = 0; d = 0; count = 0; args = 0; 
 
 -- the entry of the form at place `code`
 abbrev pub saidBy : ℕ → Said → List ℕ → List Operand → Option Entry
-saidBy code s parts vs = when (s .ok) (entryWith code (s .a) (s .b) (s .c) (s .d) parts vs)
+saidBy code s parts vs = guarded (s .ok) (entryWith code (s .a) (s .b) (s .c) (s .d) parts vs)
 
 -- the form at place `code` is neither U nor C, whose fields are rows and registers
 pub record PlainForm (code : ℕ) : Type 0 where

@@ -5,7 +5,7 @@ use mathlib.Core.Option.{Option, none, some}
 use mathlib.Core.List.{List, [], _∷_}
 use lib.Dec.{eqb, leb}
 use lib.ListN.{length, drop}
-use Rattle.syntax.specs.Partial.{bind, when}
+use Rattle.syntax.specs.Partial.{chain, guarded}
 use Rattle.text.specs.Bytes.{fieldsOf}
 use Rattle.text.specs.Grammar.{each, rowNumber, index, amount, register, known}
 
@@ -26,17 +26,17 @@ mostOf k = cond (eqb k 2) 511 (cond (eqb k 3) 63 64)
 unfoldable pub readSlot : ℕ → List (List ℕ) → Option (ℕ × List (List ℕ))
 readSlot zero fs = some (0, fs)
 readSlot (suc k) [] = none
-readSlot (suc k) (f ∷ fs) = bind (plainField (suc k) f) (λ n. some (n, fs))
+readSlot (suc k) (f ∷ fs) = chain (plainField (suc k) f) (λ n. some (n, fs))
 
 -- the numbers of fields of these kinds, one after the other, and the fields behind them
 unfoldable pub readSlots : List ℕ → List (List ℕ) → Option (List ℕ × List (List ℕ))
 readSlots [] fs = some ([], fs)
-readSlots (k ∷ ks) fs = bind (readSlot k fs) (λ r. bind (readSlots ks (r .1)) (λ q. some (r .0 ∷ q .0, q .1)))
+readSlots (k ∷ ks) fs = chain (readSlot k fs) (λ r. chain (readSlots ks (r .1)) (λ q. some (r .0 ∷ q .0, q .1)))
 
 -- ---- all the fields that are left
 -- if there are at most n
 unfoldable pub atMost : {A : Type 0} → ℕ → (List ℕ → Option A) → List (List ℕ) → Option (List A)
-atMost n p fs = bind (each p fs) (λ xs. when (leb (length fs) n) xs)
+atMost n p fs = chain (each p fs) (λ xs. guarded (leb (length fs) n) xs)
 
 -- a register's row as a table keeps it
 abbrev pub keptAs : Option ℕ → ℕ
@@ -46,4 +46,4 @@ keptAs (some t) = suc t
 -- a component's row, or a register's as a table keeps it
 unfoldable pub partNumber : Bool → List ℕ → Option ℕ
 partNumber false f = rowNumber f
-partNumber true f = bind (known f) (λ o. some (keptAs o))
+partNumber true f = chain (known f) (λ o. some (keptAs o))

@@ -12,7 +12,7 @@ use lib.Dec.{eqb, leb}
 use lib.ListN.{length, getD, take, drop, drop-of-length-le, length-map}
 use lib.Seq.{drop-cons, take-suc}
 use borrow.Author.Tests.{eq-eqb, ne-eqb, le-leb, lt-leb}
-use Rattle.syntax.specs.Partial.{bind, when}
+use Rattle.syntax.specs.Partial.{chain, guarded}
 use Rattle.syntax.specs.Syntax.{Kind, value, stack}
 use Rattle.text.specs.Bytes.{bytes, sameBytes}
 use Rattle.text.specs.Grammar.{letter, eachLetter, letters}
@@ -155,12 +155,12 @@ map-reverse g (x ∷ l) r = map-reverse g l (x ∷ r)
 abbrev sized : List Kind → Bool
 sized q = leb 1 (length q) && leb (length q) 8
 
-count-when : (t : Bool) (q : List Kind) → when t (length q) ≡ countOf (when t q)
+count-when : (t : Bool) (q : List Kind) → guarded t (length q) ≡ countOf (guarded t q)
 unfolding countOf
 count-when true q = refl
 count-when false q = refl
 
-count-bind : (o : Option (List Kind)) → bind o (λ q. when (sized q) (length q)) ≡ countOf (bind o (λ q. when (sized q) q))
+count-bind : (o : Option (List Kind)) → chain o (λ q. guarded (sized q) (length q)) ≡ countOf (chain o (λ q. guarded (sized q) q))
 unfolding countOf
 count-bind none = refl
 count-bind (some q) = count-when (sized q) q
@@ -170,7 +170,7 @@ unfolding countOf codesOf
 no-codes none e = refl
 no-codes (some q) e = absurd (Option·none-ne-some (length q) (sym e))
 
-some-codes : (t : Bool) (q : List Kind) (n : ℕ) → countOf (when t q) ≡ some n → codesOf (when t q) ≡ map kindCode (reverse q)
+some-codes : (t : Bool) (q : List Kind) (n : ℕ) → countOf (guarded t q) ≡ some n → codesOf (guarded t q) ≡ map kindCode (reverse q)
 unfolding countOf codesOf
 some-codes true q n e = refl
 some-codes false q n e = absurd (Option·none-ne-some n e)
@@ -189,7 +189,7 @@ module _ (f : List ℕ) where
   dash-codes e = sym (ap codesOf (letters-dash e))
 
   module _ (d : sameBytes f (bytes "-") ≡ false) where
-    letters-word : letters f ≡ bind (eachLetter f) (λ q. when (sized q) q)
+    letters-word : letters f ≡ chain (eachLetter f) (λ q. guarded (sized q) q)
     unfolding letters
     letters-word = simp d
 
@@ -208,7 +208,7 @@ module _ (f : List ℕ) where
         go true p =
             let g = all-good f p in
             let q : List Kind = map kindOf f in
-            let w : letters f ≡ when (sized q) q = letters-word ∙ ap (λ (o : Option (List Kind)). bind o (λ x. when (sized x) x)) (g .0) in
+            let w : letters f ≡ guarded (sized q) q = letters-word ∙ ap (λ (o : Option (List Kind)). chain o (λ x. guarded (sized x) x)) (g .0) in
             map-reverse letterCode f []
             ∙ ap reverse (sym (g .1))
             ∙ sym (map-reverse kindCode q [])

@@ -13,7 +13,7 @@ use lib.ListN.{length, getD, take, drop, drop-of-length-le, length-drop}
 use lib.Seq.{drop-cons, take-all}
 use borrow.Author.Tests.{eq-eqb, ne-eqb, le-leb, lt-leb, leb-true, leb-false, le-ltb}
 use Rattle.syntax.specs.Bits.{modulus, half}
-use Rattle.syntax.specs.Partial.{bind, when}
+use Rattle.syntax.specs.Partial.{chain, guarded}
 use Rattle.text.specs.Bytes.{isDigit, allDigits, isDecimal, spelled, number, literal}
 use Rattle.text.specs.Grammar.{rowNumber, register}
 use Rattle.text_fields.specs.numbers.Numbers.{numberOf, digitOf, upTo, zeroLed}
@@ -110,11 +110,11 @@ module _ (high n : ℕ) (s : List ℕ) (i : ℕ) where
 
 -- ---- a number
 -- its digits, with the bounds taken one after the other
-bounds : (low high v : ℕ) (d : Bool) → when (d && (leb low v && leb v high)) v ≡ bind (when (d && leb v high) v) (λ x. when (leb low x) x)
+bounds : (low high v : ℕ) (d : Bool) → guarded (d && (leb low v && leb v high)) v ≡ chain (guarded (d && leb v high) v) (λ x. guarded (leb low x) x)
 bounds low high v false = refl
 bounds low high v true = go (leb v high)
   where
-    go : (h : Bool) → when (leb low v && h) v ≡ bind (when h v) (λ x. when (leb low x) x)
+    go : (h : Bool) → guarded (leb low v && h) v ≡ chain (guarded h v) (λ x. guarded (leb low x) x)
     go true = simp and-true
     go false = simp and-false
 
@@ -130,7 +130,7 @@ module _ (low high : ℕ) where
   number-led (b ∷ []) e = absurd (false≢true e)
   number-led (b ∷ c ∷ s) e = simp e
 
-  pub number-is : (s : List ℕ) → (length s ≡ 0 → ⊥) → zeroLed s ≡ false → bind (upTo high 0 s) (λ v. when (leb low v) v) ≡ number low high s
+  pub number-is : (s : List ℕ) → (length s ≡ 0 → ⊥) → zeroLed s ≡ false → chain (upTo high 0 s) (λ v. guarded (leb low v) v) ≡ number low high s
   unfolding number isDecimal zeroLed upTo allDigits
   number-is [] h e = absurd (h refl)
   number-is (b ∷ []) h e = simp (and-true (isDigit b)) (sym (bounds low high (spelled 0 (b ∷ [])) (isDigit b)))
@@ -140,7 +140,7 @@ module _ (low high : ℕ) where
   unfolding number
   number-bounds s v h = go (isDecimal s) (leb low (spelled 0 s)) (leb (spelled 0 s) high) refl refl h
     where
-      go : (d l u : Bool) → leb low (spelled 0 s) ≡ l → leb (spelled 0 s) high ≡ u → when (d && (l && u)) (spelled 0 s) ≡ some v → (low ≤ v) × (v ≤ high)
+      go : (d l u : Bool) → leb low (spelled 0 s) ≡ l → leb (spelled 0 s) high ≡ u → guarded (d && (l && u)) (spelled 0 s) ≡ some v → (low ≤ v) × (v ≤ high)
       go false l u p q e = absurd (Option·none-ne-some v e)
       go true false u p q e = absurd (Option·none-ne-some v e)
       go true true false p q e = absurd (Option·none-ne-some v e)
@@ -169,11 +169,11 @@ literal-none [] e = refl
 literal-none (b ∷ s) e = absurd (omega arith)
 
 -- a number from 1 on has a sign to change
-changes : (s : List ℕ) (o : Option ℕ) → number 1 half s ≡ o → bind o (λ v. when (leb 1 v) (modulus - v)) ≡ bind o (λ n. some (modulus - n))
+changes : (s : List ℕ) (o : Option ℕ) → number 1 half s ≡ o → chain o (λ v. guarded (leb 1 v) (modulus - v)) ≡ chain o (λ n. some (modulus - n))
 changes s none e = refl
 changes s (some v) e = simp (le-leb 1 v (number-bounds 1 half s v e .0))
 
-pub literal-minus : (s : List ℕ) → (length s ≡ 0 → ⊥) → getD s 0 0 ≡ 45 → bind (number 1 half (drop 1 s)) (λ v. when (leb 1 v) (modulus - v)) ≡ literal s
+pub literal-minus : (s : List ℕ) → (length s ≡ 0 → ⊥) → getD s 0 0 ≡ 45 → chain (number 1 half (drop 1 s)) (λ v. guarded (leb 1 v) (modulus - v)) ≡ literal s
 unfolding literal
 literal-minus [] h e = absurd (h refl)
 literal-minus (b ∷ s) h e = changes s (number 1 half s) refl ∙ simp (eq-eqb b 45 e)
@@ -188,7 +188,7 @@ unfolding register
 register-none [] e = refl
 register-none (b ∷ s) e = absurd (omega arith)
 
-pub register-is : (s : List ℕ) → (length s ≡ 0 → ⊥) → getD s 0 0 ≡ 114 → bind (number 1 8 (drop 1 s)) (λ v. some (v - 1)) ≡ register s
+pub register-is : (s : List ℕ) → (length s ≡ 0 → ⊥) → getD s 0 0 ≡ 114 → chain (number 1 8 (drop 1 s)) (λ v. some (v - 1)) ≡ register s
 unfolding register
 register-is [] h e = absurd (h refl)
 register-is (b ∷ s) h e = simp (eq-eqb b 114 e)
@@ -205,8 +205,8 @@ part-from s a =
     take-all (length s - a) (drop a s) q
 
 -- ---- an answer that is known at its variant
-pub with-value : (f : ℕ → Option ℕ) (n : Number) (v : ℕ) (o : Option ℕ) → n ≡ Value v → o ≡ f v → o ≡ bind (numberOf n) f
-with-value f n v o e h = h ∙ ap (λ (m : Number). bind (numberOf m) f) (sym e)
+pub with-value : (f : ℕ → Option ℕ) (n : Number) (v : ℕ) (o : Option ℕ) → n ≡ Value v → o ≡ f v → o ≡ chain (numberOf n) f
+with-value f n v o e h = h ∙ ap (λ (m : Number). chain (numberOf m) f) (sym e)
 
 -- for callers: what a match on an answer tells of the field
 pub value-is : {n : Number} {v : ℕ} {o : Option ℕ} → numberOf n ≡ o → n ≡ Value v → o ≡ some v
@@ -225,13 +225,13 @@ unfolding register
 register-small [] n e = absurd (Option·none-ne-some n e)
 register-small (b ∷ s) n e = go (eqb b 114) e
   where
-    last : (o : Option ℕ) → number 1 8 s ≡ o → bind o (λ v. some (v - 1)) ≡ some n → n ≤ 7
+    last : (o : Option ℕ) → number 1 8 s ≡ o → chain o (λ v. some (v - 1)) ≡ some n → n ≤ 7
     last none q h = absurd (Option·none-ne-some n h)
     last (some v) q h =
         let u = number-bounds 1 8 s v q .1 in
         let w = Option·some-injective (v - 1) n h in
         omega arith
 
-    go : (t : Bool) → bind (when t s) (λ x. bind (number 1 8 x) (λ v. some (v - 1))) ≡ some n → n ≤ 7
+    go : (t : Bool) → chain (guarded t s) (λ x. chain (number 1 8 x) (λ v. some (v - 1))) ≡ some n → n ≤ 7
     go true h = last (number 1 8 s) refl h
     go false h = absurd (Option·none-ne-some n h)

@@ -9,7 +9,7 @@ use native.Mathlib.Omega.{arith}
 use lib.Dec.{eqb, leb, ltb}
 use lib.ListN.{length, getD, drop}
 use borrow.Author.Tests.{le-leb, lt-leb, ltb-true, ltb-false, eqb-true, eqb-false}
-use Rattle.syntax.specs.Partial.{bind, when}
+use Rattle.syntax.specs.Partial.{chain, guarded}
 use Rattle.text.specs.Bytes.{allDigits, spelled, number}
 use Rattle.text.specs.Grammar.{register}
 use Rattle.text_lines.specs.Parts.{fieldIn, InLine}
@@ -120,26 +120,26 @@ module _ (low high : ℕ) (f : List ℕ) where
       go : (a b : Bool) → eqb (length f) 0 ≡ a → zeroLed f ≡ b → number low high f ≡ none
       go true b p q = sym (number-none low high f (eqb-true (length f) 0 p))
       go false true p q = sym (number-led low high f q)
-      go false false p q = sym (number-is low high f (eqb-false (length f) 0 p) q) ∙ ap (λ (o : Option ℕ). bind o (λ v. when (leb low v) v)) h
+      go false false p q = sym (number-is low high f (eqb-false (length f) 0 p) q) ∙ ap (λ (o : Option ℕ). chain o (λ v. guarded (leb low v) v)) h
 
   module _ (v : ℕ) (h : upTo high 0 f ≡ some v) (n : length f ≡ 0 → ⊥) (z : zeroLed f ≡ false) where
-    whole : when (leb low v) v ≡ number low high f
-    whole = sym (ap (λ (o : Option ℕ). bind o (λ v. when (leb low v) v)) h) ∙ number-is low high f n z
+    whole : guarded (leb low v) v ≡ number low high f
+    whole = sym (ap (λ (o : Option ℕ). chain o (λ v. guarded (leb low v) v)) h) ∙ number-is low high f n z
 
     pub number-here : low ≤ v → number low high f ≡ some v
-    number-here k = sym whole ∙ ap (λ (t : Bool). when t v) (le-leb low v k)
+    number-here k = sym whole ∙ ap (λ (t : Bool). guarded t v) (le-leb low v k)
 
     pub number-low : v < low → number low high f ≡ none
-    number-low k = sym whole ∙ ap (λ (t : Bool). when t v) (lt-leb low v k)
+    number-low k = sym whole ∙ ap (λ (t : Bool). guarded t v) (lt-leb low v k)
 
 -- what was read of a field, and what that says of its number
 module _ (s : List ℕ) (at low high : ℕ) (p : InLine s at) (x : Scan) (g : ScanIs s at (upTo high 0 (fieldIn s at)) x) where
   pub at-bad : x .ok ≡ false → number low high (fieldIn s at) ≡ none
-  at-bad e = number-bad low high (fieldIn s at) (sym (g .says) ∙ ap (λ (t : Bool). when t (x .value)) e)
+  at-bad e = number-bad low high (fieldIn s at) (sym (g .says) ∙ ap (λ (t : Bool). guarded t (x .value)) e)
 
   module _ (t : x .ok ≡ true) where
     value-there : upTo high 0 (fieldIn s at) ≡ some (x .value)
-    value-there = sym (g .says) ∙ ap (λ (t : Bool). when t (x .value)) t
+    value-there = sym (g .says) ∙ ap (λ (t : Bool). guarded t (x .value)) t
 
     pub at-empty : x .next ≡ at → number low high (fieldIn s at) ≡ none
     at-empty e = sym (number-none low high (fieldIn s at) (let q = g .ends t in omega arith))
@@ -164,7 +164,7 @@ module _ (s : List ℕ) (at low high : ℕ) (p : InLine s at) (x : Scan) (g : Sc
         at-low k = number-low low high (fieldIn s at) (x .value) value-there some-bytes (led-at l h ∙ w) k
 
         pub at-number : low ≤ x .value → ScanIs s at (number low high (fieldIn s at)) x
-        at-number k = record { says = ap (λ (t : Bool). when t (x .value)) t ∙ sym (number-here low high (fieldIn s at) (x .value) value-there some-bytes (led-at l h ∙ w) k); ends = g .ends }
+        at-number k = record { says = ap (λ (t : Bool). guarded t (x .value)) t ∙ sym (number-here low high (fieldIn s at) (x .value) value-there some-bytes (led-at l h ∙ w) k); ends = g .ends }
 
 -- ---- registers
 module _ (s : List ℕ) (at : ℕ) (p : InLine s at) where
@@ -184,22 +184,22 @@ module _ (s : List ℕ) (at : ℕ) (p : InLine s at) where
     r-field : fieldIn s at ≡ getD s at 0 ∷ fieldIn s (at + 1)
     r-field = field-on s at p (λ q. omega arith) (λ q. omega arith)
 
-    r-number : register (fieldIn s at) ≡ bind (number 1 8 (fieldIn s (at + 1))) (λ v. some (v - 1))
+    r-number : register (fieldIn s at) ≡ chain (number 1 8 (fieldIn s (at + 1))) (λ v. some (v - 1))
     r-number =
         let n : length (fieldIn s at) ≡ 0 → ⊥ = (λ q. let w = ap length r-field in omega arith) in
         let f : getD (fieldIn s at) 0 0 ≡ 114 = field-first s at p n ∙ e in
-        sym (register-is (fieldIn s at) n f) ∙ ap (λ (l : List ℕ). bind (number 1 8 (drop 1 l)) (λ v. some (v - 1))) r-field
+        sym (register-is (fieldIn s at) n f) ∙ ap (λ (l : List ℕ). chain (number 1 8 (drop 1 l)) (λ v. some (v - 1))) r-field
 
     module _ (x : Scan) (g : ScanIs s (at + 1) (number 1 8 (fieldIn s (at + 1))) x) where
       pub r-bad : x .ok ≡ false → register (fieldIn s at) ≡ none
-      r-bad t = r-number ∙ ap (λ (o : Option ℕ). bind o (λ v. some (v - 1))) (sym (g .says) ∙ ap (λ (b : Bool). when b (x .value)) t)
+      r-bad t = r-number ∙ ap (λ (o : Option ℕ). chain o (λ v. some (v - 1))) (sym (g .says) ∙ ap (λ (b : Bool). guarded b (x .value)) t)
 
       module _ (t : x .ok ≡ true) where
         r-there : number 1 8 (fieldIn s (at + 1)) ≡ some (x .value)
-        r-there = sym (g .says) ∙ ap (λ (b : Bool). when b (x .value)) t
+        r-there = sym (g .says) ∙ ap (λ (b : Bool). guarded b (x .value)) t
 
         pub r-low : 1 ≤ x .value
         r-low = number-bounds 1 8 (fieldIn s (at + 1)) (x .value) r-there .0
 
         pub r-is : ScanIs s at (register (fieldIn s at)) (record { ok = true; value = x .value - 1; next = x .next })
-        r-is = scan-some s at (register (fieldIn s at)) (x .value - 1) (x .next) (r-number ∙ ap (λ (o : Option ℕ). bind o (λ v. some (v - 1))) r-there) (let q = g .ends t in let w = ap length r-field in omega arith)
+        r-is = scan-some s at (register (fieldIn s at)) (x .value - 1) (x .next) (r-number ∙ ap (λ (o : Option ℕ). chain o (λ v. some (v - 1))) r-there) (let q = g .ends t in let w = ap length r-field in omega arith)

@@ -7,7 +7,7 @@ use Prim.Native.Nat.{ℕ, _-_, _≤_}
 use native.Mathlib.Omega.{arith}
 use lib.Dec.{eqb, leb}
 use borrow.Author.Tests.{ne-eqb, eqb-true, leb-true}
-use Rattle.syntax.specs.Partial.{bind, when}
+use Rattle.syntax.specs.Partial.{chain, guarded}
 use Rattle.syntax.specs.Syntax.{lit, plain}
 use Rattle.text.specs.Bytes.{part, split, isDigit, allDigits, isDecimal, spelled, number, literal}
 use Rattle.syntax.specs.Bits.{modulus, half}
@@ -50,7 +50,7 @@ number-digits low high s n e = decimal-digits s (go (isDecimal s) refl)
   where
     go : (b : Bool) → isDecimal s ≡ b → isDecimal s ≡ true
     go true q = q
-    go false q = absurd (Option·none-ne-some n (sym (ap (λ (x : Bool). when (x && (leb low (spelled 0 s) && leb (spelled 0 s) high)) (spelled 0 s)) q) ∙ e))
+    go false q = absurd (Option·none-ne-some n (sym (ap (λ (x : Bool). guarded (x && (leb low (spelled 0 s) && leb (spelled 0 s) high)) (spelled 0 s)) q) ∙ e))
 
 -- a field of one part whose first byte is neither `#` nor r
 no-carrier-at : (b : ℕ) (s : List ℕ) → eqb b 35 ≡ false → eqb b 114 ≡ false → carrier (b ∷ s) ≡ none
@@ -84,7 +84,7 @@ minus-digits : (s : List ℕ) (n : ℕ) → literal (45 ∷ s) ≡ some n → al
 unfolding literal
 minus-digits s n q = sub (number 1 half s) refl q
   where
-    sub : (o : Option ℕ) → number 1 half s ≡ o → bind o (λ m. some (modulus - m)) ≡ some n → allDigits s ≡ true
+    sub : (o : Option ℕ) → number 1 half s ≡ o → chain o (λ m. some (modulus - m)) ≡ some n → allDigits s ≡ true
     sub none g h = absurd (Option·none-ne-some n h)
     sub (some m) g h = number-digits 1 half s m g
 

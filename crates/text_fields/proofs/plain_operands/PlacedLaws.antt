@@ -12,7 +12,7 @@ use lib.ListN.{length, getD}
 use lib.Seq.{sets}
 use borrow.Author.Tests.{eq-eqb, ne-eqb, eqb-true, eqb-false, le-leb}
 use Rattle.syntax.specs.Bits.{modulus, half}
-use Rattle.syntax.specs.Partial.{when}
+use Rattle.syntax.specs.Partial.{guarded}
 use Rattle.syntax.specs.Syntax.{Base, reg, lit, lab, Operand, plain}
 use Rattle.text.specs.Bytes.{part, split, isDecimal, spelled, number, literal}
 use Rattle.text.specs.Grammar.{register, carrier, fromParts, operand}
@@ -201,7 +201,7 @@ number-within : (low high top : ℕ) (s : List ℕ) (v : ℕ) → number low hig
 unfolding number
 number-within low high top s v e h = go (isDecimal s) (leb low (spelled 0 s)) (leb (spelled 0 s) high) refl refl e
   where
-    go : (d l u : Bool) → isDecimal s ≡ d → leb low (spelled 0 s) ≡ l → when (d && (l && u)) (spelled 0 s) ≡ some v → number low top s ≡ some v
+    go : (d l u : Bool) → isDecimal s ≡ d → leb low (spelled 0 s) ≡ l → guarded (d && (l && u)) (spelled 0 s) ≡ some v → number low top s ≡ some v
     go false l u p q w = absurd (Option·none-ne-some v w)
     go true false u p q w = absurd (Option·none-ne-some v w)
     go true true false p q w = absurd (Option·none-ne-some v w)
@@ -279,7 +279,7 @@ module _ (s : List ℕ) (at : ℕ) (p : InLine s at) where
 module _ (s : List ℕ) (at : ℕ) (p : InLine s at) (x : Scan) (g : ScanIs s (at + skipOf (getD s at 0)) (number (lowOf (getD s at 0)) (highOf (getD s at 0)) (fieldIn s (at + skipOf (getD s at 0)))) x) where
   module _ (t : x .ok ≡ true) where
     scanned : number (lowOf (getD s at 0)) (highOf (getD s at 0)) (fieldIn s (at + skipOf (getD s at 0))) ≡ some (x .value)
-    scanned = sym (g .says) ∙ ap (λ (b : Bool). when b (x .value)) t
+    scanned = sym (g .says) ∙ ap (λ (b : Bool). guarded b (x .value)) t
 
     pub scan-low : lowOf (getD s at 0) ≤ x .value
     scan-low = value-low s at p (x .value) scanned

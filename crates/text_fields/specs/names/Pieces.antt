@@ -6,7 +6,7 @@ use mathlib.Core.Option.{Option}
 use mathlib.Core.List.{List, [], _∷_}
 use lib.Dec.{eqb, leb}
 use lib.ListN.{length}
-use Rattle.syntax.specs.Partial.{bind, when}
+use Rattle.syntax.specs.Partial.{chain, guarded}
 use Rattle.text.specs.Bytes.{bytes}
 use Rattle.text.specs.Grammar.{Named, eachLetter}
 
@@ -38,4 +38,4 @@ allLetters (b ∷ s) = cond (eqb (letterCode b) 2) false (allLetters s)
 
 -- the number of letters of a field that is not `-`
 unfoldable pub wordCount : List ℕ → Option ℕ
-wordCount f = bind (eachLetter f) (λ q. when (leb 1 (length q) && leb (length q) 8) (length q))
+wordCount f = chain (eachLetter f) (λ q. guarded (leb 1 (length q) && leb (length q) 8) (length q))

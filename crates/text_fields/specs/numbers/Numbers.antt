@@ -7,7 +7,7 @@ use mathlib.Core.Option.{Option, none, some}
 use mathlib.Core.List.{List, [], _∷_}
 use lib.Dec.{eqb, leb}
 use lib.ListN.{length}
-use Rattle.syntax.specs.Partial.{when}
+use Rattle.syntax.specs.Partial.{guarded}
 use Rattle.text.specs.Bytes.{isDigit, allDigits, spelled}
 use Rattle.text_lines.specs.Parts.{fieldIn}
 use Rattle.text_fields.specs.declared.numbers.Scan.{Scan}
@@ -26,7 +26,7 @@ digitOf b = cond (isDigit b) (b - code "0") 10
 
 -- the number that digits spell after those that spell n, if it is at most high
 unfoldable pub upTo : ℕ → ℕ → List ℕ → Option ℕ
-upTo high n s = when (allDigits s && leb (spelled n s) high) (spelled n s)
+upTo high n s = guarded (allDigits s && leb (spelled n s) high) (spelled n s)
 
 -- of several bytes the first is a zero
 unfoldable pub zeroLed : List ℕ → Bool
@@ -46,5 +46,5 @@ noScan at = record { ok = false; value = 0; next = at }
 
 -- r says o, and where the field at `at` ends if o is a number
 pub record ScanIs (s : List ℕ) (at : ℕ) (o : Option ℕ) (r : Scan) : Type 0 where
-  pub says : when (r .ok) (r .value) ≡ o
+  pub says : guarded (r .ok) (r .value) ≡ o
   pub ends : r .ok ≡ true → r .next ≡ at + length (fieldIn s at)

@@ -10,7 +10,7 @@ use lib.ListN.{length, getD, take}
 use borrow.Author.Tests.{le-leb, lt-leb, ltb-true}
 use types.Run.{OneOf, miss}
 use denote.Enum.Declared.{tagOf}
-use Rattle.syntax.specs.Partial.{when}
+use Rattle.syntax.specs.Partial.{guarded}
 use Rattle.syntax.specs.Syntax.{Kind, value, stack}
 use Rattle.types.specs.Types.{Ty, int, junk, var, tuple, pointer, code, variable, below, Act, walk, Arg, place, filling, fill, meets, filled, aStack, Wf}
 use Rattle.types.specs.Equal.{same, sameLetters}
@@ -53,7 +53,7 @@ unfolding fill
 fill-walk A d t = ap (λ (f : Act). walk f d t) (sym (acting-fills A))
 
 -- ---- the filled type against another
-full-is : (u t : Ty value) (b : Bool) → isFull u (when b t) ≡ same t u && b
+full-is : (u t : Ty value) (b : Bool) → isFull u (guarded b t) ≡ same t u && b
 unfolding isFull
 full-is u t true = same-sym u t ∙ sym (and-true (same t u))
 full-is u t false = sym (and-false (same t u))

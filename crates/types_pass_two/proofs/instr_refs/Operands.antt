@@ -157,10 +157,10 @@ module _ (ι : List ℕ) (ω : OperandTable) (j : ℕ) where
   abbrev code : ℕ → ℕ
   code k = min k 22
 
-  given-at : names (instrAt ι ω j) .given ≡ cond (eqb (givenPlace (code (cell 8 ι j 0))) 0) [] (cell 8 ι j (givenPlace (code (cell 8 ι j 0))) ∷ [])
+  given-at : names (instrAt ι ω j) .valueRows ≡ cond (eqb (givenPlace (code (cell 8 ι j 0))) 0) [] (cell 8 ι j (givenPlace (code (cell 8 ι j 0))) ∷ [])
   unfolding instrAt names
   given-at =
-      instr-cases (λ k x. names x .given ≡ cond (eqb (givenPlace (code k)) 0) [] (cell 8 ι j (givenPlace (code k)) ∷ [])) ω (cell 8 ι j 1) (cell 8 ι j 2) (cell 8 ι j 3) (cell 8 ι j 4) (cell 8 ι j 5) (cell 8 ι j 6)
+      instr-cases (λ k x. names x .valueRows ≡ cond (eqb (givenPlace (code k)) 0) [] (cell 8 ι j (givenPlace (code k)) ∷ [])) ω (cell 8 ι j 1) (cell 8 ι j 2) (cell 8 ι j 3) (cell 8 ι j 4) (cell 8 ι j 5) (cell 8 ι j 6)
       (tt & refl & refl & refl & refl & refl & refl & refl & refl & refl & refl & refl & refl & refl & refl & refl & refl & refl & refl & refl & refl & refl & refl)
       (λ k l. let e : min k 22 ≡ 22 = omega arith in rw e refl)
       (cell 8 ι j 0)
@@ -173,12 +173,12 @@ module _ (ι : List ℕ) (ω : OperandTable) (j : ℕ) where
       (λ k l. let e : min k 22 ≡ 22 = omega arith in rw e refl)
       (cell 8 ι j 0)
 
-  given-none : (k g : ℕ) → k ≡ code (cell 8 ι j 0) → g ≡ givenPlace k → g ≡ 0 → names (instrAt ι ω j) .given ≡ []
+  given-none : (k g : ℕ) → k ≡ code (cell 8 ι j 0) → g ≡ givenPlace k → g ≡ 0 → names (instrAt ι ω j) .valueRows ≡ []
   given-none k g ek eg z =
       let q : eqb (givenPlace (code (cell 8 ι j 0))) 0 ≡ true = eq-eqb _ 0 (ap givenPlace (sym ek) ∙ (sym eg ∙ z)) in
       given-at ∙ ap (λ (b : Bool). cond b [] (cell 8 ι j (givenPlace (code (cell 8 ι j 0))) ∷ [])) q
 
-  given-some : (k g t : ℕ) → k ≡ code (cell 8 ι j 0) → g ≡ givenPlace k → (g ≡ 0 → ⊥) → t ≡ cell 8 ι j g → names (instrAt ι ω j) .given ≡ t ∷ []
+  given-some : (k g t : ℕ) → k ≡ code (cell 8 ι j 0) → g ≡ givenPlace k → (g ≡ 0 → ⊥) → t ≡ cell 8 ι j g → names (instrAt ι ω j) .valueRows ≡ t ∷ []
   given-some k g t ek eg z et =
       let e : g ≡ givenPlace (code (cell 8 ι j 0)) = eg ∙ ap givenPlace ek in
       let q : eqb (givenPlace (code (cell 8 ι j 0))) 0 ≡ false = ne-eqb _ 0 (λ w. z (e ∙ w)) in
@@ -189,11 +189,11 @@ module _ (ι : List ℕ) (ω : OperandTable) (j : ℕ) where
 
 -- the least fault of an instruction is that of its row t and of its operands
 module _ (rs ps : List ℕ) (n nb : ℕ) where
-  instr-least : (x : Instr) → leastOf (entryFaults (rowsIn (tab rs ps) n) nb (instr x)) ≡ least (refsLeast rs n (map (ref valueRow) (names x .given))) (operandsLeast rs n nb (names x .operands))
+  instr-least : (x : Instr) → leastOf (entryFaults (rowsIn (tab rs ps) n) nb (instr x)) ≡ least (refsLeast rs n (map (ref valueRow) (names x .valueRows))) (operandsLeast rs n nb (names x .operands))
   unfolding entryFaults operandsLeast
   instr-least x =
       let a = allBelow nb (labels (names x .operands)) in
-      let gs = map (ref valueRow) (names x .given) in
+      let gs = map (ref valueRow) (names x .valueRows) in
       let vs = operandsRefs (names x .operands) in
       least-append (given (not a) 4) (refsFaults (rowsIn (tab rs ps) n) (gs ++ vs)) (numbered-given (not a) 3) (numbered-refs (rowsIn (tab rs ps) n) (gs ++ vs))
       ∙ (ap₂ least (least-given (not a) 4 ∙ unless a) (refs-least (tab rs ps) n (gs ++ vs) ∙ refs-append rs n gs vs)

@@ -35,7 +35,7 @@ plain-entry rows nb (row r) = record { numbered = λ e. refl; no-items = refl }
 plain-entry rows nb (block c) = plain-refs rows _
 plain-entry rows nb (instr x) =
     let a = given (not (allBelow nb (labels (names x .operands)))) 4 in
-    let b = refsFaults rows (map (ref valueRow) (names x .given) ++ operandsRefs (names x .operands)) in
+    let b = refsFaults rows (map (ref valueRow) (names x .valueRows) ++ operandsRefs (names x .operands)) in
     record { numbered = numbered-append a b (numbered-given _ 3) (numbered-refs rows _); no-items = items-append a b ∙ rw (items-given, items-refs) refl }
 
 abbrev AllPlain : Pass → Type 0

@@ -11,7 +11,7 @@ use mathlib.Core.List.{List, [], _∷_, map}
 use lib.Dec.{eqb, leb, ltb, lit<}
 use lib.ListN.{length}
 use borrow.Author.Tests.{leb-true, eqb-true, eqb-false, ltb-true, ltb-false}
-use Rattle.syntax.specs.Partial.{bind, when}
+use Rattle.syntax.specs.Partial.{chain, guarded}
 use Rattle.syntax.specs.Syntax.{Kind, Row, rowI, rowN, rowE, rowV, rowX, rowP, rowK, rowA, rowC, Base, Operand, plain, inst, Arith, add, sub, mul, Branch, beq, bneq, bgt, blt, bgte, blte, Instr, malloc, Entry, row, block, instr}
 use Rattle.text.specs.Bytes.{bytes, sameBytes, split, Line, ended, unended, fieldsOf, linesOf, isDecimal, spelled, number}
 use Rattle.text.specs.Grammar.{Field, Form, _>>=_, end, each, rest, rowNumber, index, register, eachLetter, letters, known, carrier, orLiteral, carried, fromParts, operand, Named, arith as arithForm, branch, forms, formNamed, entryOf, parse}
@@ -30,7 +30,7 @@ number-small : (low high : ℕ) (s : List ℕ) → Given (λ (n : ℕ). n ≤ hi
 unfolding Given number
 number-small low high s = go (isDecimal s) (leb low (spelled 0 s)) (leb (spelled 0 s) high) refl
   where
-    go : (a b c : Bool) → leb (spelled 0 s) high ≡ c → Given (λ (n : ℕ). n ≤ high) (when (a && (b && c)) (spelled 0 s))
+    go : (a b c : Bool) → leb (spelled 0 s) high ≡ c → Given (λ (n : ℕ). n ≤ high) (guarded (a && (b && c)) (spelled 0 s))
     go true true true e = leb-true (spelled 0 s) high e
     go true true false e = tt
     go true false c e = tt
@@ -40,12 +40,12 @@ letters-small : (f : Field) → Given (λ (q : List Kind). length q ≤ 8) (lett
 unfolding Given letters
 letters-small f = go (sameBytes f (bytes "-")) (eachLetter f)
   where
-    most : (q : List Kind) (a b : Bool) → leb (length q) 8 ≡ b → Given (λ (q : List Kind). length q ≤ 8) (when (a && b) q)
+    most : (q : List Kind) (a b : Bool) → leb (length q) 8 ≡ b → Given (λ (q : List Kind). length q ≤ 8) (guarded (a && b) q)
     most q true true e = leb-true (length q) 8 e
     most q true false e = tt
     most q false b e = tt
 
-    go : (t : Bool) (o : Option (List Kind)) → Given (λ (q : List Kind). length q ≤ 8) (cond t (some []) (bind o (λ q. when (leb 1 (length q) && leb (length q) 8) q)))
+    go : (t : Bool) (o : Option (List Kind)) → Given (λ (q : List Kind). length q ≤ 8) (cond t (some []) (chain o (λ q. guarded (leb 1 (length q) && leb (length q) 8) q)))
     go true o = zero-le
     go false none = tt
     go false (some q) = most q (leb 1 (length q)) (leb (length q) 8) refl
@@ -55,7 +55,7 @@ unfolding Given each
 each-length p [] = refl
 each-length {A} p (f ∷ fs) = go (p f) (each p fs) (each-length p fs)
   where
-    go : (o : Option A) (os : Option (List A)) → Given (λ (xs : List A). length xs ≡ length fs) os → Given (λ (xs : List A). length xs ≡ suc (length fs)) (bind o (λ x. bind os (λ xs. some (x ∷ xs))))
+    go : (o : Option A) (os : Option (List A)) → Given (λ (xs : List A). length xs ≡ length fs) os → Given (λ (xs : List A). length xs ≡ suc (length fs)) (chain o (λ x. chain os (λ xs. some (x ∷ xs))))
     go none os h = tt
     go (some x) none h = tt
     go (some x) (some xs) h = ap suc h
@@ -65,12 +65,12 @@ unfolding Given carried
 carried-short [] t = tt
 carried-short (b ∷ ts) t = go (carrier b) (each rowNumber ts) (each-length rowNumber ts) (rowNumber t)
   where
-    most : (c : Base) (rs : List ℕ) (r : ℕ) → length rs ≡ length ts → (x y : Bool) → leb (length ts) 8 ≡ y → Given Short (when (x && y) (inst c rs r))
+    most : (c : Base) (rs : List ℕ) (r : ℕ) → length rs ≡ length ts → (x y : Bool) → leb (length ts) 8 ≡ y → Given Short (guarded (x && y) (inst c rs r))
     most c rs r h true true e = let q : length ts ≤ 8 = leb-true (length ts) 8 e in omega arith
     most c rs r h true false e = tt
     most c rs r h false y e = tt
 
-    go : (o : Option Base) (os : Option (List ℕ)) → Given (λ (xs : List ℕ). length xs ≡ length ts) os → (n : Option ℕ) → Given Short (bind o (λ c. bind os (λ rs. bind n (λ r. when (leb 1 (length ts) && leb (length ts) 8) (inst c rs r)))))
+    go : (o : Option Base) (os : Option (List ℕ)) → Given (λ (xs : List ℕ). length xs ≡ length ts) os → (n : Option ℕ) → Given Short (chain o (λ c. chain os (λ rs. chain n (λ r. guarded (leb 1 (length ts) && leb (length ts) 8) (inst c rs r)))))
     go none os h n = tt
     go (some c) none h n = tt
     go (some c) (some rs) h none = tt
@@ -80,7 +80,7 @@ operand-short : (f : Field) → Given Short (operand f)
 unfolding Given operand
 operand-short f = go (split 61 f)
   where
-    base : (o : Option Base) → Given Short (bind o (λ c. some (plain c)))
+    base : (o : Option Base) → Given Short (chain o (λ c. some (plain c)))
     base none = tt
     base (some c) = tt
 
@@ -95,7 +95,7 @@ unfolding Given each
 operands-short [] = tt
 operands-short (f ∷ fs) = go (operand f) (operand-short f) (each operand fs) (operands-short fs)
   where
-    go : (o : Option Operand) → Given Short o → (os : Option (List Operand)) → Given AllShort os → Given AllShort (bind o (λ v. bind os (λ vs. some (v ∷ vs))))
+    go : (o : Option Operand) → Given Short o → (os : Option (List Operand)) → Given AllShort os → Given AllShort (chain o (λ v. chain os (λ vs. some (v ∷ vs))))
     go none h os k = tt
     go (some v) h none k = tt
     go (some v) h (some vs) k = (h, k)
@@ -118,7 +118,7 @@ field : {A : Type 0} {P : A → Type 0} (p : Field → Option A) → ((f : Field
 unfolding Given _>>=_
 field {A} {P} p h k g = record { reads = all }
   where
-    go : (fs : List Field) (o : Option A) → Given P o → Given SmallEntry (bind o (λ x. k x fs))
+    go : (fs : List Field) (o : Option A) → Given P o → Given SmallEntry (chain o (λ x. k x fs))
     go fs none q = tt
     go fs (some x) q = g x q .reads fs
 
@@ -148,11 +148,11 @@ others : {A : Type 0} {P : List A → Type 0} (right : ℕ → Bool) (p : Field 
 unfolding Given rest
 others {A} {P} right p h e g = record { reads = λ fs. go fs (each p fs) (h fs) (each-length p fs) }
   where
-    counted : (fs : List Field) (xs : List A) → P xs → length xs ≡ length fs → (t : Bool) → right (length fs) ≡ t → Given SmallEntry (when t (e xs))
+    counted : (fs : List Field) (xs : List A) → P xs → length xs ≡ length fs → (t : Bool) → right (length fs) ≡ t → Given SmallEntry (guarded t (e xs))
     counted fs xs q l true w = g xs q (ap right l ∙ w)
     counted fs xs q l false w = tt
 
-    go : (fs : List Field) (o : Option (List A)) → Given P o → Given (λ (xs : List A). length xs ≡ length fs) o → Given SmallEntry (bind o (λ xs. when (right (length fs)) (e xs)))
+    go : (fs : List Field) (o : Option (List A)) → Given P o → Given (λ (xs : List A). length xs ≡ length fs) o → Given SmallEntry (chain o (λ xs. guarded (right (length fs)) (e xs)))
     go fs none q l = tt
     go fs (some xs) q l = counted fs xs q l (right (length fs)) refl
 

@@ -5,7 +5,7 @@ use mathlib.Core.Bool.{cond}
 use mathlib.Core.List.{List, [], _∷_}
 use lib.Dec.{ltb, eqb}
 use lib.ListN.{getElem?}
-use Rattle.syntax.specs.Partial.{when}
+use Rattle.syntax.specs.Partial.{guarded}
 use Rattle.syntax.specs.Syntax.{Kind, value}
 use Rattle.syntax.specs.Fault.{Fault, itemsOf}
 use Rattle.types.specs.Rows.{typeAt, typesOf}
@@ -18,7 +18,7 @@ use Rattle.valid_context.specs.Told.{toldOf, answer}
 -- seen that this is a code row)
 pub record Holds (τ : RowTable) (n : ℕ) (β : List ℕ) (nb : ℕ) (P : Program) : Type 0 where
   pub types : P .types ≡ typesOf (rowsIn τ n)
-  pub labels : (Δ : List Kind) (l : ℕ) → labelType P Δ (getElem? (P .blocks) l) ≡ when (ltb l nb) (typeAt value (P .types) (cell 2 β l 0))
+  pub labels : (Δ : List Kind) (l : ℕ) → labelType P Δ (getElem? (P .blocks) l) ≡ guarded (ltb l nb) (typeAt value (P .types) (cell 2 β l 0))
 
 -- ---- items
 -- i is one of the list

@@ -10,7 +10,7 @@ use Rattle.syntax.specs.Syntax.{Kind, value, stack}
 use Rattle.types.specs.Types.{Ty, junk, Arg, arg, ofKind}
 use Rattle.types.specs.Rows.{typeAt, typesOf}
 use Rattle.tables.specs.Tables.{rowsIn}
-use Rattle.syntax.specs.Partial.{when}
+use Rattle.syntax.specs.Partial.{guarded}
 use Rattle.syntax.proofs.Least.{least}
 use Rattle.valid.specs.Program.{Program, typeOf}
 use Rattle.valid.specs.Rules.{Context, withRegs}
@@ -45,5 +45,5 @@ pub given-same : (rows parts : List ℕ) (n : ℕ) (P : Program) (t : ℕ) {r : 
 given-same rows parts n P t q e y = ap (typeAt value (typesIn rows parts n)) q ∙ sym (given-typed rows parts n P [] t e (givenRow n t) (given-is rows parts n t y))
 
 -- a register is set, or there is no such register
-pub set-told : (P : Program) (Δ : List Kind) (Γ : Context) (d : ℕ) (t : Ty value) (v b : Bool) (g : Ty stack) → replaced (Γ .regs) d t ≡ when b g → b ≡ v → toldOf (assign P Δ Γ d t) ≡ answer (cond v 0 9) (withRegs Γ g)
-set-told P Δ Γ d t v b g e q = assign-told P Δ Γ d t v g (e ∙ ap (λ (w : Bool). when w g) q)
+pub set-told : (P : Program) (Δ : List Kind) (Γ : Context) (d : ℕ) (t : Ty value) (v b : Bool) (g : Ty stack) → replaced (Γ .regs) d t ≡ guarded b g → b ≡ v → toldOf (assign P Δ Γ d t) ≡ answer (cond v 0 9) (withRegs Γ g)
+set-told P Δ Γ d t v b g e q = assign-told P Δ Γ d t v g (e ∙ ap (λ (w : Bool). guarded w g) q)

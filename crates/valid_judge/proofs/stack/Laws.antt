@@ -9,7 +9,7 @@ use mathlib.Core.List.{List}
 use lib.Dec.{leb}
 use lib.ListN.{length, getD, set}
 use borrow.Author.Tests.{leb-true, le-leb, lt-leb}
-use Rattle.syntax.specs.Partial.{when}
+use Rattle.syntax.specs.Partial.{guarded}
 use Rattle.syntax.specs.Syntax.{Kind, value, stack, salloc, sfree, sst, setsp, getsp}
 use Rattle.syntax.proofs.Least.{least}
 use Rattle.types.specs.Types.{Ty, int, junk, var, tuple, pointer, code, items, Arg, ofKind}
@@ -57,12 +57,12 @@ cond-zero true k e = refl
 cond-zero false k e = absurd (omega arith)
 
 -- ---- a tail of sp
-when-some : {A : Type 0} (v w : Bool) (x : A) → when v x ≡ when w x → w ≡ true → v ≡ true
+when-some : {A : Type 0} (v w : Bool) (x : A) → guarded v x ≡ guarded w x → w ≡ true → v ≡ true
 when-some true w x e q = refl
 when-some false true x e q = let z : _≡_ {A = ℕ} 0 1 = cc in absurd (omega arith)
 when-some false false x e q = q
 
-module _ (T : List Arg) (sp : List ℕ) (d : ℕ) (b : Ty stack) (v : Bool) (e : above b (spOf T sp d) ≡ when v (spAbove T sp (items b) (d - items b))) (h : v ≡ true) where
+module _ (T : List Arg) (sp : List ℕ) (d : ℕ) (b : Ty stack) (v : Bool) (e : above b (spOf T sp d) ≡ guarded v (spAbove T sp (items b) (d - items b))) (h : v ≡ true) where
   both : leb (items b) d && same b (spOf T sp (items b)) ≡ true
   both = when-some (leb (items b) d && same b (spOf T sp (items b))) v (spAbove T sp (items b) (d - items b)) (sym (tail-is T sp d b) ∙ e) h
 
@@ -82,28 +82,28 @@ pub junk-type : (rows parts : List ℕ) (n : ℕ) → Ready rows parts n → typ
 unfolding typeAt ofKind
 junk-type rows parts n r = ap (ofKind value) (given-past rows parts n n (omega arith) r ∙ past-arg rows parts n n (omega arith))
 
-when-none : {A : Type 0} (v : Bool) (x : A) → when v x ≡ none → v ≡ false
+when-none : {A : Type 0} (v : Bool) (x : A) → guarded v x ≡ none → v ≡ false
 when-none true x e = let z : _≡_ {A = ℕ} 0 1 = cc in absurd (omega arith)
 when-none false x e = refl
 
 -- no item is there to replace
-no-item : (T : List Arg) (sp : List ℕ) (d i row : ℕ) (b : Bool) (c : Ty stack) → d ≤ length sp → row < 1024 → replaced (spOf T sp d) i (typeAt value T row) ≡ when b c → itemAt (spOf T sp d) i ≡ none → b ≡ false
+no-item : (T : List Arg) (sp : List ℕ) (d i row : ℕ) (b : Bool) (c : Ty stack) → d ≤ length sp → row < 1024 → replaced (spOf T sp d) i (typeAt value T row) ≡ guarded b c → itemAt (spOf T sp d) i ≡ none → b ≡ false
 no-item T sp d i row b c h l e z =
     let v = when-none (areValues sp d (suc i)) (typeAt value T (getD sp (d - suc i) 0)) (sym (item-is T sp d i) ∙ z) in
-    when-none b c (sym e ∙ put-is T sp d i row h l ∙ ap (λ (w : Bool). when w (spOf T (set sp (d - suc i) row) d)) v)
+    when-none b c (sym e ∙ put-is T sp d i row h l ∙ ap (λ (w : Bool). guarded w (spOf T (set sp (d - suc i) row) d)) v)
 
 module _ (P : Program) (Δ : List Kind) (T : List Arg) (regs sp : List ℕ) (d : ℕ) where
-  pub cut-done : (s f m : ℕ) (b : Ty stack) (v : Bool) → toldOf (pointerAt P Δ (regsOf T regs) s) ≡ answer f b → f ≡ 0 → above b (spOf T sp d) ≡ when v (spAbove T sp (items b) (d - items b)) → v ≡ true → m ≡ items b
+  pub cut-done : (s f m : ℕ) (b : Ty stack) (v : Bool) → toldOf (pointerAt P Δ (regsOf T regs) s) ≡ answer f b → f ≡ 0 → above b (spOf T sp d) ≡ guarded v (spAbove T sp (items b) (d - items b)) → v ≡ true → m ≡ items b
       → toldOf (judge P Δ (contextOf T regs sp d) (setsp s)) ≡ answer 0 (contextOf T regs sp m)
   cut-done s f m b v p z e h q =
-      setsp-goes P Δ (contextOf T regs sp d) s f b (spAbove T sp (items b) (d - items b)) true p z (e ∙ ap (λ (u : Bool). when u (spAbove T sp (items b) (d - items b))) h)
+      setsp-goes P Δ (contextOf T regs sp d) s f b (spAbove T sp (items b) (d - items b)) true p z (e ∙ ap (λ (u : Bool). guarded u (spAbove T sp (items b) (d - items b))) h)
       ∙ ap (λ (c : Ty stack). answer 0 (withSp (contextOf T regs sp d) c)) (tail-same T sp d b v e h ∙ ap (spOf T sp) (sym q))
 
-  pub cut-fails : (s f d′ : ℕ) (b : Ty stack) (v : Bool) → toldOf (pointerAt P Δ (regsOf T regs) s) ≡ answer f b → f ≡ 0 → above b (spOf T sp d) ≡ when v (spAbove T sp (items b) (d - items b)) → v ≡ false
+  pub cut-fails : (s f d′ : ℕ) (b : Ty stack) (v : Bool) → toldOf (pointerAt P Δ (regsOf T regs) s) ≡ answer f b → f ≡ 0 → above b (spOf T sp d) ≡ guarded v (spAbove T sp (items b) (d - items b)) → v ≡ false
       → toldOf (judge P Δ (contextOf T regs sp d) (setsp s)) ≡ answer 12 (contextOf T regs sp d′)
   unfolding answer
   cut-fails s f d′ b v p z e h =
-      setsp-goes P Δ (contextOf T regs sp d) s f b (spAbove T sp (items b) (d - items b)) false p z (e ∙ ap (λ (u : Bool). when u (spAbove T sp (items b) (d - items b))) h)
+      setsp-goes P Δ (contextOf T regs sp d) s f b (spAbove T sp (items b) (d - items b)) false p z (e ∙ ap (λ (u : Bool). guarded u (spAbove T sp (items b) (d - items b))) h)
 
   -- ---- salloc, sfree
   pub full : (k d′ : ℕ) (sp′ : List ℕ) → d ≤ 64 → 64 - d < k → toldOf (judge P Δ (contextOf T regs sp d) (salloc k)) ≡ answer 13 (contextOf T regs sp′ d′)
@@ -116,18 +116,18 @@ module _ (P : Program) (Δ : List Kind) (T : List Arg) (regs sp : List ℕ) (d :
       let i = items-is T sp d in
       salloc-told P Δ (contextOf T regs sp d) k true (sym (le-leb (items (junks k (spOf T sp d))) 64 (omega arith))) ∙ ap (λ (c : Ty stack). answer 0 (withSp (contextOf T regs sp d) c)) e
 
-  pub freed : (k : ℕ) (v : Bool) → under k (spOf T sp d) ≡ when v (spOf T sp (d - k)) → v ≡ true → toldOf (judge P Δ (contextOf T regs sp d) (sfree k)) ≡ answer 0 (contextOf T regs sp (d - k))
-  freed k v e h = sfree-told P Δ (contextOf T regs sp d) k true (spOf T sp (d - k)) (e ∙ ap (λ (u : Bool). when u (spOf T sp (d - k))) h)
+  pub freed : (k : ℕ) (v : Bool) → under k (spOf T sp d) ≡ guarded v (spOf T sp (d - k)) → v ≡ true → toldOf (judge P Δ (contextOf T regs sp d) (sfree k)) ≡ answer 0 (contextOf T regs sp (d - k))
+  freed k v e h = sfree-told P Δ (contextOf T regs sp d) k true (spOf T sp (d - k)) (e ∙ ap (λ (u : Bool). guarded u (spOf T sp (d - k))) h)
 
-  pub kept : (k d′ : ℕ) (v : Bool) → under k (spOf T sp d) ≡ when v (spOf T sp (d - k)) → v ≡ false → toldOf (judge P Δ (contextOf T regs sp d) (sfree k)) ≡ answer 11 (contextOf T regs sp d′)
+  pub kept : (k d′ : ℕ) (v : Bool) → under k (spOf T sp d) ≡ guarded v (spOf T sp (d - k)) → v ≡ false → toldOf (judge P Δ (contextOf T regs sp d) (sfree k)) ≡ answer 11 (contextOf T regs sp d′)
   unfolding answer
-  kept k d′ v e h = sfree-told P Δ (contextOf T regs sp d) k false (spOf T sp (d - k)) (e ∙ ap (λ (u : Bool). when u (spOf T sp (d - k))) h)
+  kept k d′ v e h = sfree-told P Δ (contextOf T regs sp d) k false (spOf T sp (d - k)) (e ∙ ap (λ (u : Bool). guarded u (spOf T sp (d - k))) h)
 
   -- ---- sst
-  pub put-item : (i s u : ℕ) (w v : Bool) (c : Ty stack) → d ≤ length sp → u - 1 < 1024 → itemAt (regsOf T regs) s ≡ linked T u → (u ≡ 0 → ⊥) → replaced (spOf T sp d) i (typeAt value T (u - 1)) ≡ when v c → v ≡ w
+  pub put-item : (i s u : ℕ) (w v : Bool) (c : Ty stack) → d ≤ length sp → u - 1 < 1024 → itemAt (regsOf T regs) s ≡ linked T u → (u ≡ 0 → ⊥) → replaced (spOf T sp d) i (typeAt value T (u - 1)) ≡ guarded v c → v ≡ w
       → toldOf (judge P Δ (contextOf T regs sp d) (sst i s)) ≡ answer (cond w 0 11) (withSp (contextOf T regs sp d) c)
   put-item i s u w v c h l e z q k =
-      let o : replaced (spOf T sp d) i (typeAt value T (u - 1)) ≡ when w c = q ∙ ap (λ (b : Bool). when b c) k in
+      let o : replaced (spOf T sp d) i (typeAt value T (u - 1)) ≡ guarded w c = q ∙ ap (λ (b : Bool). guarded b c) k in
       sst-goes P Δ (contextOf T regs sp d) T i s u w c e z (no-item T sp d i (u - 1) w c h l o) o
 
   -- ---- getsp

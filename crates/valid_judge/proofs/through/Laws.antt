@@ -5,7 +5,7 @@ use mathlib.Core.Path.{_≡_, refl, ap, ap₂, sym, _∙_}
 use mathlib.Core.Bool.{Bool, true, false, cond}
 use mathlib.Core.Option.{Option, none, some}
 use mathlib.Core.List.{List}
-use Rattle.syntax.specs.Partial.{bind, when}
+use Rattle.syntax.specs.Partial.{chain, guarded}
 use Rattle.syntax.specs.Syntax.{Kind, value, stack, slp, ssp}
 use Rattle.syntax.proofs.Least.{least}
 use Rattle.types.specs.Types.{Ty, pointer, nil, push, svar, gap, join, items, Arg}
@@ -29,7 +29,7 @@ link-there k (suc u) e z = omega arith
 
 -- ---- slp
 module _ (P : Program) (Δ : List Kind) (T : List Arg) (regs sp : List ℕ) (dep d s i f : ℕ) (b : Ty stack) (v : Bool) (u a g h : ℕ)
-    (p : toldOf (pointerAt P Δ (regsOf T regs) s) ≡ answer f b) (z : f ≡ 0) (ta : above b (spOf T sp dep) ≡ when v (spAbove T sp (items b) (dep - items b))) (it : itemAt b i ≡ linked T u) (ea : a ≡ cond v 0 12) (eg : g ≡ ifNone 11 u) (eh : h ≡ least a g) where
+    (p : toldOf (pointerAt P Δ (regsOf T regs) s) ≡ answer f b) (z : f ≡ 0) (ta : above b (spOf T sp dep) ≡ guarded v (spAbove T sp (items b) (dep - items b))) (it : itemAt b i ≡ linked T u) (ea : a ≡ cond v 0 12) (eg : g ≡ ifNone 11 u) (eh : h ≡ least a g) where
   faults : h ≡ least (cond v 0 12) (ifNone 11 u)
   faults = eh ∙ ap₂ least ea eg
 
@@ -53,18 +53,18 @@ can-put nil i x t e q = none-some e
 can-put (push y a) zero x t e q = none-some (sym q)
 can-put (push y a) (suc i) x t e q = can-put a i x t e (bound (replaced a i t) (λ c. push y c) q)
   where
-    bound : (o : Option (Ty stack)) (f : Ty stack → Ty stack) → bind o (λ c. some (f c)) ≡ none → o ≡ none
+    bound : (o : Option (Ty stack)) (f : Ty stack → Ty stack) → chain o (λ c. some (f c)) ≡ none → o ≡ none
     bound none f h = refl
     bound (some c) f h = none-some (sym h)
 can-put (svar k a) i x t e q = none-some e
 can-put (gap a) zero x t e q = none-some e
 can-put (gap a) (suc i) x t e q = can-put a i x t e (bound (replaced a i t) (λ c. gap c) q)
   where
-    bound : (o : Option (Ty stack)) (f : Ty stack → Ty stack) → bind o (λ c. some (f c)) ≡ none → o ≡ none
+    bound : (o : Option (Ty stack)) (f : Ty stack → Ty stack) → chain o (λ c. some (f c)) ≡ none → o ≡ none
     bound none f h = refl
     bound (some c) f h = none-some (sym h)
 
-put-there : (T : List Arg) (b c : Ty stack) (i y : ℕ) (t : Ty value) (v : Bool) → itemAt b i ≡ linked T y → (y ≡ 0 → ⊥) → replaced b i t ≡ when v c → replaced b i t ≡ some c
+put-there : (T : List Arg) (b c : Ty stack) (i y : ℕ) (t : Ty value) (v : Bool) → itemAt b i ≡ linked T y → (y ≡ 0 → ⊥) → replaced b i t ≡ guarded v c → replaced b i t ≡ some c
 unfolding linked
 put-there T b c i zero t v e n q = absurd (n refl)
 put-there T b c i (suc y) t true e n q = q
@@ -77,7 +77,7 @@ module _ (T : List Arg) (b : Ty stack) (i t y u f g h : ℕ) (eb : itemAt b i �
   pub tail-none : (c : Ty stack) → (h ≡ 0 → ⊥) → (P : Program) (Δ : List Kind) (Γ : Context) (s : ℕ) → itemAt (Γ .regs) s ≡ linked T u → toldOf (newTail P Δ Γ b i s t) ≡ answer h c
   tail-none c n P Δ Γ s e = tail-lacks P Δ Γ T b i s t y u c eb e (λ z. n (lack ∙ z)) ∙ ap (λ (k : ℕ). answer k c) (sym lack)
 
-  module _ (c : Ty stack) (m : ℕ) (w : List ℕ) (v : Bool) (z : h ≡ 0) (eq : b ≡ spOf T w m) (put : replaced (spOf T w m) i (typeAt value T (u - 1)) ≡ when v c) where
+  module _ (c : Ty stack) (m : ℕ) (w : List ℕ) (v : Bool) (z : h ≡ 0) (eq : b ≡ spOf T w m) (put : replaced (spOf T w m) i (typeAt value T (u - 1)) ≡ guarded v c) where
     made : replaced b i (typeAt value T (u - 1)) ≡ some c
     made = put-there T b c i y (typeAt value T (u - 1)) v eb (λ e. link-there 10 y (least-zero (ifNone 11 y) (ifNone 9 u) (sym lack ∙ z) .0) e) (ap (λ (x : Ty stack). replaced x i (typeAt value T (u - 1))) eq ∙ put)
 
@@ -88,7 +88,7 @@ module _ (T : List Arg) (b : Ty stack) (i t y u f g h : ℕ) (eb : itemAt b i �
     makes o r eo t = record { known = link-there 8 u (least-zero (ifNone 11 y) (ifNone 9 u) (sym lack ∙ z) .1); put = made; points = same-sound (typeAt value T r) (pointer c) (sym eo ∙ t) }
 
   -- b written out in w, item i replaced in w′
-  module _ (w w′ : List ℕ) (m r : ℕ) (v o : Bool) (z : h ≡ 0) (flat : spOf T w (items b) ≡ b) (em : m ≡ items b) (put : replaced (spOf T w m) i (typeAt value T (u - 1)) ≡ when v (spOf T w′ m)) (eo : o ≡ same (typeAt value T r) (pointer (spOf T w′ m))) where
+  module _ (w w′ : List ℕ) (m r : ℕ) (v o : Bool) (z : h ≡ 0) (flat : spOf T w (items b) ≡ b) (em : m ≡ items b) (put : replaced (spOf T w m) i (typeAt value T (u - 1)) ≡ guarded v (spOf T w′ m)) (eo : o ≡ same (typeAt value T r) (pointer (spOf T w′ m))) where
     pub tail-told : (q : Bool) → o ≡ q → (P : Program) (Δ : List Kind) (Γ : Context) (s : ℕ) → typeAt value T r ≡ typeOf P t → itemAt (Γ .regs) s ≡ linked T u → toldOf (newTail P Δ Γ b i s t) ≡ answer (cond q 0 10) (spOf T w′ (items b))
     tail-told q eq P Δ Γ s er e = goes (spOf T w′ (items b)) (items b) w v z (sym flat) (rw em at put) q r (sym eq ∙ (rw em at eo)) P Δ Γ s er e
 
@@ -100,12 +100,12 @@ module _ (T : List Arg) (sp : List ℕ) (dep i t u : ℕ) (b : Ty stack) where
   pub through-none : (P : Program) (Δ : List Kind) (regs : List ℕ) (d s f : ℕ) (y : Ty stack × Ty stack) → (f ≡ 0 → ⊥) → toldOf (pointerAt P Δ (regsOf T regs) d) ≡ answer f b → toldOf (through P Δ (contextOf T regs sp dep) d i s t) ≡ answer f y
   through-none P Δ regs d s f y n p = through-stops P Δ (contextOf T regs sp dep) d i s t f b y p n
 
-  pub through-told : (P : Program) (Δ : List Kind) (regs : List ℕ) (d s f a k h : ℕ) (c : Ty stack) (v : Bool) → f ≡ 0 → above b (spOf T sp dep) ≡ when v (spAbove T sp (items b) (dep - items b)) → a ≡ cond v 0 12 → h ≡ least a k
+  pub through-told : (P : Program) (Δ : List Kind) (regs : List ℕ) (d s f a k h : ℕ) (c : Ty stack) (v : Bool) → f ≡ 0 → above b (spOf T sp dep) ≡ guarded v (spAbove T sp (items b) (dep - items b)) → a ≡ cond v 0 12 → h ≡ least a k
       → toldOf (newTail P Δ (contextOf T regs sp dep) b i s t) ≡ answer k c → toldOf (pointerAt P Δ (regsOf T regs) d) ≡ answer f b → toldOf (through P Δ (contextOf T regs sp dep) d i s t) ≡ answer h (spAbove T sp (items b) (dep - items b), c)
   through-told P Δ regs d s f a k h c v z e ea eh q p =
       through-goes P Δ (contextOf T regs sp dep) d i s t f k b (spAbove T sp (items b) (dep - items b)) c v p z e q ∙ ap (λ (j : ℕ). answer j (spAbove T sp (items b) (dep - items b), c)) (sym (eh ∙ ap (λ (j : ℕ). least j k) ea))
 
-  pub through-tail : (a k h : ℕ) (v : Bool) → above b (spOf T sp dep) ≡ when v (spAbove T sp (items b) (dep - items b)) → a ≡ cond v 0 12 → h ≡ least a k → h ≡ 0 → IsTail T sp dep b × (k ≡ 0)
+  pub through-tail : (a k h : ℕ) (v : Bool) → above b (spOf T sp dep) ≡ guarded v (spAbove T sp (items b) (dep - items b)) → a ≡ cond v 0 12 → h ≡ least a k → h ≡ 0 → IsTail T sp dep b × (k ≡ 0)
   through-tail a k h v e ea eh z =
       let w = least-zero a k (sym eh ∙ z) in
       let o = cond-zero v 11 (sym ea ∙ w .0) in
@@ -115,12 +115,12 @@ module _ (T : List Arg) (sp : List ℕ) (dep i t u : ℕ) (b : Ty stack) where
 some-same : {A : Type 0} {x y : A} → some x ≡ some y → x ≡ y
 some-same e = cc
 
-when-some : {A : Type 0} (v : Bool) (x y : A) → when v x ≡ some y → x ≡ y
+when-some : {A : Type 0} (v : Bool) (x y : A) → guarded v x ≡ some y → x ≡ y
 when-some true x y e = some-same e
 when-some false x y e = none-some e
 
 module _ (T : List Arg) (sp sp′ : List ℕ) (dep i u r m : ℕ) (b c : Ty stack) (v : Bool) (tl : IsTail T sp dep b) (rp : Replaced T b i u r c) (em : m ≡ items b)
-    (put : replaced (spOf T sp m) i (typeAt value T (u - 1)) ≡ when v (spOf T sp′ m)) (up : (k : ℕ) → spAbove T sp′ m k ≡ spAbove T sp m k) where
+    (put : replaced (spOf T sp m) i (typeAt value T (u - 1)) ≡ guarded v (spOf T sp′ m)) (up : (k : ℕ) → spAbove T sp′ m k ≡ spAbove T sp m k) where
   low : spOf T sp′ m ≡ c
   low = when-some v (spOf T sp′ m) c (sym put ∙ ap (λ (x : Ty stack). replaced x i (typeAt value T (u - 1))) (sym (tl .same ∙ ap (spOf T sp) (sym em))) ∙ rp .put)
 

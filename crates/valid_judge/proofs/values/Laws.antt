@@ -4,7 +4,7 @@ use native.Mathlib.Omega.{arith}
 use mathlib.Core.Path.{_≡_, refl, ap, sym, _∙_}
 use mathlib.Core.Bool.{Bool, true, false, cond}
 use mathlib.Core.List.{List}
-use Rattle.syntax.specs.Partial.{when}
+use Rattle.syntax.specs.Partial.{guarded}
 use Rattle.syntax.specs.Syntax.{Kind, value, stack, Operand, Arith, aop, malloc}
 use Rattle.syntax.specs.Fault.{fault}
 use Rattle.syntax.proofs.Least.{least, least-none}
@@ -36,7 +36,7 @@ int-type rows parts n r =
 pub int-lacks : (J : Judged (Ty value)) (f : ℕ) (t : Ty value) → (f ≡ 0 → ⊥) → toldOf J ≡ answer f t → toldOf (J ▹ λ u. orFault 9 (asInt u)) ≡ answer f tt
 int-lacks J f t n e = stops J (λ u. orFault 9 (asInt u)) f t tt e n
 
-pub int-told : (J : Judged (Ty value)) (f k : ℕ) (t : Ty value) (b : Bool) → f ≡ 0 → asInt t ≡ when b tt → k ≡ cond b 0 9 → toldOf J ≡ answer f t → toldOf (J ▹ λ u. orFault 9 (asInt u)) ≡ answer k tt
+pub int-told : (J : Judged (Ty value)) (f k : ℕ) (t : Ty value) (b : Bool) → f ≡ 0 → asInt t ≡ guarded b tt → k ≡ cond b 0 9 → toldOf J ≡ answer f t → toldOf (J ▹ λ u. orFault 9 (asInt u)) ≡ answer k tt
 int-told J f k t b z h ek e = told-next J (λ u. orFault 9 (asInt u)) f (cond b 0 9) t tt e z (told-when 8 (asInt t) b tt h) ∙ ap (λ (x : ℕ). answer x tt) (sym ek)
 
 module _ (P : Program) (Δ : List Kind) (Γ : Context) where

@@ -1,6 +1,6 @@
 use mathlib.Core.Bool.{Bool, true, false}
 use mathlib.Core.Path.{_∙_, ap}
-use Rattle.syntax.specs.Partial.{when}
+use Rattle.syntax.specs.Partial.{guarded}
 use Rattle.valid_typing.proofs.Forms.{int-unknown, int-is}
 use borrow.Author.Needs.{needs}
 use Rattle.valid_typing.proofs.integer.Statement.{statement}
@@ -15,13 +15,13 @@ returns-2 : tie.Need-returns-2
 returns-2 c =
     let i : tie.After-is-int = search in
     let r2 : tie.After-register = search in
-    λ P Δ. int-is P Δ _ _ _ _ (r2 .register .ensures .0 _) true (search) (i .is-int .ensures ∙ ap (λ (b : Bool). when b tt) (c .if2 .taken))
+    λ P Δ. int-is P Δ _ _ _ _ (r2 .register .ensures .0 _) true (search) (i .is-int .ensures ∙ ap (λ (b : Bool). guarded b tt) (c .if2 .taken))
 
 returns-3 : tie.Need-returns-3
 returns-3 c =
     let i : tie.After-is-int = search in
     let r2 : tie.After-register = search in
-    λ P Δ. int-is P Δ _ _ _ _ (r2 .register .ensures .0 _) false (search) (i .is-int .ensures ∙ ap (λ (b : Bool). when b tt) (c .if2 .left))
+    λ P Δ. int-is P Δ _ _ _ _ (r2 .register .ensures .0 _) false (search) (i .is-int .ensures ∙ ap (λ (b : Bool). guarded b tt) (c .if2 .left))
 
 pub integer-spec : {M : Type 1} → statement M
 integer-spec = tie.close (tie.spec (λ c κs. search) returns (λ c. search needs) (λ c κs. search needs) returns-2 returns-3)

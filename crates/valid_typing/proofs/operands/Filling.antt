@@ -7,7 +7,7 @@ use mathlib.Core.Option.{Option, none, some}
 use mathlib.Core.List.{List, [], map, reverse}
 use lib.Dec.{leb}
 use lib.ListN.{length, getD, take, drop}
-use Rattle.syntax.specs.Partial.{when}
+use Rattle.syntax.specs.Partial.{guarded}
 use Rattle.syntax.specs.Syntax.{Kind, value, stack, Base, Operand, plain, inst}
 use Rattle.syntax.specs.Fault.{Fault, numberOf, fault}
 use Rattle.syntax.proofs.Least.{least}
@@ -55,11 +55,11 @@ code-is (tuple a) c e = no-code e
 code-is (pointer a) c e = no-code e
 code-is (code q a r) c e = ap (λ (z : CodeType). code (z .letters) (z .sp) (z .regs)) (ap (theCode c) e)
 
-pub when-is : {A : Type 0} {o : Option A} (b v : Bool) (x : A) → o ≡ when b x → b ≡ v → o ≡ when v x
-when-is b v x e f = e ∙ ap (λ (z : Bool). when z x) f
+pub when-is : {A : Type 0} {o : Option A} (b v : Bool) (x : A) → o ≡ guarded b x → b ≡ v → o ≡ guarded v x
+when-is b v x e f = e ∙ ap (λ (z : Bool). guarded z x) f
 
 -- ---- letters
-when-some : (b : Bool) (x q : List Kind) → when b x ≡ some q → (b ≡ true) × (x ≡ q)
+when-some : (b : Bool) (x q : List Kind) → guarded b x ≡ some q → (b ≡ true) × (x ≡ q)
 when-some true x q e = (refl, cc)
 when-some false x q e = let z : _≡_ {A = ℕ} 0 1 = cc in absurd (omega arith)
 

@@ -6,7 +6,7 @@ use mathlib.Core.Bool.{Bool, true, false}
 use mathlib.Core.List.{List, []}
 use mathlib.Core.Option.{some}
 use lib.ListN.{getD}
-use Rattle.syntax.specs.Partial.{when}
+use Rattle.syntax.specs.Partial.{guarded}
 use Rattle.syntax.specs.Syntax.{Kind, value, stack, plain, lit}
 use Rattle.syntax.specs.Fault.{fault}
 use Rattle.syntax.proofs.Least.{least}
@@ -25,16 +25,16 @@ use Rattle.valid_typing.proofs.bases.Bases.{int-type, kind-lit, lit-tol
 use Rattle.valid_typing.proofs.operands.Filling.{plain-at, plain-told}
 use Rattle.valid_typing.proofs.components.Lists.{list-cons, tuple-is}
 
-pub ints-equal : (t u : Ty value) (b c : Bool) → asInt t ≡ when b tt → b ≡ true → asInt u ≡ when c tt → c ≡ true → u ≡ t
+pub ints-equal : (t u : Ty value) (b c : Bool) → asInt t ≡ guarded b tt → b ≡ true → asInt u ≡ guarded c tt → c ≡ true → u ≡ t
 ints-equal t u b c e f g h = same-sound u t (sym (same-int u t c b g h e f))
 
 -- a literal, where row t is the integer type
 pub literal-fits : (P : Program) (Δ : List Kind) (g : Ty stack) (ω : OperandTable) (rows parts : List ℕ) (n v k c t : ℕ) (b : Bool) → Ready rows parts n → k ≡ cell 4 (ω .operands) v 0 → c ≡ cell 4 (ω .operands) v 1 → k ≡ 1 → c ≡ 0
-    → asInt (typeAt value (typesIn rows parts n) t) ≡ when b tt → b ≡ true → toldOf (operand P Δ (fault 10) g (operandAt ω v)) ≡ answer 0 (typeAt value (typesIn rows parts n) t)
+    → asInt (typeAt value (typesIn rows parts n) t) ≡ guarded b tt → b ≡ true → toldOf (operand P Δ (fault 10) g (operandAt ω v)) ≡ answer 0 (typeAt value (typesIn rows parts n) t)
 literal-fits P Δ g ω rows parts n v k c t b r e f q z h i =
     let m : ℕ = getD (ω .numbers) v 0 in
     let o : operandAt ω v ≡ plain (lit m) = plain-at ω v k c m e f refl z ∙ ap plain (kind-lit k m q) in
-    let w : asInt (typeAt value (typesIn rows parts n) n) ≡ when true tt = ap asInt (int-type rows parts n r) ∙ unfold asInt in refl in
+    let w : asInt (typeAt value (typesIn rows parts n) n) ≡ guarded true tt = ap asInt (int-type rows parts n r) ∙ unfold asInt in refl in
     plain-told P Δ (fault 10) g (operandAt ω v) (lit m) 0 (typeAt value (typesIn rows parts n) n) o (lit-told P Δ g rows parts n m r)
     ∙ ap (answer 0) (sym (ints-equal (typeAt value (typesIn rows parts n) n) (typeAt value (typesIn rows parts n) t) true b w refl h i))
 

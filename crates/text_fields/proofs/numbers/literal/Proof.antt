@@ -6,7 +6,7 @@ use mathlib.Core.Option.{Option}
 use Prim.Native.Nat.{ℕ, _-_}
 use lib.Dec.{leb}
 use Rattle.syntax.specs.Bits.{modulus, half}
-use Rattle.syntax.specs.Partial.{bind, when}
+use Rattle.syntax.specs.Partial.{chain, guarded}
 use Rattle.text.specs.Bytes.{number}
 use Rattle.text_fields.proofs.numbers.Laws.{literal-none, literal-minus, literal-plus, part-from}
 use Rattle.text_fields.proofs.numbers.literal.Statement.{statement}
@@ -17,7 +17,7 @@ returns-2 c =
     let n : tie.After-number-in = search in
     let s2 : tie.Start = search in
     let s = s2 .args .s .now in
-    c .negated .ensures ∙ ap (λ (o : Option ℕ). bind o (λ v. when (leb 1 v) (modulus - v))) (n .number-in .ensures ∙ ap (number 1 half) (part-from s 1)) ∙ literal-minus _ (search) (search)
+    c .negated .ensures ∙ ap (λ (o : Option ℕ). chain o (λ v. guarded (leb 1 v) (modulus - v))) (n .number-in .ensures ∙ ap (number 1 half) (part-from s 1)) ∙ literal-minus _ (search) (search)
 
 returns-3 : tie.Need-returns-3
 returns-3 c = c .number-in2 .ensures ∙ literal-plus _ (search) (search)

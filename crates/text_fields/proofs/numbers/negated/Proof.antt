@@ -7,7 +7,7 @@ use native.Mathlib.Omega.{arith}
 use lib.Dec.{leb}
 use borrow.Author.Tests.{le-leb, lt-leb}
 use Rattle.syntax.specs.Bits.{modulus}
-use Rattle.syntax.specs.Partial.{when}
+use Rattle.syntax.specs.Partial.{guarded}
 use Rattle.text_fields.proofs.numbers.Laws.{with-value}
 use borrow.Author.Needs.{needs}
 use Rattle.text_fields.proofs.numbers.negated.Statement.{statement}
@@ -18,13 +18,13 @@ returns c =
     let n2 : tie.After-n = search in
     let v : ℕ = n2 .n .given .0 .0 in
     let q : 4294967295 - (v - 1) ≡ modulus - v = omega arith in
-    with-value (λ (x : ℕ). when (leb 1 x) (modulus - x)) _ v (some (4294967295 - (v - 1))) (n2 .n .given .1) (simp (le-leb 1 v (search)) (ap {B = Option ℕ} some q))
+    with-value (λ (x : ℕ). guarded (leb 1 x) (modulus - x)) _ v (some (4294967295 - (v - 1))) (n2 .n .given .1) (simp (le-leb 1 v (search)) (ap {B = Option ℕ} some q))
 
 returns-2 : tie.Need-returns-2
 returns-2 c =
     let n2 : tie.After-n = search in
     let v : ℕ = n2 .n .given .0 .0 in
-    with-value (λ (x : ℕ). when (leb 1 x) (modulus - x)) _ v none (n2 .n .given .1) (simp (lt-leb 1 v (search)))
+    with-value (λ (x : ℕ). guarded (leb 1 x) (modulus - x)) _ v none (n2 .n .given .1) (simp (lt-leb 1 v (search)))
 
 pub negated-spec : {M : Type 1} → statement M
 negated-spec = tie.close (tie.spec (λ c. search) (λ c. search needs) returns (λ c. search) returns-2 (λ c. search))

@@ -4,7 +4,7 @@ use mathlib.Core.Path.{ap, sym, _∙_}
 use mathlib.Core.Option.{Option}
 use Prim.Native.Nat.{ℕ}
 use lib.Dec.{leb}
-use Rattle.syntax.specs.Partial.{bind, when}
+use Rattle.syntax.specs.Partial.{chain, guarded}
 use Rattle.text_fields.proofs.numbers.Laws.{number-none, number-led, number-is}
 use Rattle.text_fields.proofs.numbers.number_in.Statement.{statement}
 use Rattle.text_fields.proofs.numbers.number_in.Tie as tie
@@ -20,7 +20,7 @@ returns-3 c =
     let n2 : tie.Else2 = search in
     let z : tie.After-zero-led = search in
     let s2 : tie.Start = search in
-    c .at-least .ensures ∙ ap (λ (o : Option ℕ). bind o (λ v. when (leb (s2 .args .low) v) v)) (d .digits .ensures) ∙ number-is _ _ _ (search) (sym (z .zero-led .ensures) ∙ n2 .if2 .left)
+    c .at-least .ensures ∙ ap (λ (o : Option ℕ). chain o (λ v. guarded (leb (s2 .args .low) v) v)) (d .digits .ensures) ∙ number-is _ _ _ (search) (sym (z .zero-led .ensures) ∙ n2 .if2 .left)
 
 pub number-in-spec : {M : Type 1} → statement M
 number-in-spec =
