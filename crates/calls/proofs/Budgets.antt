@@ -13,10 +13,9 @@ use Rattle.text.specs.Samples.{samplesOf}
 use Rattle.types.proofs.Equal.{and-inv, to-so}
 use Rattle.valid.specs.Program.{programOf}
 use Rattle.exec.specs.Machine.{Word, State, Bodies, halted, stackFull, heapFull, stuck}
-use Rattle.exec.specs.Run.{End, paused, stopped, Ran, run, budget, goodForm, longEnough, refused, Outcome, answerOf, outcome, bodies, wanted, barred, initial, starting, continuing}
+use Rattle.exec.specs.Run.{End, paused, stopped, Ran, run, budget, goodForm, longEnough, refused, Outcome, stepsOf, IsRefused, answerOf, outcome, bodies, wanted, barred, initial, starting, continuing}
 use Rattle.exec.proofs.Budgets.{more, run-twice}
-use Rattle.sound.specs.Claim.{stepsOf}
-use Rattle.calls.specs.Budgets.{plus, IsRefused, Adds, BudgetsAdd}
+use Rattle.calls.specs.Budgets.{plus, Adds, BudgetsAdd}
 use Rattle.calls.proofs.Samples.{wanted-fit}
 use Rattle.calls.proofs.GoodForm.{WellFormed, first-form, run-form}
 

@@ -4,8 +4,7 @@ use Prim.Native.Nat.{ℕ, _+_, _≤_}
 use mathlib.Core.Path.{_≡_}
 use mathlib.Core.List.{List}
 use Rattle.exec.specs.Machine.{State}
-use Rattle.exec.specs.Run.{Answer, refused, haltedAfter, pausedAfter, stackFullAfter, heapFullAfter, stuckAfter, Outcome, starting, continuing}
-use Rattle.sound.specs.Claim.{stepsOf}
+use Rattle.exec.specs.Run.{Answer, refused, haltedAfter, pausedAfter, stackFullAfter, heapFullAfter, stuckAfter, Outcome, stepsOf, IsRefused, starting, continuing}
 
 -- the answer with k steps more; a refusal counts none
 unfoldable pub plus : ℕ → Answer → Answer
@@ -15,10 +14,6 @@ plus k (pausedAfter n) = pausedAfter (k + n)
 plus k (stackFullAfter n) = stackFullAfter (k + n)
 plus k (heapFullAfter n) = heapFullAfter (k + n)
 plus k (stuckAfter n) = stuckAfter (k + n)
-
--- the call was refused, with some number and line
-abbrev pub IsRefused : Outcome → Type 0
-IsRefused o = (n : ℕ) × (line : ℕ) × (o .answer ≡ refused n line)
 
 -- a call and the continuing after it do as the one call `whole`
 pub record Adds (first second whole : Outcome) : Type 0 where

@@ -1,5 +1,6 @@
 -- Runs with a budget, good form, starting and continuing (document 01, "Machine" and "Faults").
 use Prim.Native.Nat.{ℕ, zero, suc, _+_, min}
+use mathlib.Core.Path.{_≡_}
 use mathlib.Core.Bool.{Bool, true, false, _&&_, _||_, not, cond}
 use mathlib.Core.Option.{Option, none, some}
 use mathlib.Core.List.{List, [], _∷_, map}
@@ -117,6 +118,19 @@ pub data Answer : Type 0 where
 pub record Outcome : Type 0 where
   pub answer : Answer
   pub state : State
+
+-- the steps that an answer tells; a refusal makes none
+unfoldable pub stepsOf : Answer → ℕ
+stepsOf (refused n line) = 0
+stepsOf (haltedAfter n k m) = n
+stepsOf (pausedAfter n) = n
+stepsOf (stackFullAfter n) = n
+stepsOf (heapFullAfter n) = n
+stepsOf (stuckAfter n) = n
+
+-- the call was refused, with some number and line
+abbrev pub IsRefused : Outcome → Type 0
+IsRefused o = (n : ℕ) × (line : ℕ) × (o .answer ≡ refused n line)
 
 -- the answer to a run: its end, its steps, and r1 if it halted
 unfoldable pub answerOf : End → ℕ → Word → Answer

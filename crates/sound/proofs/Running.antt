@@ -7,9 +7,9 @@ use Rattle.types.specs.Types.{Arg}
 use Rattle.valid.specs.Program.{Program}
 use Rattle.valid.specs.Rules.{Typed}
 use Rattle.exec.specs.Machine.{Word, State, halted, stackFull, heapFull, stuck, Result, go, stop, step}
-use Rattle.exec.specs.Run.{End, paused, stopped, Ran, ended, after, run, answerOf, outcome, bodies}
+use Rattle.exec.specs.Run.{End, paused, stopped, Ran, ended, after, run, stepsOf, answerOf, outcome, bodies}
 use Rattle.sound.specs.Values.{Tuples}
-use Rattle.sound.specs.Claim.{Place, Picks, Makes, Walk, here, onward, Ends, stepsOf, Later, Runs}
+use Rattle.sound.specs.Claim.{Place, Picks, Makes, Walk, here, onward, Ends, Later, Runs}
 use Rattle.sound.proofs.Parts.{SmallTypes}
 use Rattle.sound.proofs.Invariant.{Inv, inv-typed}
 use Rattle.sound.proofs.Step.{Safe, safe}

@@ -12,7 +12,7 @@ use Rattle.valid.specs.Program.{Block, Program, typeOf, programOf}
 use Rattle.valid.specs.Rules.{Context, Before, ints}
 use Rattle.valid.specs.Verdict.{check, accepted}
 use Rattle.exec.specs.Machine.{Word, Memory, at, State, Bodies, startOf, fetch, stuck, go, stop, step}
-use Rattle.exec.specs.Run.{inUse, Answer, refused, haltedAfter, pausedAfter, stackFullAfter, heapFullAfter, stuckAfter, Outcome, bodies, initial, starting, continuing}
+use Rattle.exec.specs.Run.{inUse, Answer, refused, haltedAfter, pausedAfter, stackFullAfter, heapFullAfter, stuckAfter, Outcome, stepsOf, bodies, initial, starting, continuing}
 use Rattle.sound.specs.Values.{Tuples, Has, Fits, Heap}
 
 -- the stack's words from the top
@@ -78,15 +78,6 @@ Ends P σ Θ Ψ (pausedAfter n) = Unit
 Ends P σ Θ Ψ (stackFullAfter n) = Unit
 Ends P σ Θ Ψ (heapFullAfter n) = Unit
 Ends P σ Θ Ψ (stuckAfter n) = ⊥
-
--- the steps that an answer tells; a refusal makes none
-unfoldable pub stepsOf : Answer → ℕ
-stepsOf (refused n line) = 0
-stepsOf (haltedAfter n k m) = n
-stepsOf (pausedAfter n) = n
-stepsOf (stackFullAfter n) = n
-stepsOf (heapFullAfter n) = n
-stepsOf (stuckAfter n) = n
 
 -- what is claimed of a state that a call is given, and of the calls from there on
 abbrev pub Later : Type 1

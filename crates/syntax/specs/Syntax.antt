@@ -3,6 +3,10 @@ use Prim.Native.Nat.{ℕ}
 use mathlib.Core.Option.{Option}
 use mathlib.Core.List.{List}
 
+-- "Registers are r1 to r8."
+abbrev pub registerCount : ℕ
+registerCount = 8
+
 -- "one letter per bound variable (v value, s stack)"
 pub data Kind : Type 0 where
   value stack : Kind
