@@ -68,7 +68,7 @@ first-registers P m n l =
       fits = rw (use-puts m 0 8 firstWords l (omega arith)) (entry-fits P n);
     }
 
-pub first-inv : (P : Program) (T : Typed P) (xs : List ℕ) (σ : State) → length xs ≡ T .samples → length xs ≤ 16 → Long (σ .registers) 8 → Long (σ .stack) 256 → Long (σ .heap) 2048 → Inv P (initial xs σ) (record { l = 0; i = 0; B = T .first }) [] (ints (length xs) ∷ [])
+pub first-inv : (P : Program) (T : Typed P) (xs : List ℕ) (σ : State) → length xs ≡ T .samples → length xs ≤ 16 → Long (σ .registers) 8 → Long (σ .stack) 256 → Long (σ .heap) 2048 → Inv P (initial xs σ) (record { l = 0; i = 0; B = T .first; Θ = []; Ψ = ints (length xs) ∷ [] })
 unfolding initial
 first-inv P T xs σ e h r s m =
     record {

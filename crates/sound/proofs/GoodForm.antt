@@ -8,7 +8,7 @@ use mathlib.Core.List.{List, [], _∷_, _++_}
 use lib.ListN.{length, drop}
 use lib.Dec.{leb}
 use Rattle.syntax.specs.Syntax.{stack, Instr, jmp, halt}
-use Rattle.types.specs.Types.{Ty, items, Arg}
+use Rattle.types.specs.Types.{Ty, items}
 use Rattle.types.proofs.Equal.{and-inv}
 use Rattle.types.proofs.Filling.{get-lt}
 use Rattle.valid.specs.Program.{Program}
@@ -16,7 +16,7 @@ use Rattle.valid.specs.Rules.{Seq, ⊢seq, ⊢jmp, ⊢halt}
 use Rattle.exec.specs.Machine.{Word, integer, Memory, capacity, at, State, flat, fetch}
 use Rattle.exec.specs.Run.{wordsFrom, inUse, tupleLength, endToEnd, startsAt, goodWord, goodWords, goodForm, longEnough, bodies}
 use Rattle.sound.specs.Values.{Tuples, Made, made, later, Heap, empty, one}
-use Rattle.sound.specs.Claim.{Place}
+use Rattle.sound.specs.Claim.{Witness}
 use Rattle.sound.proofs.Memory.{Long}
 use Rattle.sound.proofs.Words.{Good, g-int, g-code, g-tuple, g-height, g-junk, GoodIn, fits-len}
 use Rattle.sound.proofs.Parts.{AllSmall}
@@ -95,11 +95,11 @@ true-long σ e =
     (omega arith, omega arith, omega arith)
 
 -- ---- the state
-module _ (P : Program) (σ : State) (π : Place) (Θ : List Arg) (Ψ : Tuples) (v : Inv P σ π Θ Ψ) where
-  found : (x : Instr) (xs : List Instr) → drop (π .i) (π .B .body) ≡ x ∷ xs → σ .position < length (flat (bodies P))
-  found x xs e = let f = fetch-is P σ (π .l) (π .i) (π .B) x xs (v .block) (v .place) e in unfold fetch in get-lt (flat (bodies P)) (σ .position) x f
+module _ (P : Program) (σ : State) (ω : Witness) (v : Inv P σ ω) where
+  found : (x : Instr) (xs : List Instr) → drop (ω .i) (ω .B .body) ≡ x ∷ xs → σ .position < length (flat (bodies P))
+  found x xs e = let f = fetch-is P σ (ω .l) (ω .i) (ω .B) x xs (v .block) (v .place) e in unfold fetch in get-lt (flat (bodies P)) (σ .position) x f
 
-  at-instruction : {rest : List Instr} → drop (π .i) (π .B .body) ≡ rest → Seq P (π .B .letters) (v .Γ) rest → σ .position < length (flat (bodies P))
+  at-instruction : {rest : List Instr} → drop (ω .i) (ω .B .body) ≡ rest → Seq P (ω .B .letters) (v .Γ) rest → σ .position < length (flat (bodies P))
   at-instruction e (⊢seq {x = x} {xs = xs} r q) = found x xs e
   at-instruction e (⊢jmp {v = o} t) = found (jmp o) [] e
   at-instruction e (⊢halt {t = t} w a) = found (halt t) [] e
@@ -109,8 +109,8 @@ module _ (P : Program) (σ : State) (π : Place) (Θ : List Arg) (Ψ : Tuples) (
   inv-form =
       let h = v .heaped in
       let H = inUse (σ .heap) (σ .used) in
-      let good = good-use P Ψ H (h .fits) (h .small) in
-      rw (le-true (σ .depth) 256 (v .stacked .limit), le-true (σ .used) 2048 (h .limit), lt-true (σ .position) (length (flat (bodies P))) (at-instruction (v .left) (v .seq)), heap-end P Ψ (h .fits) (h .small), good (σ .registers) 8 (v .registers .good), good (σ .stack) (σ .depth) (v .stacked .good), good (σ .heap) (σ .used) (h .good))
+      let good = good-use P (ω .Ψ) H (h .fits) (h .small) in
+      rw (le-true (σ .depth) 256 (v .stacked .limit), le-true (σ .used) 2048 (h .limit), lt-true (σ .position) (length (flat (bodies P))) (at-instruction (v .left) (v .seq)), heap-end P (ω .Ψ) (h .fits) (h .small), good (σ .registers) 8 (v .registers .good), good (σ .stack) (σ .depth) (v .stacked .good), good (σ .heap) (σ .used) (h .good))
 
   pub inv-long : longEnough σ ≡ true
   inv-long = long-true σ (v .registers .long) (v .stacked .long) (v .heaped .long)

@@ -58,7 +58,7 @@ module _ (P : Program) (T : Typed P) (Ψ : Tuples) (Θ : List Arg) (Δ : List Ki
       let k : fill 0 Θ (code (B .letters) (B .sp) (B .regs)) ≡ code (B .letters) (B .sp) (B .regs) = unfold fill in filling-closed Θ 0 (code (B .letters) (B .sp) (B .regs)) w in
       record {
         good = g-code refl;
-        has = rw k (refl, record { B = B; A = []; p = []; block = e; letters = rw append-nil; closed = noargs; stack-is = sym (fill-none (B .letters) aStack (B .sp) (w .0)); regs-are = sym (fill-none (B .letters) aFile (B .regs) (w .1)) });
+        has = rw k (refl, record { B = B; θ = []; p = []; block = e; letters = rw append-nil; closed = noargs; stack-is = sym (fill-none (B .letters) aStack (B .sp) (w .0)); regs-are = sym (fill-none (B .letters) aFile (B .regs) (w .1)) });
       }
 
   -- the heart of type application: the label's arguments grow by the new ones, closed
@@ -67,13 +67,13 @@ module _ (P : Program) (T : Typed P) (Ψ : Tuples) (Θ : List Arg) (Δ : List Ki
       let j : length L ≡ length q + length p = rw (e, length-append) in
       record {
         B = x .B;
-        A = map (fillArg Θ) A ++ x .A;
+        θ = map (fillArg Θ) A ++ x .θ;
         p = p ++ x .p;
         block = x .block;
         letters = x .letters ∙ ap (λ z. z ++ x .p) e ∙ append-assoc q p (x .p);
         closed = args-app (close-args Θ Δ c xs) (x .closed);
-        stack-is = refill Θ A (x .A) Δ p (x .p) (length q) (length L) a (x .B .sp) c xs (x .closed) j (x .stack-is);
-        regs-are = refill Θ A (x .A) Δ p (x .p) (length q) (length L) r (x .B .regs) c xs (x .closed) j (x .regs-are);
+        stack-is = refill Θ A (x .θ) Δ p (x .p) (length q) (length L) a (x .B .sp) c xs (x .closed) j (x .stack-is);
+        regs-are = refill Θ A (x .θ) Δ p (x .p) (length q) (length L) r (x .B .regs) c xs (x .closed) j (x .regs-are);
       }
 
   pub operand-holds : {v : Operand} {t : Ty value} → OfOperand P Δ g v t → Holds P Ψ (wordOf R v) (fill 0 Θ t)

@@ -2,21 +2,14 @@
 -- leaves has the invariant.
 use Prim.Native.Nat.{ℕ, zero, suc}
 use mathlib.Core.Path.{_≡_, refl}
-use mathlib.Core.List.{List}
-use Rattle.types.specs.Types.{Arg}
 use Rattle.valid.specs.Program.{Program}
 use Rattle.valid.specs.Rules.{Typed}
-use Rattle.exec.specs.Machine.{Word, State, halted, stackFull, heapFull, stuck, Result, go, stop, step}
-use Rattle.exec.specs.Run.{End, paused, stopped, Ran, ended, after, run, stepsOf, answerOf, outcome, bodies}
-use Rattle.sound.specs.Values.{Tuples}
-use Rattle.sound.specs.Claim.{Place, Picks, Makes, Walk, here, onward, Ends, Later, Runs}
+use Rattle.exec.specs.Machine.{Word, at, State, halted, stackFull, heapFull, stuck, Result, go, stop, step}
+use Rattle.exec.specs.Run.{End, paused, stopped, Ran, ended, after, run, stepsOf, Outcome, answerOf, outcome, bodies}
+use Rattle.sound.specs.Claim.{Witness, Picks, Makes, Walk, here, onward, Ends, Runs}
 use Rattle.sound.proofs.Parts.{SmallTypes}
 use Rattle.sound.proofs.Invariant.{Inv, inv-typed}
 use Rattle.sound.proofs.Step.{Safe, safe}
-
--- what is claimed of the calls from a state with the invariant on
-abbrev pub Leads : Program → Later → Type 0
-Leads P later = (σ : State) (π : Place) (Θ : List Arg) (Ψ : Tuples) → Inv P σ π Θ Ψ → later σ π Θ Ψ
 
 -- the answer counts the steps made
 steps-are : (e : End) (n : ℕ) (w : Word) → stepsOf (answerOf e n w) ≡ n
@@ -28,40 +21,43 @@ steps-are (stopped heapFull) n w = refl
 steps-are (stopped stuck) n w = refl
 
 module _ (P : Program) (T : Typed P) (small : SmallTypes P) where
-  -- what a run from σ comes to
-  record Reaches (σ : State) (π : Place) (Θ : List Arg) (Ψ : Tuples) (r : Ran) : Type 0 where
-    π′ : Place
-    Θ′ : List Arg
-    Ψ′ : Tuples
-    walk : Walk P σ π Θ Ψ (r .steps) (r .state) π′ Θ′ Ψ′
-    end : (n : ℕ) (w : Word) → Ends P (r .state) Θ′ Ψ′ (answerOf (r .end) n w)
-    inv : Inv P (r .state) π′ Θ′ Ψ′
+  -- what a run from σ comes to; r1's word is told where it halts
+  record Reaches (σ : State) (ω : Witness) (r : Ran) : Type 0 where
+    ω′ : Witness
+    walk : Walk P σ ω (r .steps) (r .state) ω′
+    end : (n : ℕ) → Ends P (r .state) ω′ (answerOf (r .end) n (at (r .state .registers) 0))
+    inv : Inv P (r .state) ω′
 
-  module _ (σ : State) (π : Place) (Θ : List Arg) (Ψ : Tuples) (v : Inv P σ π Θ Ψ) where
+  module _ (σ : State) (ω : Witness) (v : Inv P σ ω) where
     -- a run that makes no step
-    still : (e : End) → ((n : ℕ) (w : Word) → Ends P σ Θ Ψ (answerOf e n w)) → Reaches σ π Θ Ψ (ended e σ)
-    still e f = record { π′ = π; Θ′ = Θ; Ψ′ = Ψ; walk = here (inv-typed P T v) (λ s. rw s at (safe P T small σ π Θ Ψ v)); end = f; inv = v }
+    still : (e : End) → ((n : ℕ) → Ends P σ ω (answerOf e n (at (σ .registers) 0))) → Reaches σ ω (ended e σ)
+    still e f = record { ω′ = ω; walk = here (inv-typed P T v) (λ s. rw s at (safe P T small σ ω v)); end = f; inv = v }
 
-    after-safe : (k : State → Ran) (r : Result State) → step (bodies P) σ ≡ r → Safe P σ π Θ Ψ r
-        → ((σ′ : State) (π′ : Place) (Θ′ : List Arg) (Ψ′ : Tuples) → step (bodies P) σ ≡ go σ′ → Picks π Θ π′ Θ′ → Makes P σ Θ Ψ Ψ′ → Inv P σ′ π′ Θ′ Ψ′ → Reaches σ π Θ Ψ (k σ′)) → Reaches σ π Θ Ψ (after σ r k)
+    after-safe : (k : State → Ran) (r : Result State) → step (bodies P) σ ≡ r → Safe P σ ω r
+        → ((σ′ : State) (ω′ : Witness) → step (bodies P) σ ≡ go σ′ → Picks P σ ω ω′ → Makes P σ ω ω′ → Inv P σ′ ω′ → Reaches σ ω (k σ′)) → Reaches σ ω (after σ r k)
     unfolding after answerOf
-    after-safe k (go σ′) e s f = f σ′ (s .0) (s .1) (s .2) e (s .3) (s .4) (s .5)
-    after-safe k (stop halted) e s f = still (stopped halted) (λ n w. s)
-    after-safe k (stop stackFull) e s f = still (stopped stackFull) (λ n w. tt)
-    after-safe k (stop heapFull) e s f = still (stopped heapFull) (λ n w. tt)
+    after-safe k (go σ′) e s f = f σ′ (s .0) e (s .1) (s .2) (s .3)
+    after-safe k (stop halted) e s f = still (stopped halted) (λ n. s)
+    after-safe k (stop stackFull) e s f = still (stopped stackFull) (λ n. tt)
+    after-safe k (stop heapFull) e s f = still (stopped heapFull) (λ n. tt)
     after-safe k (stop stuck) e s f = absurd s
 
-  run-safe : (m : ℕ) (σ : State) (π : Place) (Θ : List Arg) (Ψ : Tuples) → Inv P σ π Θ Ψ → Reaches σ π Θ Ψ (run (bodies P) m σ)
+  run-safe : (m : ℕ) (σ : State) (ω : Witness) → Inv P σ ω → Reaches σ ω (run (bodies P) m σ)
   unfolding run answerOf
-  run-safe zero σ π Θ Ψ v = after-safe σ π Θ Ψ v _ (step (bodies P) σ) refl (safe P T small σ π Θ Ψ v) (λ σ′ π′ Θ′ Ψ′ e p m w. still σ π Θ Ψ v paused (λ n z. tt))
-  run-safe (suc m) σ π Θ Ψ v = after-safe σ π Θ Ψ v _ (step (bodies P) σ) refl (safe P T small σ π Θ Ψ v) (λ σ′ π′ Θ′ Ψ′ e p n w.
-      let r = run-safe m σ′ π′ Θ′ Ψ′ w in
-      record { π′ = r .π′; Θ′ = r .Θ′; Ψ′ = r .Ψ′; walk = onward (inv-typed P T v) e p n (r .walk); end = r .end; inv = r .inv })
+  run-safe zero σ ω v = after-safe σ ω v _ (step (bodies P) σ) refl (safe P T small σ ω v) (λ σ′ ω′ e p m w. still σ ω v paused (λ n. tt))
+  run-safe (suc m) σ ω v = after-safe σ ω v _ (step (bodies P) σ) refl (safe P T small σ ω v) (λ σ′ ω′ e p n w.
+      let r = run-safe m σ′ ω′ w in
+      record { ω′ = r .ω′; walk = onward (inv-typed P T v) e p n (r .walk); end = r .end; inv = r .inv })
 
-  -- the call's answer and the state that it leaves
-  pub runs : (m : ℕ) (σ : State) (π : Place) (Θ : List Arg) (Ψ : Tuples) (later : Later) → Inv P σ π Θ Ψ → Leads P later → Runs P σ π Θ Ψ (outcome (run (bodies P) m σ)) later
+  -- a call that runs as claimed, to a state that has the invariant
+  pub record RunsOn (σ : State) (ω : Witness) (o : Outcome) : Type 0 where
+    pub ω′ : Witness
+    pub runs : Runs P σ ω o ω′
+    pub inv : Inv P (o .state) ω′
+
+  pub runs-on : (m : ℕ) (σ : State) (ω : Witness) → Inv P σ ω → RunsOn σ ω (outcome (run (bodies P) m σ))
   unfolding outcome
-  runs m σ π Θ Ψ later v f =
+  runs-on m σ ω v =
       let o = run (bodies P) m σ in
-      let r = run-safe m σ π Θ Ψ v in
-      record { π′ = r .π′; Θ′ = r .Θ′; Ψ′ = r .Ψ′; walk = rw steps-are (r .walk); end = r .end (o .steps) _; rest = f (o .state) (r .π′) (r .Θ′) (r .Ψ′) (r .inv) }
+      let r = run-safe m σ ω v in
+      record { ω′ = r .ω′; runs = record { walk = rw steps-are (r .walk); end = r .end (o .steps) }; inv = r .inv }

@@ -4,6 +4,7 @@ use native.Mathlib.Nat.{add-zero, add-suc}
 use native.Mathlib.Omega.{arith}
 use mathlib.Core.Path.{_≡_, refl, ap, sym, _∙_}
 use mathlib.Core.Bool.{Bool, true, false, _&&_, cond}
+use mathlib.Core.Option.{some}
 use mathlib.Core.List.{List, [], _∷_, _++_, map}
 use lib.ListN.{length, length-map, drop}
 use lib.Dec.{leb, ltb, eqb, leb→le, le→leb, lt→ltb, eqb-refl}
@@ -13,10 +14,10 @@ use Rattle.types.proofs.Equal.{so-true, to-so}
 use Rattle.types.proofs.Filling.{walk-join, get-lt, fill-wf}
 use Rattle.valid.specs.Program.{Program, typeOf}
 use Rattle.valid.specs.Rules.{At, Put, Context, withRegs, withSp, OfOperand, OfOperands, ⊢none, ⊢more, Target, target, Rule, ⊢aop, ⊢bop, ⊢ld, ⊢malloc, ⊢mov, ⊢get-sp, ⊢set-sp, ⊢salloc, ⊢sfree, ⊢sld1, ⊢sld2, ⊢sst1, ⊢sst2, ⊢st, Seq, ⊢seq, ⊢jmp, ⊢halt, start, next, atStart, Typed}
-use Rattle.exec.specs.Machine.{Word, intKind, codeKind, tupleKind, heightKind, integer, handle, height, Memory, at, put, puts, State, stackLimit, heapLimit, Stop, halted, stackFull, heapFull, stuck, Result, go, stop, signOf, taken, wordOf, only, unless, setRegister, setStack, setPosition, lengthAt, jump, exec, step}
+use Rattle.exec.specs.Machine.{Word, intKind, codeKind, tupleKind, heightKind, integer, label, handle, height, Memory, at, put, puts, State, fetch, stackLimit, heapLimit, Stop, halted, stackFull, heapFull, stuck, Result, go, stop, signOf, taken, wordOf, only, unless, setRegister, setStack, setPosition, lengthAt, jump, exec, step}
 use Rattle.exec.specs.Run.{bodies}
 use Rattle.sound.specs.Values.{Tuples, Made, Has}
-use Rattle.sound.specs.Claim.{Place, Picks, kept, picked, Makes, none-made, one-made, Halts}
+use Rattle.sound.specs.Claim.{Witness, Picks, kept, jumped, branched, Makes, none-made, one-made, Halts}
 use Rattle.sound.proofs.Words.{g-int, g-tuple, g-height, Holds, fits-len, at-lt, put-items, walk-at, walk-put, walk-pops, walk-junks}
 use Rattle.sound.proofs.Parts.{SmallTypes, Registers, register-write, register-retype, registers-more, Stacked, stacked-items, stack-read, stack-pop, stack-junk, stack-more, stack-cut, stack-write, stack-set, Heaped, tuple-length, tuple-read, tuple-write, tuple-made, tuple-new}
 use Rattle.sound.proofs.Invariant.{Inv}
@@ -24,12 +25,12 @@ use Rattle.sound.proofs.Operands.{fill-code, register-holds, operand-ho
 use Rattle.sound.proofs.Positions.{first-drop, fetch-is}
 
 -- what a step comes to
-abbrev pub Safe : (P : Program) (σ : State) (π : Place) (Θ : List Arg) (Ψ : Tuples) → Result State → Type 0
-Safe P σ π Θ Ψ (go σ′) = (π′ : Place) × (Θ′ : List Arg) × (Ψ′ : Tuples) × Picks π Θ π′ Θ′ × Makes P σ Θ Ψ Ψ′ × Inv P σ′ π′ Θ′ Ψ′
-Safe P σ π Θ Ψ (stop halted) = Halts P σ Θ Ψ
-Safe P σ π Θ Ψ (stop stackFull) = Unit
-Safe P σ π Θ Ψ (stop heapFull) = Unit
-Safe P σ π Θ Ψ (stop stuck) = ⊥
+abbrev pub Safe : (P : Program) (σ : State) (ω : Witness) → Result State → Type 0
+Safe P σ ω (go σ′) = (ω′ : Witness) × Picks P σ ω ω′ × Makes P σ ω ω′ × Inv P σ′ ω′
+Safe P σ ω (stop halted) = Halts P σ ω (at (σ .registers) 0)
+Safe P σ ω (stop stackFull) = Unit
+Safe P σ ω (stop heapFull) = Unit
+Safe P σ ω (stop stuck) = ⊥
 
 -- ---- the machine's tests
 module _ (Q : Result State → Type 0) where
@@ -50,8 +51,8 @@ module _ (Q : Result State → Type 0) where
   unfolding unless
   on-true s b r e q = rw e q
 
-  on-cond : (b : Bool) (x y : Result State) → Q x → Q y → Q (cond b x y)
-  on-cond true x y p q = p
+  on-cond : (b : Bool) (x y : Result State) → (b ≡ true → Q x) → Q y → Q (cond b x y)
+  on-cond true x y p q = p refl
   on-cond false x y p q = q
 
 pub le-true : (m n : ℕ) → m ≤ n → leb m n ≡ true
@@ -71,13 +72,23 @@ unfolding items
 operands-length P Δ g ⊢none = refl
 operands-length P Δ g (⊢more x xs) = ap suc (operands-length P Δ g xs)
 
+-- a word of a label's kind is a label
+labelled : (w : Word) → w .kind ≡ codeKind → w ≡ label (w .number)
+labelled w e = λ i. record { kind = e i; number = w .number }
+
 -- ---- one step
-module _ (P : Program) (T : Typed P) (small : SmallTypes P) (σ : State) (π : Place) (Θ : List Arg) (Ψ : Tuples) (v : Inv P σ π Θ Ψ) where
+module _ (P : Program) (T : Typed P) (small : SmallTypes P) (σ : State) (ω : Witness) (v : Inv P σ ω) where
   abbrev Q : Result State → Type 0
-  Q = Safe P σ π Θ Ψ
+  Q = Safe P σ ω
+
+  abbrev Θ : List Arg
+  Θ = ω .Θ
+
+  abbrev Ψ : Tuples
+  Ψ = ω .Ψ
 
   abbrev Δ : List Kind
-  Δ = π .B .letters
+  Δ = ω .B .letters
 
   abbrev g : Ty stack
   g = v .Γ .regs
@@ -85,9 +96,13 @@ module _ (P : Program) (T : Typed P) (small : SmallTypes P) (σ : State) (π : P
   -- the instruction x is next, and what follows it is typed under Γ′
   record Rest (x : Instr) (Γ′ : Context) : Type 0 where
     xs : List Instr
-    now : drop (π .i) (π .B .body) ≡ x ∷ xs
+    now : drop (ω .i) (ω .B .body) ≡ x ∷ xs
     rule : Rule P Δ (v .Γ) x Γ′
     seq : Seq P Δ Γ′ xs
+
+  -- it is what the machine fetches
+  found : {x : Instr} {Γ′ : Context} → Rest x Γ′ → fetch (bodies P) σ ≡ some x
+  found {x} k = fetch-is P σ (ω .l) (ω .i) (ω .B) x (k .xs) (v .block) (v .place) (k .now)
 
   read : {r : ℕ} {t : Ty value} → At g r t → Holds P Ψ (at (σ .registers) r) (fill 0 Θ t)
   read x = register-holds P T Ψ Θ Δ (v .picks) (σ .registers) g (v .registers) x
@@ -95,14 +110,16 @@ module _ (P : Program) (T : Typed P) (small : SmallTypes P) (σ : State) (π : P
   operand : {o : Operand} {t : Ty value} → OfOperand P Δ g o t → Holds P Ψ (wordOf (σ .registers) o) (fill 0 Θ t)
   operand x = operand-holds P T Ψ Θ Δ (v .picks) (σ .registers) g (v .registers) x
 
+  -- the witness at the next instruction
+  abbrev onwards : Tuples → Witness
+  onwards Ψ′ = record { l = ω .l; i = suc (ω .i); B = ω .B; Θ = Θ; Ψ = Ψ′ }
+
   -- to the next instruction
-  move : {x : Instr} {Γ′ : Context} {Ψ′ : Tuples} (R S H : Memory) (d u : ℕ) → Rest x Γ′ → Makes P σ Θ Ψ Ψ′ → Registers P Ψ′ R (fill 0 Θ (Γ′ .regs)) → Stacked P Ψ′ S d (fill 0 Θ (Γ′ .sp)) → Heaped P Ψ′ H u
+  move : {x : Instr} {Γ′ : Context} {Ψ′ : Tuples} (R S H : Memory) (d u : ℕ) → Rest x Γ′ → Makes P σ ω (onwards Ψ′) → Registers P Ψ′ R (fill 0 Θ (Γ′ .regs)) → Stacked P Ψ′ S d (fill 0 Θ (Γ′ .sp)) → Heaped P Ψ′ H u
       → Q (go (record { registers = R; stack = S; heap = H; depth = d; used = u; position = suc (σ .position) }))
   move {x} {Γ′} {Ψ′} R S H d u k m r s h =
-      let f = first-drop (π .B .body) (π .i) x (k .xs) (k .now) in (
-        record { l = π .l; i = suc (π .i); B = π .B },
-        Θ,
-        Ψ′,
+      let f = first-drop (ω .B .body) (ω .i) x (k .xs) (k .now) in (
+        onwards Ψ′,
         kept refl refl refl,
         m,
         record {
@@ -130,19 +147,17 @@ module _ (P : Program) (T : Typed P) (small : SmallTypes P) (σ : State) (π : P
   stacked-to S d k s = move (σ .registers) S (σ .heap) d (σ .used) k (none-made refl) (v .registers) s (v .heaped)
 
   -- a jump: the label's arguments are the new picks
-  leap : {o : Operand} → Target P Δ (v .Γ) o → Q (jump (bodies P) σ (wordOf (σ .registers) o))
+  leap : {o : Operand} → Target P Δ (v .Γ) o → ((ω′ : Witness) → wordOf (σ .registers) o ≡ label (ω′ .l) → ω′ .i ≡ 0 → Picks P σ ω ω′) → Q (jump (bodies P) σ (wordOf (σ .registers) o))
   unfolding jump bodies
-  leap {o} (target r x m) =
+  leap {o} (target r x m) f =
       let w = wordOf (σ .registers) o in
       let k : Has P Ψ w (code [] (fill 0 Θ (v .Γ .sp)) (fill 0 Θ r)) = rw fill-code at (operand x .has) in
       let L = k .1 in
       let l = w .number in
       let R = v .registers in
       on-kind Q codeKind w _ (k .0) (on-true Q stuck (ltb l (length (bodies P))) _ (rw length-map (lt-true l (length (P .blocks)) (get-lt (P .blocks) l (L .B) (L .block)))) (
-        record { l = l; i = 0; B = L .B },
-        L .A,
-        Ψ,
-        picked refl,
+        record { l = l; i = 0; B = L .B; Θ = L .θ; Ψ = Ψ },
+        f _ (labelled w (k .0)) refl,
         none-made refl,
         record {
           block = L .block;
@@ -186,7 +201,7 @@ module _ (P : Program) (T : Typed P) (small : SmallTypes P) (σ : State) (π : P
       let n : items c′ ≤ 16 = let a = fits-len P Ψ ws c′ (j .1) in let b = length-map vs (wordOf (σ .registers)) in let o = operands-length P Δ g xs in let s = small t c e in omega arith in
       let w′ = fill-wf Θ Δ (v .picks) aTuple c (rw e at w) in
       let m = tuple-made P Ψ (σ .heap) (σ .used) (v .heaped) c′ in
-      move _ _ _ _ _ k (one-made d t vs c′ (fetch-is P σ (π .l) (π .i) (π .B) (malloc d t vs) (k .xs) (v .block) (v .place) (k .now)) (rw e) refl)
+      move _ _ _ _ _ k (one-made d t vs c′ (found k) (rw e) refl)
       (register-write P (Ψ ++ Φ) (σ .registers) _ (registers-more P Ψ (σ .registers) _ (v .registers) Φ) (handle (σ .used)) (walk-put (filling Θ) 0 p) (record { good = g-tuple refl c′ m; has = (refl, m) }))
       (stack-more P Ψ (σ .stack) (σ .depth) Φ (v .stacked))
       (tuple-new P Ψ (σ .heap) (σ .used) (v .heaped) ws c′ w′ n (j .0) (j .1) (length vs) (sym (length-map vs (wordOf (σ .registers)))) l)
@@ -202,7 +217,7 @@ module _ (P : Program) (T : Typed P) (small : SmallTypes P) (σ : State) (π : P
   safe-rule k (⊢aop {o = o} {v = y} x z p) =
       on-kind Q intKind _ _ (read x .has) (on-kind Q intKind _ _ (operand z .has) (wrote _ k p (record { good = g-int refl; has = refl })))
   safe-rule k (⊢bop {o = o} {r = r} {v = y} x z) =
-      on-kind Q intKind _ _ (read x .has) (on-cond Q (taken o (signOf (at (σ .registers) r .number))) (jump (bodies P) σ (wordOf (σ .registers) y)) (go (setPosition σ (suc (σ .position)))) (leap z) (move _ _ _ _ _ k (none-made refl) (v .registers) (v .stacked) (v .heaped)))
+      on-kind Q intKind _ _ (read x .has) (on-cond Q (taken o (signOf (at (σ .registers) r .number))) (jump (bodies P) σ (wordOf (σ .registers) y)) (go (setPosition σ (suc (σ .position)))) (λ t. leap z (λ ω′ e i. branched o r y (found k) t e i)) (move _ _ _ _ _ k (none-made refl) (v .registers) (v .stacked) (v .heaped)))
   safe-rule k (⊢ld c {t = t} x y p) =
       let h = read x .has in
       let z = walk-at (filling Θ) 0 y in
@@ -244,12 +259,12 @@ module _ (P : Program) (T : Typed P) (small : SmallTypes P) (σ : State) (π : P
       on-kind Q tupleKind _ _ (h .0) (on-true Q stuck _ _ (in-tuple (h .1) j)
       (move _ _ _ _ _ k (none-made refl) (v .registers) (v .stacked) (tuple-write P Ψ (σ .heap) (σ .used) (v .heaped) _ (h .1) j (read z))))
 
-  safe-seq : {rest : List Instr} → drop (π .i) (π .B .body) ≡ rest → Seq P Δ (v .Γ) rest → Q (step (bodies P) σ)
+  safe-seq : {rest : List Instr} → drop (ω .i) (ω .B .body) ≡ rest → Seq P Δ (v .Γ) rest → Q (step (bodies P) σ)
   unfolding step
-  safe-seq e (⊢seq {x = x} {xs = xs} r q) = rw (fetch-is P σ (π .l) (π .i) (π .B) x xs (v .block) (v .place) e) (safe-rule (record { xs = xs; now = e; rule = r; seq = q }) r)
-  safe-seq e (⊢jmp {v = o} y) = rw (fetch-is P σ (π .l) (π .i) (π .B) (jmp o) [] (v .block) (v .place) e) (unfold exec in leap y)
-  safe-seq e (⊢halt {t = t} w x) = let h = fetch-is P σ (π .l) (π .i) (π .B) (halt t) [] (v .block) (v .place) e in rw h (unfold exec in record { t = t; at-halt = h; result = read x .has })
+  safe-seq e (⊢seq {x = x} {xs = xs} r q) = rw (fetch-is P σ (ω .l) (ω .i) (ω .B) x xs (v .block) (v .place) e) (safe-rule (record { xs = xs; now = e; rule = r; seq = q }) r)
+  safe-seq e (⊢jmp {v = o} y) = let h = fetch-is P σ (ω .l) (ω .i) (ω .B) (jmp o) [] (v .block) (v .place) e in rw h (unfold exec in leap y (λ ω′ f i. jumped o h f i))
+  safe-seq e (⊢halt {t = t} w x) = let h = fetch-is P σ (ω .l) (ω .i) (ω .B) (halt t) [] (v .block) (v .place) e in rw h (unfold exec in record { t = t; at-halt = h; r1 = refl; closed = fill-wf Θ Δ (v .picks) aStack (typeOf P t) w; result = read x .has })
 
   -- progress and preservation
-  pub safe : Safe P σ π Θ Ψ (step (bodies P) σ)
+  pub safe : Safe P σ ω (step (bodies P) σ)
   safe = safe-seq (v .left) (v .seq)

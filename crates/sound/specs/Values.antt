@@ -18,16 +18,16 @@ pub data Made : Tuples → ℕ → Ty stack → Type 0 where
   made : {c : Ty stack} {Ψ : Tuples} → Made (c ∷ Ψ) 0 c
   later : {c e : Ty stack} {a b : ℕ} {Ψ : Tuples} → Made Ψ a c → b ≡ suc (items e) + a → Made (e ∷ Ψ) b c
 
--- "each label whose block's row gives it when closed arguments fill its first variables, none, some or all": A fills the letters p
+-- "each label whose block's row gives it when closed arguments fill its first variables, none, some or all": θ fills the letters p
 pub record Label (P : Program) (l : ℕ) (q : List Kind) (a r : Ty stack) : Type 0 where
   pub B : Block
-  pub A : List Arg
+  pub θ : List Arg
   pub p : List Kind
   pub block : getElem? (P .blocks) l ≡ some B
   pub letters : B .letters ≡ q ++ p
-  pub closed : Args [] A p
-  pub stack-is : a ≡ fill (length q) A (B .sp)
-  pub regs-are : r ≡ fill (length q) A (B .regs)
+  pub closed : Args [] θ p
+  pub stack-is : a ≡ fill (length q) θ (B .sp)
+  pub regs-are : r ≡ fill (length q) θ (B .regs)
 
 module _ (P : Program) where
   -- the word has the closed type: "`I` integers and `N` junk; .. a tuple type, each handle whose tuple was made with it; .. a pointer
