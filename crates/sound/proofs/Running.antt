@@ -7,7 +7,7 @@ use Rattle.types.specs.Types.{Arg}
 use Rattle.valid.specs.Program.{Program}
 use Rattle.valid.specs.Rules.{Typed}
 use Rattle.exec.specs.Machine.{Word, State, halted, stackFull, heapFull, stuck, Result, go, stop, step}
-use Rattle.exec.specs.Run.{End, paused, stopped, Ran, ended, after, run, stepsOf, answerOf, outcome, bodies}
+use Rattle.exec.specs.Run.{End, paused, stopped, Ran, ended, after, runs as runsBy, run, stepsOf, answerOf, outcome, bodies}
 use Rattle.sound.specs.Values.{Tuples}
 use Rattle.sound.specs.Claim.{Place, Picks, Makes, Walk, here, onward, Ends, Later, Runs}
 use Rattle.sound.proofs.Parts.{SmallTypes}
@@ -29,7 +29,7 @@ steps-are (stopped stuck) n w = refl
 
 module _ (P : Program) (T : Typed P) (small : SmallTypes P) where
   -- what a run from σ comes to
-  record Reaches (σ : State) (π : Place) (Θ : List Arg) (Ψ : Tuples) (r : Ran) : Type 0 where
+  record Reaches (σ : State) (π : Place) (Θ : List Arg) (Ψ : Tuples) (r : Ran State) : Type 0 where
     π′ : Place
     Θ′ : List Arg
     Ψ′ : Tuples
@@ -42,7 +42,7 @@ module _ (P : Program) (T : Typed P) (small : SmallTypes P) where
     still : (e : End) → ((n : ℕ) (w : Word) → Ends P σ Θ Ψ (answerOf e n w)) → Reaches σ π Θ Ψ (ended e σ)
     still e f = record { π′ = π; Θ′ = Θ; Ψ′ = Ψ; walk = here (inv-typed P T v) (λ s. rw s at (safe P T small σ π Θ Ψ v)); end = f; inv = v }
 
-    after-safe : (k : State → Ran) (r : Result State) → step (bodies P) σ ≡ r → Safe P σ π Θ Ψ r
+    after-safe : (k : State → Ran State) (r : Result State) → step (bodies P) σ ≡ r → Safe P σ π Θ Ψ r
         → ((σ′ : State) (π′ : Place) (Θ′ : List Arg) (Ψ′ : Tuples) → step (bodies P) σ ≡ go σ′ → Picks π Θ π′ Θ′ → Makes P σ Θ Ψ Ψ′ → Inv P σ′ π′ Θ′ Ψ′ → Reaches σ π Θ Ψ (k σ′)) → Reaches σ π Θ Ψ (after σ r k)
     unfolding after answerOf
     after-safe k (go σ′) e s f = f σ′ (s .0) (s .1) (s .2) e (s .3) (s .4) (s .5)
@@ -52,7 +52,7 @@ module _ (P : Program) (T : Typed P) (small : SmallTypes P) where
     after-safe k (stop stuck) e s f = absurd s
 
   run-safe : (m : ℕ) (σ : State) (π : Place) (Θ : List Arg) (Ψ : Tuples) → Inv P σ π Θ Ψ → Reaches σ π Θ Ψ (run (bodies P) m σ)
-  unfolding run answerOf
+  unfolding runsBy answerOf
   run-safe zero σ π Θ Ψ v = after-safe σ π Θ Ψ v _ (step (bodies P) σ) refl (safe P T small σ π Θ Ψ v) (λ σ′ π′ Θ′ Ψ′ e p m w. still σ π Θ Ψ v paused (λ n z. tt))
   run-safe (suc m) σ π Θ Ψ v = after-safe σ π Θ Ψ v _ (step (bodies P) σ) refl (safe P T small σ π Θ Ψ v) (λ σ′ π′ Θ′ Ψ′ e p n w.
       let r = run-safe m σ′ π′ Θ′ Ψ′ w in
