@@ -45,7 +45,7 @@ never-refused (stopped heapFull) n w a b e = let z : _≡_ {A = ℕ} 0 1 = cc in
 never-refused (stopped stuck) n w a b e = let z : _≡_ {A = ℕ} 0 1 = cc in absurd (omega arith)
 
 -- ---- two runs
-adds : (r s : Ran) → Adds (outcome r) (outcome s) (outcome (more (r .steps) s))
+adds : (r s : Ran State) → Adds (outcome r) (outcome s) (outcome (more (r .steps) s))
 unfolding outcome
 adds r s = record {
   runs = λ z. never-refused (s .end) (s .steps) _ (z .0) (z .1) (z .2);

@@ -11,7 +11,7 @@ use Rattle.syntax.specs.Syntax.{Base, reg, lit, lab, Operand, plain, inst, Inst
 use Rattle.text.specs.PassOne.{isLast}
 use Rattle.types.proofs.Equal.{and-inv, to-so}
 use Rattle.exec.specs.Machine.{Word, intKind, codeKind, tupleKind, heightKind, integer, handle, junkWord, Memory, at, put, puts, State, stackLimit, heapLimit, Bodies, flat, startOf, fetch, Stop, stuck, Result, go, stop, signOf, taken, baseWord, wordOf, only, unless, setRegister, setStack, setHeap, setPosition, lengthAt, componentAt, jump, exec, execNext, step}
-use Rattle.exec.specs.Run.{wordsFrom, inUse, endToEnd, startsAt, goodWord, Ran, after, run}
+use Rattle.exec.specs.Run.{wordsFrom, inUse, endToEnd, startsAt, goodWord, Ran, after, runs, run}
 use Rattle.sound.proofs.Memory.{Long, put-long, puts-long, use-length, use-at, use-put, use-puts}
 use Rattle.sound.proofs.Step.{true-le}
 use Rattle.calls.proofs.All.{All, all-append, all-set, all-at, all-get, all-replicate, all-weaken}
@@ -224,12 +224,12 @@ module _ (P : Bodies) (σ : State) (f : Form P σ) where
     step-keeps = keep-next (fetch P σ) refl
 
 -- ---- runs
-after-keeps : (P : Bodies) (σ : State) (r : Result State) (k : State → Ran) → Form P σ → Keeps P r → ((σ′ : State) → Form P σ′ → Form P (k σ′ .state)) → Form P (after σ r k .state)
+after-keeps : (P : Bodies) (σ : State) (r : Result State) (k : State → Ran State) → Form P σ → Keeps P r → ((σ′ : State) → Form P σ′ → Form P (k σ′ .state)) → Form P (after σ r k .state)
 unfolding after
 after-keeps P σ (go σ′) k f h g = g σ′ h
 after-keeps P σ (stop s) k f h g = f
 
 pub run-keeps : (P : Bodies) → Startable P → (n : ℕ) (σ : State) → Form P σ → Form P (run P n σ .state)
-unfolding run
+unfolding runs
 run-keeps P s zero σ f = after-keeps P σ (step P σ) _ f (step-keeps P σ f s) (λ σ′ g. f)
 run-keeps P s (suc n) σ f = after-keeps P σ (step P σ) _ f (step-keeps P σ f s) (λ σ′ g. run-keeps P s n σ′ g)

@@ -1,5 +1,5 @@
 -- The machine, one step (document 01, "Machine"; Figures 7 and 8). Type arguments and rows do nothing at run time.
-use Prim.Native.Nat.{ℕ, zero, suc, _+_, _-_, _*_, _%_, min}
+use Prim.Native.Nat.{ℕ, suc, _+_, _-_, _*_, _%_, min}
 use mathlib.Core.Bool.{Bool, true, false, _&&_, cond}
 use mathlib.Core.Option.{Option, none, some}
 use mathlib.Core.List.{List, [], _∷_, _++_, map}
@@ -15,7 +15,8 @@ pub record Word : Type 0 where
   pub kind : ℕ
   pub number : ℕ
 
--- "r1's kind (int, code, tuple, height, junk)"
+-- "r1's kind (int, code, tuple, height, junk)", numbered from 0.
+-- the kind of an integer
 abbrev pub intKind : ℕ
 intKind = 0
 
@@ -35,7 +36,8 @@ heightKind = 3
 abbrev pub junkKind : ℕ
 junkKind = 4
 
--- the five words: an integer with bits n, label l, the handle of the tuple at heap word a, height p, junk
+-- The five words: an integer, a label, a tuple handle, a stack height, junk.
+-- the integer with bits n
 abbrev pub integer : ℕ → Word
 integer n = record { kind = intKind; number = n }
 
@@ -89,10 +91,11 @@ pub record State : Type 0 where
   pub position : ℕ
 
 -- "Limits: 256 stack words, 2,048 heap words."
+-- as many words may be in use on the stack
 abbrev pub stackLimit : ℕ
 stackLimit = 256
 
--- "2,048 heap words"
+-- as many words of the heap may be in use
 abbrev pub heapLimit : ℕ
 heapLimit = 2048
 
@@ -115,10 +118,10 @@ unfoldable pub fetch : Bodies → State → Option Instr
 fetch P σ = getElem? (flat P) (σ .position)
 
 -- ---- arithmetic and tests
--- "Sums, differences and products are taken modulo 2^32 and read as signed."
+-- "Sums, differences and products are taken modulo 2^32 and read as signed": the bits of the result; `signed` of crate syntax reads them.
 unfoldable pub compute : Arith → ℕ → ℕ → ℕ
 compute add x y = (x + y) % modulus
-compute sub x y = (x + (modulus - y)) % modulus
+compute sub x y = (x + (modulus - y % modulus)) % modulus
 compute mul x y = (x * y) % modulus
 
 -- the three signs of the branch tests
@@ -179,7 +182,8 @@ only k w f = cond (eqb (w .kind) k) (f (w .number)) (stop stuck)
 unfoldable pub unless : {A : Type 0} → Stop → Bool → Result A → Result A
 unless s b r = cond b r (stop s)
 
--- the next instruction, with a register, the stack or the heap changed
+-- The next instruction, with a register, the stack or the heap changed.
+-- register d holds w
 abbrev pub setRegister : State → ℕ → Word → State
 setRegister σ d w = record { registers = put (σ .registers) d w; stack = σ .stack; heap = σ .heap; depth = σ .depth; used = σ .used; position = suc (σ .position) }
 
@@ -191,11 +195,12 @@ setStack σ m d = record { registers = σ .registers; stack = m; heap = σ .heap
 abbrev pub setHeap : State → Memory → State
 setHeap σ m = record { registers = σ .registers; stack = σ .stack; heap = m; depth = σ .depth; used = σ .used; position = suc (σ .position) }
 
--- the next instruction is at p
+-- nothing changed, but the next instruction is at p
 abbrev pub setPosition : State → ℕ → State
 setPosition σ p = record { registers = σ .registers; stack = σ .stack; heap = σ .heap; depth = σ .depth; used = σ .used; position = p }
 
--- a tuple's length word and component i
+-- "A tuple takes a length word (an integer) and its components."
+-- the length of the tuple at heap word a, as its length word says
 abbrev pub lengthAt : State → ℕ → ℕ
 lengthAt σ a = at (σ .heap) a .number
 
@@ -203,11 +208,15 @@ lengthAt σ a = at (σ .heap) a .number
 abbrev pub componentAt : ℕ → ℕ → ℕ
 componentAt a i = a + suc i
 
--- "a jump or taken branch no existing label"
+-- "Through height p, index i is the word p - 1 - i from the bottom."
+abbrev pub through : ℕ → ℕ → ℕ
+through p i = p - suc i
+
+-- a jump to the word w: to the first instruction of its block; stuck if it is "no existing label"
 unfoldable pub jump : Bodies → State → Word → Result State
 jump P σ w = only codeKind w (λ l. unless stuck (ltb l (length P)) (go (setPosition σ (startOf P l))))
 
--- "Through height p, index i is the word p - 1 - i from the bottom."
+-- What an instruction does: one step of the paper's machine, within the limits; or the stop, by document 01's conditions.
 unfoldable pub exec : Bodies → State → Instr → Result State
 exec P σ (aop o d s v) = only intKind (at (σ .registers) s) (λ x. only intKind (wordOf (σ .registers) v) (λ y. go (setRegister σ d (integer (compute o x y)))))
 exec P σ (bop o r v) = only intKind (at (σ .registers) r) (λ x. cond (taken o (signOf x)) (jump P σ (wordOf (σ .registers) v)) (go (setPosition σ (suc (σ .position)))))
@@ -227,18 +236,18 @@ exec P σ (getsp d t) = go (setRegister σ d (height (σ .depth)))
 exec P σ (setsp s) = only heightKind (at (σ .registers) s) (λ p. unless stuck (leb p (σ .depth)) (go (setStack σ (σ .stack) p)))
 exec P σ (salloc n) = unless stackFull (leb (σ .depth + n) stackLimit) (go (setStack σ (puts (σ .stack) (σ .depth) (replicate n junkWord)) (σ .depth + n)))
 exec P σ (sfree n) = unless stuck (leb n (σ .depth)) (go (setStack σ (σ .stack) (σ .depth - n)))
-exec P σ (sld d i) = unless stuck (ltb i (σ .depth)) (go (setRegister σ d (at (σ .stack) (σ .depth - suc i))))
-exec P σ (sst i s) = unless stuck (ltb i (σ .depth)) (go (setStack σ (put (σ .stack) (σ .depth - suc i) (at (σ .registers) s)) (σ .depth)))
-exec P σ (slp d s i) = only heightKind (at (σ .registers) s) (λ p. unless stuck (leb p (σ .depth) && ltb i p) (go (setRegister σ d (at (σ .stack) (p - suc i)))))
-exec P σ (ssp d i s t) = only heightKind (at (σ .registers) d) (λ p. unless stuck (leb p (σ .depth) && ltb i p) (go (setStack σ (put (σ .stack) (p - suc i) (at (σ .registers) s)) (σ .depth))))
+exec P σ (sld d i) = unless stuck (ltb i (σ .depth)) (go (setRegister σ d (at (σ .stack) (through (σ .depth) i))))
+exec P σ (sst i s) = unless stuck (ltb i (σ .depth)) (go (setStack σ (put (σ .stack) (through (σ .depth) i) (at (σ .registers) s)) (σ .depth)))
+exec P σ (slp d s i) = only heightKind (at (σ .registers) s) (λ p. unless stuck (leb p (σ .depth) && ltb i p) (go (setRegister σ d (at (σ .stack) (through p i)))))
+exec P σ (ssp d i s t) = only heightKind (at (σ .registers) d) (λ p. unless stuck (leb p (σ .depth) && ltb i p) (go (setStack σ (put (σ .stack) (through p i) (at (σ .registers) s)) (σ .depth))))
 exec P σ (jmp v) = jump P σ (wordOf (σ .registers) v)
 exec P σ (halt t) = stop halted
 
--- what the instruction fetched does; stuck where there is none
+-- what the instruction fetched does; stuck where there is none, which good form shuts out
 abbrev pub execNext : Bodies → State → Option Instr → Result State
 execNext P σ none = stop stuck
 execNext P σ (some x) = exec P σ x
 
--- good form has the position at an instruction
+-- One step: the instruction at the position is executed.
 unfoldable pub step : Bodies → State → Result State
 step P σ = execNext P σ (fetch P σ)

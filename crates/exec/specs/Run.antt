@@ -1,14 +1,14 @@
 -- Runs with a budget, good form, starting and continuing (document 01, "Machine" and "Faults").
-use Prim.Native.Nat.{ℕ, zero, suc, _+_, min}
+use Prim.Native.Nat.{ℕ, zero, suc, _-_, min}
 use mathlib.Core.Path.{_≡_}
-use mathlib.Core.Bool.{Bool, true, false, _&&_, _||_, not, cond}
+use mathlib.Core.Bool.{Bool, true, false, _&&_, _||_, cond}
 use mathlib.Core.Option.{Option, none, some}
 use mathlib.Core.List.{List, [], _∷_, map}
 use lib.Dec.{leb, ltb, eqb}
-use lib.ListN.{length}
+use lib.ListN.{length, replicate}
 use Rattle.syntax.specs.Partial.{guarded}
 use Rattle.syntax.specs.Fault.{Refusal, earliest}
-use Rattle.syntax.specs.Syntax.{Instr}
+use Rattle.syntax.specs.Syntax.{registerCount}
 use Rattle.text.specs.Samples.{samplesOf}
 use Rattle.valid.specs.Program.{Block, Program, programOf}
 use Rattle.valid.specs.PassThree.{declared}
@@ -16,41 +16,46 @@ use Rattle.valid.specs.Verdict.{passes}
 use Rattle.exec.specs.Machine.{Word, intKind, codeKind, tupleKind, heightKind, junkKind, integer, handle, junkWord, Memory, capacity, at, puts, State, stackLimit, heapLimit, Bodies, flat, Stop, halted, stackFull, heapFull, stuck, Result, go, stop, step}
 
 -- ---- runs
--- how a run ends: at a stop, or paused; the steps made; the state
+-- how a run ends: paused, or at a stop
 pub data End : Type 0 where
   paused : End
   stopped : Stop → End
 
--- a run: its end, its steps, the state that it leaves
-pub record Ran : Type 0 where
+-- a run over states S: its end, the steps made, the state that it leaves
+pub record Ran (S : Type 0) : Type 0 where
   pub end : End
   pub steps : ℕ
-  pub state : State
+  pub state : S
 
 -- a run that ends at once
-abbrev pub ended : End → State → Ran
+abbrev pub ended : {S : Type 0} → End → S → Ran S
 ended e σ = record { end = e; steps = 0; state = σ }
 
 -- the run with a step before it
-abbrev pub oneMore : Ran → Ran
+abbrev pub oneMore : {S : Type 0} → Ran S → Ran S
 oneMore r = record { end = r .end; steps = suc (r .steps); state = r .state }
 
--- "Stop, state as before the instruction"
-unfoldable pub after : State → Result State → (State → Ran) → Ran
+-- "Stop, state as before the instruction": the run from σ by what the step there gives, a stop or the state that k goes on from
+unfoldable pub after : {S : Type 0} → S → Result S → (S → Ran S) → Ran S
 after σ (stop s) k = ended (stopped s) σ
 after σ (go σ′) k = k σ′
 
+-- The run from σ with a budget, by any step: a stop ends it, and where the budget is none a step that would go on is not made.
 -- "All these come first, whatever is left of the budget, even none; otherwise paused, exactly when the budget's steps are made."
-unfoldable pub run : Bodies → ℕ → State → Ran
-run P zero σ = after σ (step P σ) (λ σ′. ended paused σ)
-run P (suc n) σ = after σ (step P σ) (λ σ′. oneMore (run P n σ′))
+unfoldable pub runs : {S : Type 0} → (S → Result S) → ℕ → S → Ran S
+runs step zero σ = after σ (step σ) (λ σ′. ended paused σ)
+runs step (suc n) σ = after σ (step σ) (λ σ′. oneMore (runs step n σ′))
+
+-- the run of a program
+abbrev pub run : Bodies → ℕ → State → Ran State
+run P n σ = runs (step P) n σ
 
 -- "A budget above 1,000,000 is taken as 1,000,000"
 unfoldable pub budget : ℕ → ℕ
 budget m = min m 1000000
 
 -- ---- good form (16)
--- words 0 to n - 1
+-- n words in a row, from word i on
 unfoldable pub wordsFrom : Memory → ℕ → ℕ → List Word
 wordsFrom m i zero = []
 wordsFrom m i (suc n) = at m i ∷ wordsFrom m (suc i) n
@@ -99,13 +104,13 @@ goodForm P σ =
     && leb (σ .used) heapLimit
     && ltb (σ .position) (length (flat P))
     && endToEnd (inUse (σ .heap) (σ .used)) 0
-    && goodWords (inUse (σ .heap) (σ .used)) (inUse (σ .registers) 8)
+    && goodWords (inUse (σ .heap) (σ .used)) (inUse (σ .registers) registerCount)
     && goodWords (inUse (σ .heap) (σ .used)) (inUse (σ .stack) (σ .depth))
     && goodWords (inUse (σ .heap) (σ .used)) (inUse (σ .heap) (σ .used))
 
 -- not "lent memory shorter than the limits"
 unfoldable pub longEnough : State → Bool
-longEnough σ = leb 8 (capacity (σ .registers)) && leb stackLimit (capacity (σ .stack)) && leb heapLimit (capacity (σ .heap))
+longEnough σ = leb registerCount (capacity (σ .registers)) && leb stackLimit (capacity (σ .stack)) && leb heapLimit (capacity (σ .heap))
 
 -- ---- starting and continuing
 -- what starting and continuing answer
@@ -141,7 +146,7 @@ answerOf (stopped heapFull) n w = heapFullAfter n
 answerOf (stopped stuck) n w = stuckAfter n
 
 -- the outcome of a run
-unfoldable pub outcome : Ran → Outcome
+unfoldable pub outcome : Ran State → Outcome
 outcome r = record { answer = answerOf (r .end) (r .steps) (at (r .state .registers) 0); state = r .state }
 
 -- "A refusal leaves lent state unchanged."
@@ -170,7 +175,7 @@ barred text = barredBy (length (programOf text .types)) (earliest (passes text))
 -- "At the start samples form the first tuple, r1 its handle, other registers junk."
 unfoldable pub initial : List ℕ → State → State
 initial xs σ = record {
-  registers = puts (σ .registers) 0 (handle 0 ∷ junkWord ∷ junkWord ∷ junkWord ∷ junkWord ∷ junkWord ∷ junkWord ∷ junkWord ∷ []);
+  registers = puts (σ .registers) 0 (handle 0 ∷ replicate (registerCount - 1) junkWord);
   stack = σ .stack;
   heap = puts (σ .heap) 0 (integer (length xs) ∷ map integer xs);
   depth = 0;

@@ -5,7 +5,7 @@ use mathlib.Core.Path.{_≡_, refl}
 use Rattle.valid.specs.Program.{Program}
 use Rattle.valid.specs.Rules.{Typed}
 use Rattle.exec.specs.Machine.{Word, at, State, halted, stackFull, heapFull, stuck, Result, go, stop, step}
-use Rattle.exec.specs.Run.{End, paused, stopped, Ran, ended, after, run, stepsOf, Outcome, answerOf, outcome, bodies}
+use Rattle.exec.specs.Run.{End, paused, stopped, Ran, ended, after, runs, run, stepsOf, Outcome, answerOf, outcome, bodies}
 use Rattle.sound.specs.Claim.{Witness, Picks, Makes, Walk, here, onward, Ends, Runs}
 use Rattle.sound.proofs.Parts.{SmallTypes}
 use Rattle.sound.proofs.Invariant.{Inv, inv-typed}
@@ -22,7 +22,7 @@ steps-are (stopped stuck) n w = refl
 
 module _ (P : Program) (T : Typed P) (small : SmallTypes P) where
   -- what a run from σ comes to; r1's word is told where it halts
-  record Reaches (σ : State) (ω : Witness) (r : Ran) : Type 0 where
+  record Reaches (σ : State) (ω : Witness) (r : Ran State) : Type 0 where
     ω′ : Witness
     walk : Walk P σ ω (r .steps) (r .state) ω′
     end : (n : ℕ) → Ends P (r .state) ω′ (answerOf (r .end) n (at (r .state .registers) 0))
@@ -33,7 +33,7 @@ module _ (P : Program) (T : Typed P) (small : SmallTypes P) where
     still : (e : End) → ((n : ℕ) → Ends P σ ω (answerOf e n (at (σ .registers) 0))) → Reaches σ ω (ended e σ)
     still e f = record { ω′ = ω; walk = here (inv-typed P T v) (λ s. rw s at (safe P T small σ ω v)); end = f; inv = v }
 
-    after-safe : (k : State → Ran) (r : Result State) → step (bodies P) σ ≡ r → Safe P σ ω r
+    after-safe : (k : State → Ran State) (r : Result State) → step (bodies P) σ ≡ r → Safe P σ ω r
         → ((σ′ : State) (ω′ : Witness) → step (bodies P) σ ≡ go σ′ → Picks P σ ω ω′ → Makes P σ ω ω′ → Inv P σ′ ω′ → Reaches σ ω (k σ′)) → Reaches σ ω (after σ r k)
     unfolding after answerOf
     after-safe k (go σ′) e s f = f σ′ (s .0) e (s .1) (s .2) (s .3)
@@ -43,7 +43,7 @@ module _ (P : Program) (T : Typed P) (small : SmallTypes P) where
     after-safe k (stop stuck) e s f = absurd s
 
   run-safe : (m : ℕ) (σ : State) (ω : Witness) → Inv P σ ω → Reaches σ ω (run (bodies P) m σ)
-  unfolding run answerOf
+  unfolding runs answerOf
   run-safe zero σ ω v = after-safe σ ω v _ (step (bodies P) σ) refl (safe P T small σ ω v) (λ σ′ ω′ e p m w. still σ ω v paused (λ n. tt))
   run-safe (suc m) σ ω v = after-safe σ ω v _ (step (bodies P) σ) refl (safe P T small σ ω v) (λ σ′ ω′ e p n w.
       let r = run-safe m σ′ ω′ w in
