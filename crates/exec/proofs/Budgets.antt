@@ -11,10 +11,10 @@ use Rattle.exec.specs.Run.{paused, stopped, Ran, ended, oneMore, after, 
 abbrev pub more : {S : Type 0} → ℕ → Ran S → Ran S
 more k r = record { end = r .end; steps = k + r .steps; state = r .state }
 
-none-more : {S : Type 0} (r : Ran S) → more 0 r ≡ r
+pub none-more : {S : Type 0} (r : Ran S) → more 0 r ≡ r
 none-more r = λ i. record { end = r .end; steps = zero-add (r .steps) i; state = r .state }
 
-one-more : {S : Type 0} (k : ℕ) (r : Ran S) → more (suc k) r ≡ oneMore (more k r)
+pub one-more : {S : Type 0} (k : ℕ) (r : Ran S) → more (suc k) r ≡ oneMore (more k r)
 one-more k r = λ i. record { end = r .end; steps = suc-add k (r .steps) i; state = r .state }
 
 -- ---- by any step
@@ -22,30 +22,40 @@ module _ {S : Type 0} (next : S → Result S) where
   -- the three ways that a run begins: a stop, whatever the budget; a pause without budget; a step
   pub stops-at : (n : ℕ) {σ : S} {s : Stop} → next σ ≡ stop s → runs next n σ ≡ ended (stopped s) σ
   unfolding runs after
-  stops-at zero e = rw e
+  stops-at zero {σ} e = ap (λ r. after σ r (λ σ′. ended paused σ)) e
   stops-at (suc n) e = rw e
 
   pub pauses-at : {σ σ′ : S} → next σ ≡ go σ′ → runs next 0 σ ≡ ended paused σ
   unfolding runs after
-  pauses-at e = rw e
+  pauses-at {σ} e = ap (λ r. after σ r (λ σ′. ended paused σ)) e
 
   pub goes-on : (n : ℕ) {σ σ′ : S} → next σ ≡ go σ′ → runs next (suc n) σ ≡ oneMore (runs next n σ′)
   unfolding runs after
   goes-on n e = rw e
 
+  -- Induction over runs: what holds of one that stops at once and of one that pauses at once, and with a step before it if it holds
+  -- without, holds of every run.
+  pub by-runs : (C : ℕ → S → Ran S → Type 0) → ((n : ℕ) (σ : S) (s : Stop) → next σ ≡ stop s → C n σ (ended (stopped s) σ)) → ((σ σ′ : S) → next σ ≡ go σ′ → C 0 σ (ended paused σ))
+      → ((n : ℕ) (σ σ′ : S) (r : Ran S) → next σ ≡ go σ′ → C n σ′ r → C (suc n) σ (oneMore r)) → (n : ℕ) (σ : S) → C n σ (runs next n σ)
+  by-runs C at-stop at-pause at-step zero σ = by (next σ) refl
+    where
+      by : (r : Result S) → next σ ≡ r → C 0 σ (runs next 0 σ)
+      by (stop s) e = rw (stops-at 0 e) (at-stop 0 σ s e)
+      by (go σ′) e = rw (pauses-at e) (at-pause σ σ′ e)
+  by-runs C at-stop at-pause at-step (suc n) σ = by (next σ) refl (by-runs C at-stop at-pause at-step n)
+    where
+      by : (r : Result S) → next σ ≡ r → ((σ′ : S) → C n σ′ (runs next n σ′)) → C (suc n) σ (runs next (suc n) σ)
+      by (stop s) e ih = rw (stops-at (suc n) e) (at-stop (suc n) σ s e)
+      by (go σ′) e ih = rw (goes-on n e) (at-step n σ σ′ (runs next n σ′) e (ih σ′))
+
   -- ---- budgets add
-  first-none : (n : ℕ) (σ : S) (r : Result S) → next σ ≡ r → runs next n σ ≡ more (runs next 0 σ .steps) (runs next n (runs next 0 σ .state))
-  first-none n σ (go σ′) e = rw (pauses-at e) (sym (none-more (runs next n σ)))
-  first-none n σ (stop s) e = rw (stops-at 0 e) (sym (none-more (runs next n σ)))
-
-  then-one : (m n : ℕ) (σ : S) (r : Result S) → next σ ≡ r → ((σ′ : S) → runs next (m + n) σ′ ≡ more (runs next m σ′ .steps) (runs next n (runs next m σ′ .state)))
-      → runs next (suc (m + n)) σ ≡ more (runs next (suc m) σ .steps) (runs next n (runs next (suc m) σ .state))
-  then-one m n σ (go σ′) e ih = rw (goes-on (m + n) e, goes-on m e) (ap oneMore (ih σ′) ∙ sym (one-more (runs next m σ′ .steps) (runs next n (runs next m σ′ .state))))
-  then-one m n σ (stop s) e ih = rw (stops-at (suc (m + n)) e, stops-at (suc m) e) (sym (stops-at n e) ∙ sym (none-more (runs next n σ)))
-
   pub runs-twice : (m n : ℕ) (σ : S) → runs next (m + n) σ ≡ more (runs next m σ .steps) (runs next n (runs next m σ .state))
-  runs-twice zero n σ = rw zero-add (first-none n σ (next σ) refl)
-  runs-twice (suc m) n σ = rw suc-add (then-one m n σ (next σ) refl (runs-twice m n))
+  runs-twice m n σ =
+      by-runs (λ m σ r. runs next (m + n) σ ≡ more (r .steps) (runs next n (r .state)))
+      (λ m σ s e. stops-at (m + n) e ∙ sym (stops-at n e) ∙ sym (none-more (runs next n σ)))
+      (λ σ σ′ e. rw (zero-add n) (sym (none-more (runs next n σ))))
+      (λ m σ σ′ r e h. rw (suc-add m n) (goes-on (m + n) e ∙ ap oneMore h ∙ sym (one-more (r .steps) (runs next n (r .state)))))
+      m σ
 
   -- ---- "paused, exactly when the budget's steps are made": a pause has made them all, and a run that has not made them stopped
   record Counted (n : ℕ) (r : Ran S) : Type 0 where
@@ -53,16 +63,11 @@ module _ {S : Type 0} (next : S → Result S) where
     all-made : r .end ≡ paused → r .steps ≡ n
 
   counted : (n : ℕ) (σ : S) → Counted n (runs next n σ)
-  counted zero σ = none-made (next σ) refl
-    where
-      none-made : (r : Result S) → next σ ≡ r → Counted 0 (runs next 0 σ)
-      none-made (go σ′) e = rw (pauses-at e) (record { within = omega arith; all-made = λ p. refl })
-      none-made (stop s) e = rw (stops-at 0 e) (record { within = omega arith; all-made = λ p. refl })
-  counted (suc n) σ = one-made (next σ) refl (counted n)
-    where
-      one-made : (r : Result S) → next σ ≡ r → ((σ′ : S) → Counted n (runs next n σ′)) → Counted (suc n) (runs next (suc n) σ)
-      one-made (go σ′) e ih = let h = ih σ′ in rw (goes-on n e) (record { within = omega arith; all-made = λ p. ap suc (h .all-made p) })
-      one-made (stop s) e ih = rw (stops-at (suc n) e) (record { within = omega arith; all-made = λ p. let z : _≡_ {A = ℕ} 0 1 = cc in absurd (omega arith) })
+  counted =
+      by-runs (λ n σ r. Counted n r)
+      (λ n σ s e. record { within = omega arith; all-made = λ p. let z : _≡_ {A = ℕ} 0 1 = cc in absurd (omega arith) })
+      (λ σ σ′ e. record { within = omega arith; all-made = λ p. refl })
+      (λ n σ σ′ r e h. record { within = omega arith; all-made = λ p. ap suc (h .all-made p) })
 
   pub runs-within : (n : ℕ) (σ : S) → runs next n σ .steps ≤ n
   runs-within n σ = counted n σ .within

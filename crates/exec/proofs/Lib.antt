@@ -1,2 +1,5 @@
 pub mod Budgets
 pub mod Barred
+pub mod Calls
+pub mod Steps
+pub mod Numbers

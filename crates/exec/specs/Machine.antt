@@ -15,7 +15,8 @@ pub record Word : Type 0 where
   pub kind : ℕ
   pub number : ℕ
 
--- "r1's kind (int, code, tuple, height, junk)", numbered from 0.
+-- The five kinds, "int, code, tuple, height, junk", are numbered in that order.
+
 -- the kind of an integer
 abbrev pub intKind : ℕ
 intKind = 0
@@ -37,6 +38,7 @@ abbrev pub junkKind : ℕ
 junkKind = 4
 
 -- The five words: an integer, a label, a tuple handle, a stack height, junk.
+
 -- the integer with bits n
 abbrev pub integer : ℕ → Word
 integer n = record { kind = intKind; number = n }
@@ -53,7 +55,7 @@ handle a = record { kind = tupleKind; number = a }
 abbrev pub height : ℕ → Word
 height p = record { kind = heightKind; number = p }
 
--- "junk's number 0"
+-- junk: "junk's number 0"
 abbrev pub junkWord : Word
 junkWord = record { kind = junkKind; number = 0 }
 
@@ -75,7 +77,7 @@ at m i = record { kind = getD (m .kinds) i junkKind; number = getD (m .numbers) 
 unfoldable pub put : Memory → ℕ → Word → Memory
 put m i w = record { kinds = set (m .kinds) i (w .kind); numbers = set (m .numbers) i (w .number) }
 
--- words in a row, from i on
+-- words in a row replaced, from word i on
 unfoldable pub puts : Memory → ℕ → List Word → Memory
 puts m i [] = m
 puts m i (w ∷ ws) = puts (put m i w) (suc i) ws
@@ -90,12 +92,11 @@ pub record State : Type 0 where
   pub used : ℕ
   pub position : ℕ
 
--- "Limits: 256 stack words, 2,048 heap words."
--- as many words may be in use on the stack
+-- "Limits: 256 stack words, .."
 abbrev pub stackLimit : ℕ
 stackLimit = 256
 
--- as many words of the heap may be in use
+-- "Limits: .., 2,048 heap words."
 abbrev pub heapLimit : ℕ
 heapLimit = 2048
 
@@ -169,7 +170,7 @@ baseWord R (reg r) = at R r
 baseWord R (lit n) = integer n
 baseWord R (lab l) = label l
 
--- R̂(v)
+-- R̂(v) of the paper: the word of an operand, by the registers R
 unfoldable pub wordOf : Memory → Operand → Word
 wordOf R (plain b) = baseWord R b
 wordOf R (inst b ts t) = baseWord R b
@@ -178,29 +179,29 @@ wordOf R (inst b ts t) = baseWord R b
 unfoldable pub only : {A : Type 0} → ℕ → Word → (ℕ → Result A) → Result A
 only k w f = cond (eqb (w .kind) k) (f (w .number)) (stop stuck)
 
--- as long as the test holds; else the stop
+-- r if the test holds; else the stop s
 unfoldable pub unless : {A : Type 0} → Stop → Bool → Result A → Result A
 unless s b r = cond b r (stop s)
 
--- The next instruction, with a register, the stack or the heap changed.
+-- Four changes of the state: the first three go on to the next instruction, with a register, the stack or the heap changed.
+
 -- register d holds w
 abbrev pub setRegister : State → ℕ → Word → State
 setRegister σ d w = record { registers = put (σ .registers) d w; stack = σ .stack; heap = σ .heap; depth = σ .depth; used = σ .used; position = suc (σ .position) }
 
--- the stack's words are m, of which d are in use
+-- the stack is m, of which d words are in use
 abbrev pub setStack : State → Memory → ℕ → State
 setStack σ m d = record { registers = σ .registers; stack = m; heap = σ .heap; depth = d; used = σ .used; position = suc (σ .position) }
 
--- the heap's words are m
+-- the heap is m
 abbrev pub setHeap : State → Memory → State
 setHeap σ m = record { registers = σ .registers; stack = σ .stack; heap = m; depth = σ .depth; used = σ .used; position = suc (σ .position) }
 
--- nothing changed, but the next instruction is at p
+-- the next instruction is at p, and nothing else is changed
 abbrev pub setPosition : State → ℕ → State
 setPosition σ p = record { registers = σ .registers; stack = σ .stack; heap = σ .heap; depth = σ .depth; used = σ .used; position = p }
 
--- "A tuple takes a length word (an integer) and its components."
--- the length of the tuple at heap word a, as its length word says
+-- the length of the tuple at heap word a: "A tuple takes a length word (an integer) and its components"
 abbrev pub lengthAt : State → ℕ → ℕ
 lengthAt σ a = at (σ .heap) a .number
 

@@ -43,8 +43,8 @@ after σ (go σ′) k = k σ′
 -- The run from σ with a budget, by any step: a stop ends it, and where the budget is none a step that would go on is not made.
 -- "All these come first, whatever is left of the budget, even none; otherwise paused, exactly when the budget's steps are made."
 unfoldable pub runs : {S : Type 0} → (S → Result S) → ℕ → S → Ran S
-runs step zero σ = after σ (step σ) (λ σ′. ended paused σ)
-runs step (suc n) σ = after σ (step σ) (λ σ′. oneMore (runs step n σ′))
+runs next zero σ = after σ (next σ) (λ σ′. ended paused σ)
+runs next (suc n) σ = after σ (next σ) (λ σ′. oneMore (runs next n σ′))
 
 -- the run of a program
 abbrev pub run : Bodies → ℕ → State → Ran State

@@ -2,14 +2,15 @@
 use mathlib.Core.Path.{_≡_, refl, ap, ap₂, sym, _∙_, subst}
 use mathlib.Core.Bool.{Bool}
 use mathlib.Core.List.{List}
-use Prim.Native.Nat.{ℕ, zero, suc, _+_, _-_, _*_, _/_, _<_, _≤_}
+use Prim.Native.Nat.{ℕ, suc, _+_, _-_, _*_, _/_, _<_, _≤_}
 use native.Mathlib.Nat.{zero-add, add-zero}
 use native.Mathlib.Omega.{arith}
 use lib.Dec.{ltb}
 use lib.ListN.{length, getD}
 use borrow.Author.Tests.{ltb-true, ltb-false}
 use Rattle.exec.specs.Machine.{Memory, State, Bodies, Stop, Result, go, stop, step}
-use Rattle.exec.specs.Run.{Ran, paused, stopped, ended, oneMore, after, run}
+use Rattle.exec.specs.Run.{Ran, paused, stopped, ended, after, runs, run}
+use Rattle.exec.proofs.Budgets.{stops-at, pauses-at, goes-on}
 use Rattle.tables.specs.Tables.{cell}
 use Rattle.exec_words.specs.memory.Lent.{lent, Sourced}
 use Rattle.exec_machine.specs.declared.Place.{Place}
@@ -26,26 +27,12 @@ use Rattle.exec_step.specs.Rows.{formOf, FitRow}
 use Rattle.exec_run.specs.Runs.{later, Safe, Planned, PlaceIn}
 
 -- ---- runs
-none-before : (r : Ran) → later 0 r ≡ r
+none-before : (r : Ran State) → later 0 r ≡ r
 none-before r = λ i. record { end = r .end; steps = zero-add (r .steps) i; state = r .state }
-
-module _ (P : Bodies) (σ τ : State) where
-  one-step : (n : ℕ) → step P σ ≡ go τ → run P (suc n) σ ≡ oneMore (run P n τ)
-  unfolding run after
-  one-step n e = ap (λ (r : Result State). after σ r (λ σ′. oneMore (run P n σ′))) e
-
-  no-budget : step P σ ≡ go τ → run P 0 σ ≡ ended paused σ
-  unfolding run after
-  no-budget e = ap (λ (r : Result State). after σ r (λ σ′. ended paused σ)) e
-
-at-stop : (P : Bodies) (σ : State) (s : Stop) (n : ℕ) → step P σ ≡ stop s → run P n σ ≡ ended (stopped s) σ
-unfolding run after
-at-stop P σ s zero e = ap (λ (r : Result State). after σ r (λ σ′. ended paused σ)) e
-at-stop P σ s (suc n) e = ap (λ (r : Result State). after σ r (λ σ′. oneMore (run P n σ′))) e
 
 -- no step made
 first-state : (P : Bodies) (σ : State) → run P 0 σ .state ≡ σ
-unfolding run after
+unfolding runs after
 first-state P σ = by (step P σ)
   where
     by : (r : Result State) → after σ r (λ σ′. ended paused σ) .state ≡ σ
@@ -64,7 +51,7 @@ module _ (T : Tables) (σ : State) (safe : Safe T σ) where
   safe-next τ e =
       let P = safe .program in
       let q : step P σ ≡ go τ = sym (step-is T (safe .args) P (safe .represents) σ) ∙ e in
-      record { args = safe .args; program = P; represents = safe .represents; inside = λ n. subst InsideAt (ap (λ (r : Ran). r .state) (one-step P σ τ n q)) (safe .inside (suc n)) }
+      record { args = safe .args; program = P; represents = safe .represents; inside = λ n. subst InsideAt (ap (λ (r : Ran State). r .state) (goes-on (step P) n q)) (safe .inside (suc n)) }
 
 -- ---- one turn: n steps of b are left
 module _ (T : Tables) (args : List ℕ) (P : Bodies) (rep : Represents T args P) (σ : State) (b n : ℕ) where
@@ -72,20 +59,20 @@ module _ (T : Tables) (args : List ℕ) (P : Bodies) (rep : Represents T args P)
   turn-to τ l h e =
       let m : ℕ = n - 1 in
       let q : suc m ≡ n = omega arith in
-      let r : Ran = run P m τ in
+      let r : Ran State = run P m τ in
       let k : b - m + r .steps ≡ b - n + suc (r .steps) = omega arith in
       (λ i. record { end = r .end; steps = k i; state = r .state })
-      ∙ ap (later (b - n)) (sym (one-step P σ τ m (sym (step-is T args P rep σ) ∙ e)) ∙ ap (λ (m : ℕ). run P m σ) q)
+      ∙ ap (later (b - n)) (sym (goes-on (step P) m (sym (step-is T args P rep σ) ∙ e)) ∙ ap (λ (m : ℕ). run P m σ) q)
 
-  turn-waits : (τ : State) → n ≡ 0 → stepAt T σ ≡ go τ → _≡_ {A = Ran} (record { end = paused; steps = b - n; state = σ }) (later (b - n) (run P n σ))
+  turn-waits : (τ : State) → n ≡ 0 → stepAt T σ ≡ go τ → _≡_ {A = Ran State} (record { end = paused; steps = b - n; state = σ }) (later (b - n) (run P n σ))
   turn-waits τ q e =
       (λ i. record { end = paused; steps = sym (add-zero (b - n)) i; state = σ })
-      ∙ ap (later (b - n)) (sym (no-budget P σ τ (sym (step-is T args P rep σ) ∙ e)) ∙ ap (λ (m : ℕ). run P m σ) (sym q))
+      ∙ ap (later (b - n)) (sym (pauses-at (step P) (sym (step-is T args P rep σ) ∙ e)) ∙ ap (λ (m : ℕ). run P m σ) (sym q))
 
-  turn-stops : (s : Stop) → stepAt T σ ≡ stop s → _≡_ {A = Ran} (record { end = stopped s; steps = b - n; state = σ }) (later (b - n) (run P n σ))
+  turn-stops : (s : Stop) → stepAt T σ ≡ stop s → _≡_ {A = Ran State} (record { end = stopped s; steps = b - n; state = σ }) (later (b - n) (run P n σ))
   turn-stops s e =
       (λ i. record { end = stopped s; steps = sym (add-zero (b - n)) i; state = σ })
-      ∙ ap (later (b - n)) (sym (at-stop P σ s n (sym (step-is T args P rep σ) ∙ e)))
+      ∙ ap (later (b - n)) (sym (stops-at (step P) n (sym (step-is T args P rep σ) ∙ e)))
 
 -- ---- the loop: n steps of b are left at the row at `at`, and the rest of the run from there is the rest of the run from σ₀
 pub record Running (T : Tables) (b : ℕ) (σ₀ : State) (R S H : Memory) (n at h u : ℕ) : Type 0 where
@@ -151,7 +138,7 @@ module _ {T : Tables} {b : ℕ} {σ₀ : State} {R S H : Memory} {n at h u : ℕ
   still s p e = λ i. record { registers = s .registers i; stack = s .stack i; heap = s .heap i; depth = e i .depth; used = e i .used; position = e i .position }
 
   module _ {args : List ℕ} {P : Bodies} (rep : Represents T args P) {k : ℕ} (ek : k ≡ b - n) {p : Place} (ep : (j : ℕ) → at ≡ 8 * j → p ≡ record { depth = h; used = u; position = j }) where
-    pub waits : r ≡ moved.Paused → _≡_ {A = Ran} (record { end = paused; steps = k; state = record { registers = R′; stack = S′; heap = H′; depth = p .depth; used = p .used; position = p .position } }) (run P b σ₀)
+    pub waits : r ≡ moved.Paused → _≡_ {A = Ran State} (record { end = paused; steps = k; state = record { registers = R′; stack = S′; heap = H′; depth = p .depth; used = p .used; position = p .position } }) (run P b σ₀)
     waits e =
         let m = t .waits e in
         let z : n ≤ 0 = ltb-false 0 n (sym em ∙ m .budget) in
@@ -159,7 +146,7 @@ module _ {T : Tables} {b : ℕ} {σ₀ : State} {R S H : Memory} {n at h u : ℕ
         (λ i. record { end = paused; steps = ek i; state = still (m .still) p (ep (g .position) (g .place)) i })
         ∙ turn-waits T args P rep σ b n (m .next) q (m .result) ∙ g .ran args P rep
 
-    pub stops : {s : Reason} → r ≡ moved.Ended s → _≡_ {A = Ran} (record { end = stopped (stopIs s); steps = k; state = record { registers = R′; stack = S′; heap = H′; depth = p .depth; used = p .used; position = p .position } }) (run P b σ₀)
+    pub stops : {s : Reason} → r ≡ moved.Ended s → _≡_ {A = Ran State} (record { end = stopped (stopIs s); steps = k; state = record { registers = R′; stack = S′; heap = H′; depth = p .depth; used = p .used; position = p .position } }) (run P b σ₀)
     stops {s} e =
         let m = t .stops s e in
         (λ i. record { end = stopped (stopIs s); steps = ek i; state = still (m .still) p (ep (g .position) (g .place)) i })

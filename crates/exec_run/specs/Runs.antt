@@ -13,12 +13,12 @@ use Rattle.exec_run.specs.declared.Outcome.{Outcome}
 use Rattle.exec_run.specs.declared.Outcome.the-variants.{Paused, Ended}
 
 -- the answer, with the words that it left
-abbrev pub ranIs : Outcome → List ℕ → List ℕ → List ℕ → List ℕ → List ℕ → List ℕ → Ran
+abbrev pub ranIs : Outcome → List ℕ → List ℕ → List ℕ → List ℕ → List ℕ → List ℕ → Ran State
 ranIs (Paused n p) rk rn sk sn hk hn = record { end = paused; steps = n; state = stateOf rk rn sk sn hk hn p }
 ranIs (Ended s n p) rk rn sk sn hk hn = record { end = stopped (stopIs s); steps = n; state = stateOf rk rn sk sn hk hn p }
 
 -- k steps were made before
-abbrev pub later : ℕ → Ran → Ran
+abbrev pub later : ℕ → Ran State → Ran State
 later k r = record { end = r .end; steps = k + r .steps; state = r .state }
 
 -- the tables are those of a program whose run from σ only comes to states with each handle in a register at a tuple's start

@@ -36,7 +36,7 @@ module _ (x y r : ℕ) where
   pub differs : (op : ℕ) → op ≡ 1 → x < 2 ^ 32 → y < 2 ^ 32 → r < 2 ^ 32 → (r + y) % 2 ^ 32 ≡ x → r ≡ compute (arithOf op) x y
   unfolding arithOf compute
   differs op e hx hy hr h =
-      let d : r ≡ (x + (2 ^ 32 - y)) % 2 ^ 32 = omega arith in
+      let d : r ≡ (x + (2 ^ 32 - y % 2 ^ 32)) % 2 ^ 32 = omega arith in
       d ∙ ap (λ (o : ℕ). compute (arithOf o) x y) (sym e)
 
   pub multiplies : (op : ℕ) → (op ≡ 0 → ⊥) → (op ≡ 1 → ⊥) → r ≡ (x * y) % 2 ^ 32 → r ≡ compute (arithOf op) x y
