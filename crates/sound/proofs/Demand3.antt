@@ -17,8 +17,13 @@ use Rattle.valid.specs.Verdict.{passes}
 use Rattle.valid.proofs.Reading.{none-some}
 use Rattle.valid.proofs.Accept.{entry-declared, accepted-earliest, accepted-typed}
 use Rattle.exec.specs.Machine.{State}
+use Rattle.exec.proofs.Calls.{refused-or-not, continue-runs, start-runs}
+use Rattle.exec.proofs.Calls as calls
+use Rattle.exec.proofs.Numbers.{starting-unchanged}
 use Rattle.exec.specs.Run.{run, budget, goodForm, longEnough, Outcome, IsRefused, outcome, refuse, bodies, wanted, barred, initial, starting, continuing}
 use Rattle.sound.specs.Claim.{Witness, Runs, Starts, Call, starts, continues, Story, ended, start-refused, started, continued, Demand3}
+use Rattle.sound.specs.Consequences.{NeverStuck, AlwaysIntegers, ReachedAsTyped}
+use Rattle.sound.proofs.Consequences.{never-stuck-of, always-integers-of, reached-as-typed-of}
 use Rattle.sound.proofs.Short.{types-are-small, samples-small}
 use Rattle.sound.proofs.GoodForm.{true-long, inv-form, inv-long}
 use Rattle.sound.proofs.Running.{runs-on}
@@ -35,91 +40,58 @@ not-barred : (text : List ℕ) → earliest (passes text) ≡ none → barred te
 unfolding barred
 not-barred text e = rw e
 
--- ---- what a call comes to, once no fault bars it
-module _ (text : List ℕ) (free : barred text ≡ none) where
-  pub continue-runs : (m : ℕ) (σ : State) → longEnough σ ≡ true → goodForm (bodies (programOf text)) σ ≡ true → continuing text m σ ≡ outcome (run (bodies (programOf text)) (budget m) σ)
-  unfolding continuing
-  continue-runs m σ l g = rw (free, l, g)
-
-  module _ (samples : List ℕ) (m : ℕ) (σ : State) where
-    pub start-malformed : samplesOf samples ≡ none → starting text samples m σ ≡ refuse σ 15 0
-    unfolding starting
-    start-malformed e = rw (free, e)
-
-    module _ (xs : List ℕ) (e : samplesOf samples ≡ some xs) where
-      pub start-miscounted : eqb (length xs) (wanted (programOf text .blocks)) ≡ false → starting text samples m σ ≡ refuse σ 15 0
-      unfolding starting
-      start-miscounted c = rw (free, e, c)
-
-      module _ (c : eqb (length xs) (wanted (programOf text .blocks)) ≡ true) where
-        pub start-cramped : longEnough σ ≡ false → starting text samples m σ ≡ refuse σ 16 0
-        unfolding starting
-        start-cramped l = rw (free, e, c, l)
-
-        pub start-runs : longEnough σ ≡ true → starting text samples m σ ≡ outcome (run (bodies (programOf text)) (budget m) (initial xs σ))
-        unfolding starting
-        start-runs l = rw (free, e, c, l)
-
 -- ---- the whole list
 module _ (text : List ℕ) (free : barred text ≡ none) (T : Typed (programOf text)) where
   abbrev P : Program
   P = programOf text
 
-  -- a starting is refused and leaves the state, or runs to a state that has the invariant
+  -- a starting that runs, to a state that has the invariant
   record Began (samples : List ℕ) (m : ℕ) (σ : State) : Type 0 where
     ω′ : Witness
     starts : Starts text samples m σ ω′
     inv : Inv P (starting text samples m σ .state) ω′
 
-  record Left (σ : State) (o : Outcome) : Type 0 where
-    refused : IsRefused o
-    state : o .state ≡ σ
-
-  begin : (samples : List ℕ) (m : ℕ) (σ : State) → Left σ (starting text samples m σ) ⊎ Began samples m σ
-  begin samples m σ = read (samplesOf samples) refl
-    where
-      sized : (xs : List ℕ) → samplesOf samples ≡ some xs → eqb (length xs) (wanted (P .blocks)) ≡ true → (b : Bool) → longEnough σ ≡ b → Left σ (starting text samples m σ) ⊎ Began samples m σ
-      sized xs e c false l = inl (rw (start-cramped text free samples m σ xs e c l) (record { refused = (16, 0, refl); state = refl }))
-      sized xs e c true l =
-          let n : length xs ≡ T .samples = eqb→eq (length xs) (wanted (P .blocks)) (to-so _ c) ∙ wanted-is (P .blocks) (T .first) (T .samples) (T .has-first) (T .entry) in
-          let s = samples-small text T in
-          let k = true-long σ l in
-          let v = first-inv P T xs σ n (omega arith) (k .0) (k .1) (k .2) in
-          let o = start-runs text free samples m σ xs e c l in
-          let r = runs-on P T (types-are-small text) (budget m) (initial xs σ) _ v in
-          inr (record { ω′ = r .ω′; starts = record { xs = xs; read = e; first = T .first; declared = rw n (T .entry); runs = rw o (r .runs) }; inv = rw o (r .inv) })
-
-      counted : (xs : List ℕ) → samplesOf samples ≡ some xs → (b : Bool) → eqb (length xs) (wanted (P .blocks)) ≡ b → Left σ (starting text samples m σ) ⊎ Began samples m σ
-      counted xs e false c = inl (rw (start-miscounted text free samples m σ xs e c) (record { refused = (15, 0, refl); state = refl }))
-      counted xs e true c = sized xs e c (longEnough σ) refl
-
-      read : (o : Option (List ℕ)) → samplesOf samples ≡ o → Left σ (starting text samples m σ) ⊎ Began samples m σ
-      read none e = inl (rw (start-malformed text free samples m σ e) (record { refused = (15, 0, refl); state = refl }))
-      read (some xs) e = counted xs e (eqb (length xs) (wanted (P .blocks))) refl
+  begin : (samples : List ℕ) (m : ℕ) (σ : State) → ¬ IsRefused (starting text samples m σ) → Began samples m σ
+  begin samples m σ f =
+      let s = calls.started text samples m σ f in
+      let n : length (s .xs) ≡ T .samples = eqb→eq (length (s .xs)) (wanted (P .blocks)) (to-so _ (s .counted)) ∙ wanted-is (P .blocks) (T .first) (T .samples) (T .has-first) (T .entry) in
+      let l = samples-small text T in
+      let k = true-long σ (s .long) in
+      let v = first-inv P T (s .xs) σ n (omega arith) (k .0) (k .1) (k .2) in
+      let o = start-runs text s m in
+      let r = runs-on P T (types-are-small text) (budget m) (initial (s .xs) σ) _ v in
+      record { ω′ = r .ω′; starts = record { xs = s .xs; read = s .read; first = T .first; declared = rw n (T .entry); runs = rw o (r .runs) }; inv = rw o (r .inv) }
 
   -- the calls from a state that has the invariant on
   story : (cs : List Call) (σ : State) (ω : Witness) → Inv P σ ω → Story text cs σ ω
   story [] σ ω v = ended
-  story (starts samples m ∷ cs) σ ω v = go (story cs) (begin samples m σ)
+  story (starts samples m ∷ cs) σ ω v = go (story cs) (refused-or-not (starting text samples m σ))
     where
-      go : ((σ : State) (ω : Witness) → Inv P σ ω → Story text cs σ ω) → Left σ (starting text samples m σ) ⊎ Began samples m σ → Story text (starts samples m ∷ cs) σ ω
-      go f (inl r) = start-refused (r .refused) (r .state) (f σ ω v)
-      go f (inr r) = started (r .starts) (f (starting text samples m σ .state) (r .ω′) (r .inv))
+      go : ((σ : State) (ω : Witness) → Inv P σ ω → Story text cs σ ω) → IsRefused (starting text samples m σ) ⊎ (¬ IsRefused (starting text samples m σ)) → Story text (starts samples m ∷ cs) σ ω
+      go f (inl r) = start-refused r (starting-unchanged text samples m σ r) (f σ ω v)
+      go f (inr r) = let b = begin samples m σ r in started (b .starts) (f (starting text samples m σ .state) (b .ω′) (b .inv))
   story (continues m ∷ cs) σ ω v =
-      let o = continue-runs text free m σ (inv-long P σ ω v) (inv-form P σ ω v) in
+      let o = continue-runs text (record { free = free; long = inv-long P σ ω v; good = inv-form P σ ω v }) m in
       let r = runs-on P T (types-are-small text) (budget m) σ ω v in
       let run : Runs P σ ω (continuing text m σ) (r .ω′) = rw o (r .runs) in
       continued run (story cs (continuing text m σ .state) (r .ω′) (rw o (r .inv)))
 
 pub demand3 : Demand3
-demand3 text b i e samples m σ fine cs = go (begin text free T samples m σ)
-  where
-    free : barred text ≡ none
-    free = not-barred text (accepted-earliest text b i e)
+demand3 text b i e samples m σ fine cs =
+    let free = not-barred text (accepted-earliest text b i e) in
+    let T = accepted-typed text b i e .2 in
+    let r = begin text free T samples m σ fine in
+    (r .ω′, r .starts, story text free T cs (starting text samples m σ .state) (r .ω′) (r .inv))
 
-    T : Typed (programOf text)
-    T = accepted-typed text b i e .2
+-- ---- what follows from it
+-- no answer of such a list is stuck, and no continuing of it is refused
+pub never-stuck : NeverStuck
+never-stuck = never-stuck-of demand3
 
-    go : Left text free T σ (starting text samples m σ) ⊎ Began text free T samples m σ → (ω : Witness) × Starts text samples m σ ω × Story text cs (starting text samples m σ .state) ω
-    go (inl r) = absurd (fine (r .refused))
-    go (inr r) = (r .ω′, r .starts, story text free T cs (starting text samples m σ .state) (r .ω′) (r .inv))
+-- where every `halt` names a row of type `I`, every halted answer tells an integer
+pub always-integers : AlwaysIntegers
+always-integers = always-integers-of demand3
+
+-- every state reached is as the rules say, and none is stuck
+pub reached-as-typed : ReachedAsTyped
+reached-as-typed = reached-as-typed-of demand3

@@ -1,6 +1,7 @@
 pub mod Memory
 pub mod Words
 pub mod Heaps
+pub mod Consequences
 pub mod Parts
 pub mod Formed
 pub mod Operands

@@ -6,7 +6,7 @@ use mathlib.Core.Path.{_≡_, refl, ap, sym, _∙_}
 use mathlib.Core.List.{List, [], _∷_, _++_}
 use lib.ListN.{length, length-replicate, replicate}
 use lib.Seq.{set-getD}
-use Rattle.syntax.specs.Syntax.{value, stack}
+use Rattle.syntax.specs.Syntax.{value, stack, registerCount}
 use Rattle.types.specs.Types.{Ty, tuple, nil, join, items, aTuple, Wf}
 use Rattle.types.proofs.Filling.{items-join}
 use Rattle.valid.specs.Program.{Program, typeOf}
@@ -30,9 +30,9 @@ SmallTypes P = (t : ℕ) (c : Ty stack) → typeOf P t ≡ tuple c → items c �
 
 -- eight registers that hold the items of a
 pub record Registers (P : Program) (Ψ : Tuples) (m : Memory) (a : Ty stack) : Type 0 where
-  pub long : Long m 8
-  pub good : GoodIn Ψ m 8
-  pub fits : Fits P Ψ (inUse m 8) a
+  pub long : Long m registerCount
+  pub good : GoodIn Ψ m registerCount
+  pub fits : Fits P Ψ (inUse m registerCount) a
 
 -- a stack of depth d that holds the items of a
 pub record Stacked (P : Program) (Ψ : Tuples) (m : Memory) (d : ℕ) (a : Ty stack) : Type 0 where
@@ -52,10 +52,14 @@ pub record Heaped (P : Program) (Ψ : Tuples) (m : Memory) (n : ℕ) : Type 0 wh
 
 -- ---- registers
 module _ (P : Program) (Ψ : Tuples) (m : Memory) (a : Ty stack) (h : Registers P Ψ m a) where
+  -- a register that has a type is one of the eight
+  pub register-known : {r : ℕ} {t : Ty value} → At a r t → r < registerCount
+  register-known x = rw (use-length m 8) at (fits-at P Ψ (inUse m 8) x (h .fits) .lt)
+
   pub register-read : {r : ℕ} {t : Ty value} → At a r t → Holds P Ψ (at m r) t
   register-read {r} x =
       let k = fits-at P Ψ (inUse m 8) x (h .fits) in
-      let l = rw (use-length m 8) at (k .lt) in
+      let l = register-known x in
       record { good = h .good r l; has = rw (use-at m 8 r l) at (k .has) }
 
   pub register-write : {d : ℕ} {t : Ty value} {b : Ty stack} (w : Word) → Put a d t b → Holds P Ψ w t → Registers P Ψ (put m d w) b
@@ -65,7 +69,7 @@ module _ (P : Program) (Ψ : Tuples) (m : Memory) (a : Ty stack) (h : Registers 
   pub register-retype : {d : ℕ} {t u : Ty value} {b : Ty stack} → At a d t → Put a d u b → (Has P Ψ (at m d) t → Has P Ψ (at m d) u) → Registers P Ψ m b
   register-retype {d} x y f =
       let k = fits-at P Ψ (inUse m 8) x (h .fits) in
-      let l = rw (use-length m 8) at (k .lt) in
+      let l = register-known x in
       let z = fits-put P Ψ (inUse m 8) (at m d) y (h .fits) (f (rw (use-at m 8 d l) at (k .has))) in
       record { long = h .long; good = h .good; fits = rw (← (use-at m 8 d l), set-getD) at z }
 
@@ -141,15 +145,18 @@ small-app [] Φ w u = u
 small-app (c ∷ Ψ) Φ w u = (w .0, small-app Ψ Φ (w .1) u)
 
 module _ (P : Program) (Ψ : Tuples) (m : Memory) (n : ℕ) (h : Heaped P Ψ m n) where
+  -- a tuple lies within the used heap
+  pub tuple-within : {a : ℕ} {c : Ty stack} → Made Ψ a c → a + suc (items c) ≤ n
+  tuple-within x = heap-read P Ψ m n x (h .fits) .fits
+
   pub tuple-length : {a : ℕ} {c : Ty stack} → Made Ψ a c → at m a .number ≡ items c
   tuple-length x = ap (λ (w : Word). w .number) (heap-read P Ψ m n x (h .fits) .length-word)
 
   pub tuple-read : {a i : ℕ} {c : Ty stack} {t : Ty value} → Made Ψ a c → At c i t → Holds P Ψ (at m (a + suc i)) t
   tuple-read {a} {i} x y =
-      let r = heap-read P Ψ m n x (h .fits) in
-      let l = r .fits in
+      let l = tuple-within x in
       let k = at-lt y in
-      record { good = h .good (a + suc i) (omega arith); has = r .component y }
+      record { good = h .good (a + suc i) (omega arith); has = heap-read P Ψ m n x (h .fits) .component y }
 
   pub tuple-write : {a i : ℕ} {c : Ty stack} {t : Ty value} (w : Word) → Made Ψ a c → At c i t → Holds P Ψ w t → Heaped P Ψ (put m (a + suc i) w) n
   tuple-write {a} {i} w x y k =
