@@ -12,7 +12,7 @@ use Rattle.syntax.specs.Syntax.{Kind, value, stack, Base, reg, lit, lab, Operan
 use Rattle.syntax.specs.Fault.{Fault, fault, unfit, given, Pass}
 use Rattle.types.specs.Types.{Ty, int, junk, var, tuple, pointer, code, nil, push, svar, gap, join, items, Arg, arg, kindOf, filled, Use, aStack, aTuple, aFile}
 use Rattle.types.specs.Equal.{same, sameLetters}
-use Rattle.valid.specs.Program.{Block, Program, typeOf, argsOf}
+use Rattle.valid.specs.Program.{Block, Program, typeOf, argsOf, CodeType, asCode}
 use Rattle.valid.specs.Rules.{junks, Context, withRegs, withSp, atStart, entryRegs}
 
 -- ---- premises
@@ -115,21 +115,6 @@ asPointer (var k) = none
 asPointer (tuple a) = none
 asPointer (pointer a) = some a
 asPointer (code q a r) = none
-
--- a code type's letters, stack and registers
-pub record CodeType : Type 0 where
-  pub letters : List Kind
-  pub sp : Ty stack
-  pub regs : Ty stack
-
--- a type as a code type, if it is one
-unfoldable pub asCode : Ty value → Option CodeType
-asCode int = none
-asCode junk = none
-asCode (var k) = none
-asCode (tuple a) = none
-asCode (pointer a) = none
-asCode (code q a r) = some (record { letters = q; sp = a; regs = r })
 
 -- ---- well-formed types, as a test (Wf of crate types)
 -- the letter is there, and is κ
