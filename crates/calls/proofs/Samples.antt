@@ -10,7 +10,7 @@ use Rattle.text.specs.PassOne.{entriesOf, rowsOf, Listing, listingsOf}
 use Rattle.types.specs.Types.{Ty, int, junk, var, tuple, pointer, code, push, items, Arg, arg, ofKind}
 use Rattle.types.specs.Rows.{typeAt, components, registers, meaning, meanings, typesOf}
 use Rattle.valid.specs.Program.{asCode, blockOf, blocksOf, programFrom, programOf}
-use Rattle.valid.specs.PassThree.{declared}
+use Rattle.valid.specs.Rules.{declared}
 use Rattle.exec.specs.Run.{wanted}
 use Rattle.calls.proofs.All.{All, all-append}
 use Rattle.calls.proofs.Lines.{FitRow, FitLine, entries-fit}

@@ -18,7 +18,7 @@ use Rattle.types_rows.specs.declared.Val.the-variants.{Int, Junk, ValVar, ValFi
 use Rattle.types_rows.proofs.Laws.{value-is}
 use Rattle.types_rows.proofs.Bridge.{type-at}
 use Rattle.valid.specs.Program.{asCode, blockOf}
-use Rattle.valid.specs.PassThree.{declared}
+use Rattle.valid.specs.Rules.{declared}
 use Rattle.valid_context.specs.premises.Bounds.{SmallRow}
 use Rattle.valid_scope.proofs.entry.Laws.{items-parts}
 

@@ -15,8 +15,9 @@ use Rattle.types.specs.Types.{code, nil, items, aStack, Wf}
 use Rattle.types.specs.Equal.{same, sameLetters}
 use Rattle.types.proofs.Equal.{and-inv, none-true, not-false, to-so, same-sound, same-refl, sameLetters-sound, sameLetters-refl}
 use Rattle.valid.specs.Program.{Block, Program, programOf}
-use Rattle.valid.specs.Rules.{Context, Seq, ⊢seq, ⊢jmp, ⊢halt, atStart, Code, ints, entryRegs, Entry, Typed}
-use Rattle.valid.specs.PassThree.{Judged, holds, fails, faultsOf, isFormed, judge, bodyFaults, declared, isEntry, blockFaults, blocksFaults, hasNone, passThree}
+use Rattle.valid.specs.Rules.{Context, Seq, ⊢seq, ⊢jmp, ⊢halt, atStart, Code, ints, entryRegs, Entry, Typed, declared}
+use Rattle.valid.specs.Tests.{isFormed, isEntry}
+use Rattle.valid.specs.PassThree.{Judged, holds, fails, faultsOf, judge, bodyFaults, blockFaults, blocksFaults, hasNone, passThree}
 use Rattle.valid.specs.Verdict.{accepted, refused, passTwoOf, passes, instrCount, check}
 use Rattle.valid.proofs.Reading.{none-some, some-inj, formed-sound, formed-complete}
 use Rattle.valid.proofs.Judge.{judge-sound, jmp-sound, halt-sound, judge-complete, jmp-complete, halt-complete}

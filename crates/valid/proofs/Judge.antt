@@ -19,7 +19,8 @@ use Rattle.types.proofs.Equal.{and-inv, none-true, to-so, so-true, same-sound, 
 use Rattle.types.proofs.Filling.{args-len}
 use Rattle.valid.specs.Program.{Block, Program, typeOf, argsOf, CodeType, asCode}
 use Rattle.valid.specs.Rules.{At, Put, junks, Context, withRegs, withSp, OfBase, ⊢reg, ⊢int, ⊢label, OfOperand, ⊢plain, ⊢tapp, OfOperands, ⊢none, ⊢more, Named, n-nil, n-same, n-any, n-gap, Target, target, Rule, ⊢aop, ⊢bop, ⊢ld, ⊢malloc, ⊢mov, ⊢get-sp, ⊢set-sp, ⊢salloc, ⊢sfree, ⊢sld1, ⊢sld2, ⊢sst1, ⊢sst2, ⊢st}
-use Rattle.valid.specs.PassThree.{Judged, holds, fails, _▹_, _&_, orFault, need, noneOf, itemAt, replaced, under, above, asInt, asTuple, asPointer, isFormed, formedArgs, formed, known, integerAt, tupleAt, pointerAt, assign, labelType, base, lettersLeft, isFilled, applied, operand, operands, unfits, noneLeft, targetOf, newTail, judge}
+use Rattle.valid.specs.Tests.{itemAt, replaced, under, above, asInt, asTuple, asPointer, isFormed, formedArgs}
+use Rattle.valid.specs.PassThree.{Judged, holds, fails, _▹_, _&_, orFault, need, noneOf, formed, known, integerAt, tupleAt, pointerAt, assign, labelType, base, lettersLeft, isFilled, applied, operand, operands, unfits, noneLeft, targetOf, newTail, judge}
 use Rattle.valid.proofs.Clear.{cons-nil}
 use Rattle.valid.proofs.Reading.{none-some, some-inj, at-sound, at-complete, put-sound, put-complete, pops-sound, pops-complete, above-sound, above-complete, int-sound, tuple-sound, pointer-sound, code-sound, formed-sound, formed-complete, args-sound, args-complete, args-letters}
 

@@ -15,7 +15,7 @@ use Rattle.types.proofs.Filling.{items-join}
 use Rattle.types.proofs.Equal.{and-inv, none-true, to-so, same-sound, same-refl, same-false}
 use Rattle.valid.specs.Rules.{At, here, there, skip, Put, phere, pnew, pthere, pskip, Pops, pop0, pop1}
 use Rattle.valid.specs.Program.{CodeType, asCode}
-use Rattle.valid.specs.PassThree.{itemAt, replaced, under, above, asInt, asTuple, asPointer, isKind, isStack, isFile, isFormed, formedArg, formedArgs}
+use Rattle.valid.specs.Tests.{itemAt, replaced, under, above, asInt, asTuple, asPointer, isKind, isStack, isFile, isFormed, formedArg, formedArgs}
 
 -- a missing value is not there: anything follows
 pub none-some : {A B : Type 0} {x : A} → none ≡ some x → B

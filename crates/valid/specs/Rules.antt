@@ -2,11 +2,11 @@
 -- of items, so where the paper says that two are equal this says `≡`.
 use Prim.Native.Nat.{ℕ, zero, suc, _≤_}
 use mathlib.Core.Path.{_≡_}
-use mathlib.Core.Option.{Option, none, some}
+use mathlib.Core.Option.{some}
 use mathlib.Core.List.{List, [], _∷_, _++_}
-use lib.ListN.{length, getElem?}
+use lib.ListN.{getElem?}
 use Rattle.syntax.specs.Syntax.{Kind, value, stack, Base, reg, lit, lab, Operand, plain, inst, Arith, Branch, Instr, aop, bop, mov, ld, st, malloc, getsp, setsp, salloc, sfree, sld, sst, slp, ssp, jmp, halt}
-use Rattle.types.specs.Types.{Ty, int, junk, var, tuple, pointer, code, nil, push, svar, gap, join, items, Arg, arg, filled, aStack, aTuple, aFile, Wf, Args}
+use Rattle.types.specs.Types.{Ty, int, junk, var, tuple, pointer, code, nil, push, svar, gap, join, items, filled, aStack, Wf, Args}
 use Rattle.valid.specs.Program.{Block, Program, typeOf, argsOf}
 
 -- ---- lists of items
@@ -126,6 +126,18 @@ ints (suc n) = push int (ints n)
 -- "block 0 must bind nothing, have no stack items, r1 a tuple of integers, others `-`": n integers
 unfoldable pub entryRegs : ℕ → Ty stack
 entryRegs n = push (tuple (ints n)) (gap (gap (gap (gap (gap (gap (gap nil)))))))
+
+-- the number of samples that the entry declares: r1's components
+unfoldable pub declared : Ty stack → ℕ
+declared nil = 0
+declared (push int a) = 0
+declared (push junk a) = 0
+declared (push (var k) a) = 0
+declared (push (tuple c) a) = items c
+declared (push (pointer c) a) = 0
+declared (push (code q s r) a) = 0
+declared (svar k a) = 0
+declared (gap a) = 0
 
 -- block B is fit for entry with n samples
 pub record Entry (B : Block) (n : ℕ) : Type 0 where

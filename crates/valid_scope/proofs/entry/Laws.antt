@@ -26,8 +26,9 @@ use Rattle.types_rows.proofs.Val.{the-type}
 use Rattle.types_rows.proofs.Laws.{lower-low, plain-value, value-is, never}
 use Rattle.types_rows.proofs.Bridge.{type-at, arg-at}
 use Rattle.valid.specs.Program.{Block, asCode, blockOf}
-use Rattle.valid.specs.Rules.{ints, entryRegs}
-use Rattle.valid.specs.PassThree.{declared, isFormed, formedArg, isEntry, blockFaults}
+use Rattle.valid.specs.Rules.{ints, entryRegs, declared}
+use Rattle.valid.specs.Tests.{isFormed, formedArg, isEntry}
+use Rattle.valid.specs.PassThree.{blockFaults}
 use Rattle.valid_scope.specs.declared.entry.Samples.{Samples}
 use Rattle.valid_scope.specs.entry.Entry.{gaps, Declares, blockAt}
 
