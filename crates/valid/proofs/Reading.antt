@@ -197,17 +197,17 @@ formed-complete Δ u (svar k a) w = rw (kind-complete stack (w .1), formed-compl
 formed-complete Δ u (gap a) w = rw (formed-complete Δ u a (w .1), w .0)
 
 -- arguments that are well-formed are arguments for their own letters, and for no others
-pub args-sound : (Δ : List Kind) (A : List Arg) → formedArgs Δ A ≡ true → Args Δ A (map kindOf A)
+pub args-sound : (Δ : List Kind) (θ : List Arg) → formedArgs Δ θ ≡ true → Args Δ θ (map kindOf θ)
 unfolding formedArgs formedArg kindOf
 args-sound Δ [] e = noargs
-args-sound Δ (arg κ t ∷ A) e = let k = and-inv _ _ e in more (formed-sound Δ aStack t (k .0)) (args-sound Δ A (k .1))
+args-sound Δ (arg κ t ∷ θ) e = let k = and-inv _ _ e in more (formed-sound Δ aStack t (k .0)) (args-sound Δ θ (k .1))
 
-pub args-complete : {Δ : List Kind} {A : List Arg} {q : List Kind} → Args Δ A q → formedArgs Δ A ≡ true
+pub args-complete : {Δ : List Kind} {θ : List Arg} {q : List Kind} → Args Δ θ q → formedArgs Δ θ ≡ true
 unfolding formedArgs formedArg
 args-complete noargs = refl
 args-complete {Δ} (more {t = t} w a) = rw (formed-complete Δ aStack t w, args-complete a)
 
-pub args-letters : {Δ : List Kind} {A : List Arg} {q : List Kind} → Args Δ A q → map kindOf A ≡ q
+pub args-letters : {Δ : List Kind} {θ : List Arg} {q : List Kind} → Args Δ θ q → map kindOf θ ≡ q
 unfolding kindOf
 args-letters noargs = refl
 args-letters (more {κ = κ} w a) = ap (_∷_ κ) (args-letters a)
