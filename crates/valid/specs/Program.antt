@@ -20,7 +20,7 @@ pub record Program : Type 0 where
   pub types : List Arg
   pub blocks : List Block
 
--- the type of row t; the arguments that rows give, in the order of their variables
+-- the type of row t
 abbrev pub typeOf : Program → ℕ → Ty value
 typeOf P t = typeAt value (P .types) t
 

@@ -7,28 +7,42 @@
 -- | The paper's rule | Here | Left out | Document 01 adds |
 -- |---|---|---|---|
 -- | Figure 10 | | | |
--- | (type), (styp) | `WfType`, `Wf Δ aStack` (types/specs/Types.antt) | | a variable is of its letter in Δ |
--- | (htype) | `formed` of `Code`, for each block | the types of tuples (crate sound) | |
+-- | (type) | `WfType` (types/specs/Types.antt) | | a variable is of its letter in Δ |
+-- | (styp) | `Wf Δ aStack` | | the same |
+-- | (htype) | `formed` of `Code`, of each block: its row is closed | types of tuples (crate sound) | |
 -- | (rftype) | `Wf` of a code type, in `formed` | | there are eight registers, each with a type or `-` |
--- | (seq-refl), (seq-sym), (seq-trans), (seq-cons), (seq-append), (stkβ1) to (stkβ4) | no rules: `≡` of lists of items | | `≡` inside value types too |
--- | (rf-leq) | `Named` of the registers; sp by `≡` in `Target` | Δ ⊢ τᵢ: all types in Γ are well-formed (`before-wf`, crate sound) | |
+-- | (seq-refl) (seq-sym) (seq-trans) (seq-cons) (seq-append) | none: `≡` of lists of items | | `≡` inside value types too |
+-- | (stkβ1) (stkβ2) (stkβ3) (stkβ4) | none: `join` of lists of items | | |
+-- | (rf-leq) | `Named`; of sp, `≡` in `Target` | Δ ⊢ τᵢ: what Γ has is well-formed (`before-wf`, crate sound) | |
 -- | Figure 11 | | | |
--- | (mach), (heap), (nil), (cons), (stkeq), (regfile), (tuple), (ns), (ptr) | none: they type states, which crate sound does | | |
+-- | (mach) (heap) (nil) (cons) (regfile) (tuple) | none: they are about states, not programs (crate sound) | | |
+-- | (stkeq) | none: equal types are `≡` | | |
 -- | (code) | `Code` | | sp has at most 64 items |
--- | (label), (int), (reg) | `⊢label`, `⊢int`, `⊢reg` | | |
--- | (tapp), (stapp) | `⊢tapp` | | all arguments at once; the resulting row t is well-formed and equals the filled type |
+-- | (label) | `⊢label` | | |
+-- | (int) | `⊢int` | | |
+-- | (ns) (ptr) | none: no operand is junk or a stack height; words are (crate sound) | | |
+-- | (reg) | `⊢reg` | | a register may be unknown, and then has no type |
+-- | (tapp) (stapp) | `⊢tapp` | v with arguments of its own | all arguments at once; row t is well-formed and equals the filled type |
 -- | (pack) | none | existential types (document 02) | |
--- | (seq) | `⊢seq` | Δ′: no instruction changes Δ | |
+-- | (seq) | `⊢seq` | Δ′: no instruction here changes Δ | |
 -- | (jmp) | `⊢jmp`, `Target` | | |
 -- | (halt) | `⊢halt` | | τ is row t, which is well-formed |
 -- | Figure 12 | | | |
--- | (aop), (bop), (ld), (mov), (sfree), (sld1), (sld2), (sst1), (st) | `⊢aop` and so on | | |
--- | (malloc) | `⊢malloc` | | row t is well-formed and equals the tuple of the operands' types |
+-- | (aop) | `⊢aop` | | |
+-- | (bop) | `⊢bop`, `Target` | | |
+-- | (ld) | `⊢ld`; 0 ≤ i < n by `At τs i τᵢ` | | |
+-- | (malloc) | `⊢malloc` | | row t is well-formed and equals the tuple's type |
+-- | (mov) | `⊢mov` | | |
 -- | (unpack) | none | existential types (document 02) | |
--- | (get-sp) | `⊢get-sp` | | row t is well-formed and equals ptr(σ) |
--- | (set-sp) | `⊢set-sp` | | |
--- | (salloc) | `⊢salloc` | | n times `N`, junk, for the paper's ⊤; sp has at most 64 items |
--- | (sst2) | `⊢sst2` | | row t is well-formed and equals ptr(σ₅) |
+-- | (get-sp) | `⊢get-sp`, of `getsp` | | row t is well-formed and equals ptr(σ) |
+-- | (set-sp) | `⊢set-sp`, of `setsp` | | |
+-- | (salloc) | `⊢salloc` | | junk, `N`, for the paper's ⊤; sp has at most 64 items |
+-- | (sfree) | `⊢sfree` | | |
+-- | (sld1) | `⊢sld1`, of `sld` | | |
+-- | (sld2) | `⊢sld2`, of `slp` | | |
+-- | (sst1) | `⊢sst1`, of `sst` | | |
+-- | (sst2) | `⊢sst2`, of `ssp` | | row t is well-formed and equals ptr(σ₅) |
+-- | (st) | `⊢st`; 0 ≤ i < n by `At τs i τᵢ` | | |
 -- | none | `Entry`, `Typed` | | block 0 is fit for entry |
 use Prim.Native.Nat.{ℕ, zero, suc, _≤_}
 use mathlib.Core.Path.{_≡_}
