@@ -9,8 +9,8 @@ use Rattle.syntax.specs.Syntax.{value, stack, Row, rowI, rowN, rowE, rowV, rowX
 use Rattle.text.specs.PassOne.{entriesOf, rowsOf, Listing, listingsOf}
 use Rattle.types.specs.Types.{Ty, int, junk, var, tuple, pointer, code, push, items, Arg, arg, ofKind}
 use Rattle.types.specs.Rows.{typeAt, components, registers, meaning, meanings, typesOf}
-use Rattle.valid.specs.Program.{blockOf, blocksOf, programFrom, programOf}
-use Rattle.valid.specs.PassThree.{declared}
+use Rattle.valid.specs.Program.{asCode, blockOf, blocksOf, programFrom, programOf}
+use Rattle.valid.specs.Rules.{declared}
 use Rattle.exec.specs.Run.{wanted}
 use Rattle.calls.proofs.All.{All, all-append}
 use Rattle.calls.proofs.Lines.{FitRow, FitLine, entries-fit}
@@ -91,7 +91,7 @@ rows-fit (instr x ∷ es) h = rows-fit es (h .1)
 
 -- ---- the entry
 block-fit : (t : Ty value) (xs : List Instr) → FitType t → declared (blockOf t xs .regs) ≤ 16
-unfolding blockOf declared
+unfolding blockOf asCode declared
 block-fit int xs h = omega arith
 block-fit junk xs h = omega arith
 block-fit (var k) xs h = omega arith

@@ -11,7 +11,7 @@ use Rattle.syntax.specs.Fault.{Refusal, earliest}
 use Rattle.syntax.specs.Syntax.{registerCount}
 use Rattle.text.specs.Samples.{samplesOf}
 use Rattle.valid.specs.Program.{Block, Program, programOf}
-use Rattle.valid.specs.PassThree.{declared}
+use Rattle.valid.specs.Rules.{declared}
 use Rattle.valid.specs.Verdict.{passes}
 use Rattle.exec.specs.Machine.{Word, intKind, codeKind, tupleKind, heightKind, junkKind, integer, handle, junkWord, Memory, capacity, at, puts, State, stackLimit, heapLimit, Bodies, flat, Stop, halted, stackFull, heapFull, stuck, Result, go, stop, step}
 

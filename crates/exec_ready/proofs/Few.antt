@@ -17,8 +17,8 @@ use Rattle.types_rows.specs.declared.Val.{Val}
 use Rattle.types_rows.specs.declared.Val.the-variants.{Int, Junk, ValVar, ValFill, Tuple, Pointer, Code}
 use Rattle.types_rows.proofs.Laws.{value-is}
 use Rattle.types_rows.proofs.Bridge.{type-at}
-use Rattle.valid.specs.Program.{blockOf}
-use Rattle.valid.specs.PassThree.{declared}
+use Rattle.valid.specs.Program.{asCode, blockOf}
+use Rattle.valid.specs.Rules.{declared}
 use Rattle.valid_context.specs.premises.Bounds.{SmallRow}
 use Rattle.valid_scope.proofs.entry.Laws.{items-parts}
 
@@ -62,7 +62,7 @@ module _ (τ : RowTable) (n : ℕ) (small : (x : ℕ) → x < n → SmallRow (ro
   of-registers h l (suc t) g = of-row (lower h t) (low h t l) g
 
   of-value : (h : ℕ) → h ≤ n → (x : Val) (xs : List Instr) → declared (blockOf (buildV (meanV τ) (meanS τ) (τ .parts) h x) xs .regs) ≤ 16
-  unfolding declared blockOf partsOf
+  unfolding declared blockOf asCode partsOf
   of-value h l Int xs = omega arith
   of-value h l Junk xs = omega arith
   of-value h l (ValVar k) xs = omega arith

@@ -19,7 +19,9 @@ use Rattle.tables.specs.Tables.{cell, rowsIn, instrsFrom, blocksFrom, OperandTa
 use Rattle.types_rows.proofs.Bridge.{length-types, counted-to}
 use Rattle.types_rows.specs.Read.{tab, CountedTo}
 use Rattle.valid.specs.Program.{Block, Program, blockOf, blocksOf, programOf, programFrom}
-use Rattle.valid.specs.PassThree.{declared, isFormed, isEntry, blockFaults}
+use Rattle.valid.specs.Rules.{declared}
+use Rattle.valid.specs.Tests.{isFormed, isEntry}
+use Rattle.valid.specs.PassThree.{blockFaults}
 use Rattle.valid.specs.Verdict.{passTwoOf}
 use Rattle.exec.specs.Run.{wanted, barred}
 use Rattle.exec.proofs.Barred.{firstFaults, entryPass, barred-is}

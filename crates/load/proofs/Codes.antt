@@ -22,7 +22,7 @@ use Rattle.types.proofs.Meaning.{typeIn, type-is, rows-clear}
 use Rattle.tables.specs.Tables.{RowTable, cell, rowAt, rowsIn, OperandTable, blocksFrom}
 use Rattle.tables.proofs.Steps.{length-rows, row-in}
 use Rattle.valid_scope.proofs.Rows.{row-getD}
-use Rattle.valid.specs.Program.{Block, Program, blockOf, blocksOf}
+use Rattle.valid.specs.Program.{Block, Program, asCode, blockOf, blocksOf}
 use Rattle.valid.specs.PassThree.{labelType}
 use Rattle.valid_context.specs.premises.Answers.{Holds}
 
@@ -87,7 +87,7 @@ module _ (τ : RowTable) (n : ℕ) (β ι : List ℕ) (ω : OperandTable) (ni : 
 module _ (P : Program) (Δ : List Kind) (xs : List Instr) where
   -- a code row's type is a code type, which the label of its block has
   label-of : (A : List Arg) (x : Row) → isCode x ≡ true → labelType P Δ (some (blockOf (ofKind value (meaning A x)) xs)) ≡ some (ofKind value (meaning A x))
-  unfolding labelType blockOf meaning isCode ofKind
+  unfolding labelType blockOf asCode meaning isCode ofKind
   label-of A rowI e = none-true e
   label-of A rowN e = none-true e
   label-of A (rowV k) e = none-true e

@@ -16,9 +16,10 @@ use Rattle.text.specs.Samples.{sample, samplesFrom, samplesOf}
 use Rattle.types.specs.Types.{join, items, variable, below, walk, raising, raise, kindOf, ofKind, place, filling, fill, fitsKind, meets, filled}
 use Rattle.types.specs.Equal.{same, sameLetters}
 use Rattle.types.specs.Rows.{typeAt, components, registers, meaning, meanings, typesOf, isValue, isCode, isOf, knownRefs, rowRefs, operandRefs, operandsRefs, names, baseLabels, labels, isSort, allBelow, allOfSort, total, sizeOf, sizesFrom, sizesOf, rowFaults, rowsFaults, refsFaults, entryFaults, entriesFaults, passTwo}
-use Rattle.valid.specs.Program.{blockOf, blocksOf, programFrom, programOf}
-use Rattle.valid.specs.Rules.{junks, ints, entryRegs}
-use Rattle.valid.specs.PassThree.{faultsOf, _▹_, _&_, orFault, need, noneOf, itemAt, replaced, under, above, asInt, asTuple, asPointer, asCode, isKind, isStack, isFile, isFormed, formedArg, formedArgs, formed, integerAt, tupleAt, pointerAt, assign, labelType, base, lettersLeft, isFilled, applied, operands, unfits, noneLeft, targetOf, newTail, judge, bodyFaults, declared, isEntry, blockFaults, blocksFaults, hasNone, passThree}
+use Rattle.valid.specs.Program.{blockOf, blocksOf, programFrom, programOf, asCode}
+use Rattle.valid.specs.Rules.{junks, ints, entryRegs, declared}
+use Rattle.valid.specs.Tests.{itemAt, replaced, under, above, asInt, asTuple, asPointer, isKind, isStack, isFile, isFormed, formedArg, formedArgs, isEntry}
+use Rattle.valid.specs.PassThree.{faultsOf, _▹_, _&_, orFault, need, noneOf, formed, integerAt, tupleAt, pointerAt, assign, labelType, base, lettersLeft, isFilled, applied, operands, unfits, noneLeft, targetOf, newTail, judge, bodyFaults, blockFaults, blocksFaults, hasNone, passThree}
 use Rattle.valid.specs.PassThree as three
 use Rattle.valid.specs.Verdict.{passTwoOf, passes, instrCount, check, Verdict, accepted, refused}
 use Rattle.exec.specs.Machine.{Memory, State, Bodies, Result, go, stop, stackFull, junkWord, puts, at, put, flat, startOf, fetch, compute, signOf, taken, baseWord, wordOf, only, unless, jump, exec, step}

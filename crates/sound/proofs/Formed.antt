@@ -12,13 +12,13 @@ use Rattle.valid.specs.Rules.{At, here, there, skip, Put, phere, pnew, pthere, 
 
 module _ (Δ : List Kind) where
   wf-at : (u : Use) {a : Ty stack} {i : ℕ} {t : Ty value} → At a i t → Wf Δ u a → Wf Δ aStack t
-  wf-at u (here {t = t}) w = wf-use Δ u aStack t (w .0)
+  wf-at u (here {τ = τ}) w = wf-use Δ u aStack τ (w .0)
   wf-at u (there x) w = wf-at u x (w .1)
   wf-at u (skip x) w = wf-at u x (w .1)
 
   wf-put : (u : Use) {a b : Ty stack} {i : ℕ} {t : Ty value} → Put a i t b → Wf Δ u a → Wf Δ aStack t → Wf Δ u b
-  wf-put u (phere {t = t}) w v = (wf-use Δ aStack u t v, w .1)
-  wf-put u (pnew {t = t}) w v = (wf-use Δ aStack u t v, w .1)
+  wf-put u (phere {τ = τ}) w v = (wf-use Δ aStack u τ v, w .1)
+  wf-put u (pnew {τ = τ}) w v = (wf-use Δ aStack u τ v, w .1)
   wf-put u (pthere x) w v = (w .0, wf-put u x (w .1) v)
   wf-put u (pskip x) w v = (w .0, wf-put u x (w .1) v)
 
@@ -50,7 +50,7 @@ module _ (P : Program) (T : Typed P) where
 
     operand-wf : {g : Ty stack} {v : Operand} {t : Ty value} → OfOperand P Δ g v t → Wf Δ aFile g → Wf Δ aStack t
     operand-wf (⊢plain x) w = base-wf x w
-    operand-wf (⊢tapp l q p a r x e xs u z) w = u
+    operand-wf (⊢tapp q p a r xs x u z) w = u
 
     rule-wf : {Γ Γ′ : Context} {x : Instr} → Rule P Δ Γ x Γ′ → WfContext Δ Γ → WfContext Δ Γ′
     rule-wf (⊢aop x y p) w = (w .0, wf-put Δ aFile p (w .1) tt)
@@ -59,12 +59,12 @@ module _ (P : Program) (T : Typed P) where
     rule-wf (⊢malloc c xs u e p) w = (w .0, wf-put Δ aFile p (w .1) (rw e at u))
     rule-wf (⊢mov y p) w = (w .0, wf-put Δ aFile p (w .1) (operand-wf y (w .1)))
     rule-wf (⊢get-sp u e p) w = (w .0, wf-put Δ aFile p (w .1) (w .0))
-    rule-wf (⊢set-sp a b x e) w = (wf-at Δ aFile x (w .1), w .1)
+    rule-wf (⊢set-sp b a x e) w = (wf-at Δ aFile x (w .1), w .1)
     rule-wf {Γ} (⊢salloc {n = n} l) w = (wf-junks Δ n (Γ .sp) (w .0), w .1)
     rule-wf (⊢sfree x) w = (wf-pops Δ x (w .0), w .1)
     rule-wf (⊢sld1 x p) w = (w .0, wf-put Δ aFile p (w .1) (wf-at Δ aStack x (w .0)))
     rule-wf (⊢sld2 a b x e y p) w = (w .0, wf-put Δ aFile p (w .1) (wf-at Δ aStack y (wf-at Δ aFile x (w .1))))
-    rule-wf (⊢sst1 u t x y p) w = (wf-put Δ aStack p (w .0) (wf-at Δ aFile x (w .1)), w .1)
+    rule-wf (⊢sst1 u t y x p) w = (wf-put Δ aStack p (w .0) (wf-at Δ aFile x (w .1)), w .1)
     rule-wf (⊢sst2 a b c u t x y e v p z k r) w =
         let j = wf-put Δ aStack p (wf-at Δ aFile x (w .1)) (wf-at Δ aFile y (w .1)) in
         (wf-join Δ aStack a c (wf-above Δ a b (rw e at (w .0))) j, wf-put Δ aFile r (w .1) j)

@@ -102,7 +102,7 @@ module _ (P : Program) (σ : State) (ω : Witness) (v : Inv P σ ω) where
   at-instruction : {rest : List Instr} → drop (ω .i) (ω .B .body) ≡ rest → Seq P (ω .B .letters) (v .Γ) rest → σ .position < length (flat (bodies P))
   at-instruction e (⊢seq {x = x} {xs = xs} r q) = found x xs e
   at-instruction e (⊢jmp {v = o} t) = found (jmp o) [] e
-  at-instruction e (⊢halt {t = t} w a) = found (halt t) [] e
+  at-instruction e (⊢halt {t = t} a w) = found (halt t) [] e
 
   pub inv-form : goodForm (bodies P) σ ≡ true
   unfolding goodForm

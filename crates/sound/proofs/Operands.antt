@@ -79,10 +79,11 @@ module _ (P : Program) (T : Typed P) (Ψ : Tuples) (Θ : List Arg) (Δ : List Ki
   pub operand-holds : {v : Operand} {t : Ty value} → OfOperand P Δ g v t → Holds P Ψ (wordOf R v) (fill 0 Θ t)
   unfolding wordOf
   operand-holds (⊢plain x) = base-holds x
-  operand-holds (⊢tapp {b = b} {ts = ts} {t = t} L q p a r x e xs w z) =
+  operand-holds (⊢tapp {b = b} {ts = ts} {t = t} q p a r xs x w z) =
+      let L = q ++ p in
       let k = base-holds x in
       let h : Has P Ψ (baseWord R b) (code L (fill (length L) Θ a) (fill (length L) Θ r)) = rw fill-code at (k .has) in
-      record { good = k .good; has = rw (filled-is (argsOf P ts) q a r (typeOf P t) z, fill-code) (h .0, relabel L q p a r (h .1) e xs) }
+      record { good = k .good; has = rw (filled-is (argsOf P ts) q a r (typeOf P t) z, fill-code) (h .0, relabel L q p a r (h .1) refl xs) }
 
   pub operands-hold : {vs : List Operand} {a : Ty stack} → OfOperands P Δ g vs a → AllGood Ψ (map (wordOf R) vs) × Fits P Ψ (map (wordOf R) vs) (fill 0 Θ a)
   unfolding fill walk
@@ -90,7 +91,7 @@ module _ (P : Program) (T : Typed P) (Ψ : Tuples) (Θ : List Arg) (Δ : List Ki
   operands-hold (⊢more x xs) = let k = operand-holds x in let j = operands-hold xs in ((k .good, j .0), (k .has, j .1))
 
 -- registers that a target names keep their types
-pub named-fits : (P : Program) (Δ : List Kind) (Ψ : Tuples) (Θ : List Arg) (ws : List Word) {r h : Ty stack} → Named P Δ r h → Fits P Ψ ws (fill 0 Θ h) → Fits P Ψ ws (fill 0 Θ r)
+pub named-fits : (P : Program) (Δ : List Kind) (Ψ : Tuples) (Θ : List Arg) (ws : List Word) {r h : Ty stack} → Named P Δ h r → Fits P Ψ ws (fill 0 Θ h) → Fits P Ψ ws (fill 0 Θ r)
 unfolding fill walk
 named-fits P Δ Ψ Θ [] n-nil k = k
 named-fits P Δ Ψ Θ [] (n-same x) k = k

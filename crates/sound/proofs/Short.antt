@@ -15,7 +15,7 @@ use Rattle.text.specs.PassOne.{said, entriesOf, rowsOf, Listing, listingsOf}
 use Rattle.types.specs.Types.{Ty, int, junk, var, tuple, pointer, code, nil, push, svar, gap, join, items, Arg, arg, ofKind}
 use Rattle.types.specs.Rows.{typeAt, components, registers, meaning, meanings, typesOf}
 use Rattle.types.proofs.Equal.{to-so}
-use Rattle.valid.specs.Program.{Block, blockOf, blocksOf, programFrom, programOf}
+use Rattle.valid.specs.Program.{Block, asCode, blockOf, blocksOf, programFrom, programOf}
 use Rattle.valid.specs.Rules.{ints, entryRegs, Typed}
 use Rattle.valid.proofs.Reading.{none-some}
 use Rattle.sound.proofs.Parts.{SmallTypes}
@@ -255,7 +255,7 @@ pub types-are-small : (text : List ℕ) → SmallTypes (programOf text)
 types-are-small text t c e = let h : Small (tuple c) = rw e at (small-at (programOf text .types) (types-small text) value t) in h .0
 
 block-small : (t : Ty value) (xs : List Instr) → Small t → Small (blockOf t xs .regs)
-unfolding blockOf
+unfolding blockOf asCode
 block-small int xs h = tt
 block-small junk xs h = tt
 block-small (var k) xs h = tt

@@ -218,7 +218,7 @@ module _ (P : Program) (T : Typed P) (small : SmallTypes P) (σ : State) (ω : W
       on-kind Q intKind _ _ (read x .has) (on-kind Q intKind _ _ (operand z .has) (wrote _ k p (record { good = g-int refl; has = refl })))
   safe-rule k (⊢bop {o = o} {r = r} {v = y} x z) =
       on-kind Q intKind _ _ (read x .has) (on-cond Q (taken o (signOf (at (σ .registers) r .number))) (jump (bodies P) σ (wordOf (σ .registers) y)) (go (setPosition σ (suc (σ .position)))) (λ t. leap z (λ ω′ e i. branched o r y (found k) t e i)) (move _ _ _ _ _ k (none-made refl) (v .registers) (v .stacked) (v .heaped)))
-  safe-rule k (⊢ld c {t = t} x y p) =
+  safe-rule k (⊢ld c x y p) =
       let h = read x .has in
       let z = walk-at (filling Θ) 0 y in
       on-kind Q tupleKind _ _ (h .0) (on-true Q stuck _ _ (in-tuple (h .1) z)
@@ -226,7 +226,7 @@ module _ (P : Program) (T : Typed P) (small : SmallTypes P) (σ : State) (ω : W
   safe-rule k (⊢malloc c {vs = vs} xs u e p) = on-test Q heapFull (leb (σ .used + length vs + 1) heapLimit) _ (λ z. new k xs u e p (true-le _ _ z)) tt
   safe-rule k (⊢mov y p) = wrote _ k p (operand y)
   safe-rule k (⊢get-sp u e p) = wrote _ k p (record { good = g-height refl (v .stacked .limit); has = ap height (sym (stacked-items P Ψ (σ .stack) (σ .depth) _ (v .stacked))) })
-  safe-rule k (⊢set-sp a b x e) =
+  safe-rule k (⊢set-sp b a x e) =
       let z = cut a b e in
       on-height Q _ _ _ (read x .has) (on-true Q stuck _ _ (le-true _ _ (z .0)) (stacked-to _ _ k (z .1)))
   safe-rule k (⊢salloc {n = n} l) =
@@ -241,7 +241,7 @@ module _ (P : Program) (T : Typed P) (small : SmallTypes P) (σ : State) (ω : W
       let z = cut a b e in
       let w = stack-read P Ψ (σ .stack) _ (z .1) (walk-at (filling Θ) 0 y) in
       on-height Q _ _ _ (read x .has) (on-true Q stuck _ _ (reach-true _ _ _ (z .0) (w .0)) (wrote _ k p (w .1)))
-  safe-rule k (⊢sst1 u t x y p) =
+  safe-rule k (⊢sst1 u t y x p) =
       let z = stack-read P Ψ (σ .stack) (σ .depth) (v .stacked) (walk-at (filling Θ) 0 y) in
       on-true Q stuck _ _ (lt-true _ _ (z .0)) (stacked-to _ _ k (stack-set P Ψ (σ .stack) (σ .depth) _ (v .stacked) (z .0) (walk-put (filling Θ) 0 p) (read x)))
   safe-rule k (⊢sst2 a b c u t x y e z p w q r) =
@@ -263,7 +263,7 @@ module _ (P : Program) (T : Typed P) (small : SmallTypes P) (σ : State) (ω : W
   unfolding step
   safe-seq e (⊢seq {x = x} {xs = xs} r q) = rw (fetch-is P σ (ω .l) (ω .i) (ω .B) x xs (v .block) (v .place) e) (safe-rule (record { xs = xs; now = e; rule = r; seq = q }) r)
   safe-seq e (⊢jmp {v = o} y) = let h = fetch-is P σ (ω .l) (ω .i) (ω .B) (jmp o) [] (v .block) (v .place) e in rw h (unfold exec in leap y (λ ω′ f i. jumped o h f i))
-  safe-seq e (⊢halt {t = t} w x) = let h = fetch-is P σ (ω .l) (ω .i) (ω .B) (halt t) [] (v .block) (v .place) e in rw h (unfold exec in record { t = t; at-halt = h; r1 = refl; closed = fill-wf Θ Δ (v .picks) aStack (typeOf P t) w; result = read x .has })
+  safe-seq e (⊢halt {t = t} x w) = let h = fetch-is P σ (ω .l) (ω .i) (ω .B) (halt t) [] (v .block) (v .place) e in rw h (unfold exec in record { t = t; at-halt = h; r1 = refl; closed = fill-wf Θ Δ (v .picks) aStack (typeOf P t) w; result = read x .has })
 
   -- progress and preservation
   pub safe : Safe P σ ω (step (bodies P) σ)

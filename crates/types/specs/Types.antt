@@ -155,6 +155,10 @@ Wf Δ u (push t a) = Wf Δ u t × Wf Δ u a
 Wf Δ u (svar k a) = (u ≡ aStack) × (getElem? Δ k ≡ some stack) × Wf Δ u a
 Wf Δ u (gap a) = (u ≡ aFile) × Wf Δ u a
 
+-- Δ ⊢ τ (type): a value type; its use plays no part
+abbrev pub WfType : List Kind → Ty value → Type 0
+WfType Δ τ = Wf Δ aStack τ
+
 -- arguments for the letters q, well-formed under Δ; closed ones under []
 pub data Args (Δ : List Kind) : List Arg → List Kind → Type 0 where
   noargs : Args Δ [] []

@@ -11,12 +11,13 @@ use lib.Dec.{ltb, ltb→lt, nltb→le}
 use Rattle.syntax.specs.Syntax.{Kind, Instr, aop, bop, mov, ld, st, malloc, getsp, setsp, salloc, sfree, sld, sst, slp, ssp, jmp, halt}
 use Rattle.syntax.specs.Fault.{given, Clear, Refusal, earliest}
 use Rattle.text.specs.PassOne.{isLast, passOne}
-use Rattle.types.specs.Types.{code, nil, items, aStack, Wf}
+use Rattle.types.specs.Types.{code, nil, items, aStack, WfType}
 use Rattle.types.specs.Equal.{same, sameLetters}
 use Rattle.types.proofs.Equal.{and-inv, none-true, not-false, to-so, same-sound, same-refl, sameLetters-sound, sameLetters-refl}
 use Rattle.valid.specs.Program.{Block, Program, programOf}
-use Rattle.valid.specs.Rules.{Context, Seq, ⊢seq, ⊢jmp, ⊢halt, atStart, Code, ints, entryRegs, Entry, Typed}
-use Rattle.valid.specs.PassThree.{Judged, holds, fails, faultsOf, isFormed, judge, bodyFaults, declared, isEntry, blockFaults, blocksFaults, hasNone, passThree}
+use Rattle.valid.specs.Rules.{Context, Seq, ⊢seq, ⊢jmp, ⊢halt, atStart, Code, ints, entryRegs, Entry, Typed, declared}
+use Rattle.valid.specs.Tests.{isFormed, isEntry}
+use Rattle.valid.specs.PassThree.{Judged, holds, fails, faultsOf, judge, bodyFaults, blockFaults, blocksFaults, hasNone, passThree}
 use Rattle.valid.specs.Verdict.{accepted, refused, passTwoOf, passes, instrCount, check}
 use Rattle.valid.proofs.Reading.{none-some, some-inj, formed-sound, formed-complete}
 use Rattle.valid.proofs.Judge.{judge-sound, jmp-sound, halt-sound, judge-complete, jmp-complete, halt-complete}
@@ -49,7 +50,7 @@ module _ (P : Program) (Δ : List Kind) where
   last-typed Γ Γ′ (slp d s i) l e = none-true l
   last-typed Γ Γ′ (ssp d i s t) l e = none-true l
   last-typed Γ Γ′ (jmp v) l e = ⊢jmp (jmp-sound P Δ Γ v e)
-  last-typed Γ Γ′ (halt t) l e = let h = halt-sound P Δ Γ t e in ⊢halt (h .0) (h .1)
+  last-typed Γ Γ′ (halt t) l e = let h = halt-sound P Δ Γ t e in ⊢halt (h .1) (h .0)
 
   -- lines without a fault are a typed sequence, and back
   body-typed : (Γ : Context) {xs : List Instr} → Closed xs → Clear (bodyFaults P Δ (holds Γ) xs) → Seq P Δ Γ xs
@@ -61,7 +62,7 @@ module _ (P : Program) (Δ : List Kind) where
   unfolding bodyFaults faultsOf
   body-clear (⊢seq r s) = rw (judge-complete P Δ r) (refl, body-clear s)
   body-clear (⊢jmp t) = (rw (jmp-complete P Δ t), tt)
-  body-clear {Γ} (⊢halt {t = t} w x) = (rw (halt-complete P Δ Γ t w x), tt)
+  body-clear {Γ} (⊢halt {t = t} x w) = (rw (halt-complete P Δ Γ t w x), tt)
 
 -- ---- a block's own line
 items-ints : (n : ℕ) → items (ints n) ≡ n
@@ -97,7 +98,7 @@ within-complete n l = go (ltb 64 n) refl
     go false e = refl
 
 -- the line has no fault exactly where the row is closed, block 0 is fit for entry and sp is within its bound
-line-fit : (first : Bool) (B : Block) → blockFaults first B ≡ [] → Wf [] aStack (code (B .letters) (B .sp) (B .regs)) × (first && not (isEntry B) ≡ false) × (items (B .sp) ≤ 64)
+line-fit : (first : Bool) (B : Block) → blockFaults first B ≡ [] → WfType [] (code (B .letters) (B .sp) (B .regs)) × (first && not (isEntry B) ≡ false) × (items (B .sp) ≤ 64)
 unfolding blockFaults
 line-fit first B e =
     let t = code (B .letters) (B .sp) (B .regs) in
@@ -105,7 +106,7 @@ line-fit first B e =
     let j = append-eq-nil-iff {p = given (not (isFormed [] aStack t)) 7} {q = given (first && not (isEntry B)) 8} .0 (h .0) in
     (formed-sound [] aStack t (not-false _ (given-none _ 7 (j .0))), given-none _ 8 (j .1), within (items (B .sp)) (given-none _ 13 (h .1)))
 
-fit-line : (first : Bool) (B : Block) → Wf [] aStack (code (B .letters) (B .sp) (B .regs)) → first && not (isEntry B) ≡ false → items (B .sp) ≤ 64 → blockFaults first B ≡ []
+fit-line : (first : Bool) (B : Block) → WfType [] (code (B .letters) (B .sp) (B .regs)) → first && not (isEntry B) ≡ false → items (B .sp) ≤ 64 → blockFaults first B ≡ []
 unfolding blockFaults given
 fit-line first B w e l = rw (formed-complete [] aStack (code (B .letters) (B .sp) (B .regs)) w, e, within-complete (items (B .sp)) l)
 

@@ -13,13 +13,14 @@ use Rattle.syntax.specs.Partial.{chain, guarded}
 use Rattle.syntax.specs.Syntax.{Kind, value, stack, Base, reg, lit, lab, Operand, plain, inst, Instr, aop, bop, mov, ld, st, malloc, getsp, setsp, salloc, sfree, sld, sst, slp, ssp, jmp, halt}
 use Rattle.syntax.specs.Fault.{Fault, fault, unfit}
 use Rattle.text.specs.PassOne.{isLast}
-use Rattle.types.specs.Types.{Ty, int, tuple, pointer, code, nil, push, svar, gap, join, items, Arg, kindOf, filled, aStack, Wf, Args}
+use Rattle.types.specs.Types.{Ty, int, tuple, pointer, code, nil, push, svar, gap, join, items, Arg, kindOf, filled, aStack, WfType, Args}
 use Rattle.types.specs.Equal.{same, sameLetters}
 use Rattle.types.proofs.Equal.{and-inv, none-true, to-so, so-true, same-sound, same-refl, sameLetters-sound, sameLetters-refl}
 use Rattle.types.proofs.Filling.{args-len}
-use Rattle.valid.specs.Program.{Block, Program, typeOf, argsOf}
+use Rattle.valid.specs.Program.{Block, Program, typeOf, argsOf, CodeType, asCode}
 use Rattle.valid.specs.Rules.{At, Put, junks, Context, withRegs, withSp, OfBase, ⊢reg, ⊢int, ⊢label, OfOperand, ⊢plain, ⊢tapp, OfOperands, ⊢none, ⊢more, Named, n-nil, n-same, n-any, n-gap, Target, target, Rule, ⊢aop, ⊢bop, ⊢ld, ⊢malloc, ⊢mov, ⊢get-sp, ⊢set-sp, ⊢salloc, ⊢sfree, ⊢sld1, ⊢sld2, ⊢sst1, ⊢sst2, ⊢st}
-use Rattle.valid.specs.PassThree.{Judged, holds, fails, _▹_, _&_, orFault, need, noneOf, itemAt, replaced, under, above, asInt, asTuple, asPointer, CodeType, asCode, isFormed, formedArgs, formed, known, integerAt, tupleAt, pointerAt, assign, labelType, base, lettersLeft, isFilled, applied, operand, operands, unfits, noneLeft, targetOf, newTail, judge}
+use Rattle.valid.specs.Tests.{itemAt, replaced, under, above, asInt, asTuple, asPointer, isFormed, formedArgs}
+use Rattle.valid.specs.PassThree.{Judged, holds, fails, _▹_, _&_, orFault, need, noneOf, formed, known, integerAt, tupleAt, pointerAt, assign, labelType, base, lettersLeft, isFilled, applied, operand, operands, unfits, noneLeft, targetOf, newTail, judge}
 use Rattle.valid.proofs.Clear.{cons-nil}
 use Rattle.valid.proofs.Reading.{none-some, some-inj, at-sound, at-complete, put-sound, put-complete, pops-sound, pops-complete, above-sound, above-complete, int-sound, tuple-sound, pointer-sound, code-sound, formed-sound, formed-complete, args-sound, args-complete, args-letters}
 
@@ -84,7 +85,7 @@ above-given : (b a : Ty stack) → Gives (λ c. a ≡ join c b) (orFault 12 (abo
 above-given b a = read 12 (above b a) (above-sound b a)
 
 module _ (P : Program) (Δ : List Kind) where
-  formed-given : (t : ℕ) → Gives (λ u. Wf Δ aStack (typeOf P t)) (formed P Δ t)
+  formed-given : (t : ℕ) → Gives (λ u. WfType Δ (typeOf P t)) (formed P Δ t)
   unfolding formed
   formed-given t = needed (fault 7) (isFormed Δ aStack (typeOf P t)) (formed-sound Δ aStack (typeOf P t))
 
@@ -124,13 +125,13 @@ module _ (P : Program) (Δ : List Kind) where
       go none e = unfold orFault labelType in faulty
       go (some B) e = unfold orFault labelType in gives (⊢label B e)
 
-  left-sound : (A : List Arg) (l q : List Kind) → lettersLeft P Δ A l ≡ some q → l ≡ q ++ map kindOf A
+  left-sound : (θ : List Arg) (l q : List Kind) → lettersLeft P Δ θ l ≡ some q → l ≡ q ++ map kindOf θ
   unfolding lettersLeft
-  left-sound A l q e =
-      let n = length l - length A in
-      let h = when-by (leb (length A) (length l) && sameLetters (map kindOf A) (drop n l)) e in
-      let j = and-inv (leb (length A) (length l)) _ (h .0) in
-      rw (← (h .1), sameLetters-sound (map kindOf A) (drop n l) (j .1)) (sym (take-append-drop n l))
+  left-sound θ l q e =
+      let n = length l - length θ in
+      let h = when-by (leb (length θ) (length l) && sameLetters (map kindOf θ) (drop n l)) e in
+      let j = and-inv (leb (length θ) (length l)) _ (h .0) in
+      rw (← (h .1), sameLetters-sound (map kindOf θ) (drop n l) (j .1)) (sym (take-append-drop n l))
 
   filled-sound : (t : Ty value) (o : Option (Ty value)) → isFilled P Δ t o ≡ true → o ≡ some t
   unfolding isFilled
@@ -138,21 +139,21 @@ module _ (P : Program) (Δ : List Kind) where
   filled-sound t (some u) e = ap some (sym (same-sound t u e))
 
   -- what is known of a base that arguments fill
-  record Applies (g : Ty stack) (b : Base) (A : List Arg) (t : Ty value) : Type 0 where
+  record Applies (g : Ty stack) (b : Base) (θ : List Arg) (t : Ty value) : Type 0 where
     type : CodeType
     left : List Kind
     carries : OfBase P Δ g b (code (type .letters) (type .sp) (type .regs))
-    splits : type .letters ≡ left ++ map kindOf A
-    fills : filled A left (type .sp) (type .regs) ≡ some t
+    splits : type .letters ≡ left ++ map kindOf θ
+    fills : filled θ left (type .sp) (type .regs) ≡ some t
 
-  applied-given : (f : Fault) (g : Ty stack) (b : Base) (A : List Arg) (t : ℕ) → Gives (λ u. Applies g b A (typeOf P t)) (applied P Δ f g b A t)
+  applied-given : (f : Fault) (g : Ty stack) (b : Base) (θ : List Arg) (t : ℕ) → Gives (λ u. Applies g b θ (typeOf P t)) (applied P Δ f g b θ t)
   unfolding applied
-  applied-given f g b A t =
+  applied-given f g b θ t =
       base-given g b ▸ λ u h.
       read 9 (asCode u) (code-sound u) ▸ λ c e.
-      read 14 (lettersLeft P Δ A (c .letters)) (left-sound A (c .letters)) ▸ λ q j.
-      needed f (isFilled P Δ (typeOf P t) (filled A q (c .sp) (c .regs))) λ k.
-      record { type = c; left = q; carries = rw e at h; splits = j; fills = filled-sound (typeOf P t) (filled A q (c .sp) (c .regs)) k }
+      read 14 (lettersLeft P Δ θ (c .letters)) (left-sound θ (c .letters)) ▸ λ q j.
+      needed f (isFilled P Δ (typeOf P t) (filled θ q (c .sp) (c .regs))) λ k.
+      record { type = c; left = q; carries = rw e at h; splits = j; fills = filled-sound (typeOf P t) (filled θ q (c .sp) (c .regs)) k }
 
   operand-given : (f : Fault) (g : Ty stack) (v : Operand) → Gives (OfOperand P Δ g v) (operand P Δ f g v)
   unfolding operand
@@ -160,7 +161,7 @@ module _ (P : Program) (Δ : List Kind) where
   operand-given f g (inst b ts t) =
       needed (fault 7) (formedArgs Δ (argsOf P ts)) (args-sound Δ (argsOf P ts)) ⊗ formed-given t ⊗ applied-given f g b (argsOf P ts) t ▸ λ z h.
       let y = h .1 .1 in
-      gives (⊢tapp (y .type .letters) (y .left) (map kindOf (argsOf P ts)) (y .type .sp) (y .type .regs) (y .carries) (y .splits) (h .0) (h .1 .0) (y .fills))
+      gives (⊢tapp (y .left) (map kindOf (argsOf P ts)) (y .type .sp) (y .type .regs) (h .0) (rw (y .splits) at (y .carries)) (h .1 .0) (y .fills))
 
   operands-given : (g : Ty stack) (vs : List Operand) → Gives (OfOperands P Δ g vs) (operands P Δ g vs)
   unfolding operands
@@ -168,7 +169,7 @@ module _ (P : Program) (Δ : List Kind) where
   operands-given g (v ∷ vs) = operand-given (fault 10) g v ⊗ operands-given g vs ▸ λ z h. gives (⊢more (h .0) (h .1))
 
   -- ---- targets
-  named-sound : (n : ℕ) (r g : Ty stack) → unfits P Δ n r g ≡ [] → Named P Δ r g
+  named-sound : (n : ℕ) (r g : Ty stack) → unfits P Δ n r g ≡ [] → Named P Δ g r
   unfolding unfits
   named-sound n nil nil e = n-nil
   named-sound n nil (push u g) e = cons-nil e
@@ -177,7 +178,7 @@ module _ (P : Program) (Δ : List Kind) where
   named-sound n (push t r) nil e = cons-nil e
   named-sound n (push t r) (push u g) e = go (same t u) refl e (named-sound (suc n) r g)
     where
-      go : (b : Bool) → same t u ≡ b → cond b [] (unfit n ∷ []) ++ unfits P Δ (suc n) r g ≡ [] → (unfits P Δ (suc n) r g ≡ [] → Named P Δ r g) → Named P Δ (push t r) (push u g)
+      go : (b : Bool) → same t u ≡ b → cond b [] (unfit n ∷ []) ++ unfits P Δ (suc n) r g ≡ [] → (unfits P Δ (suc n) r g ≡ [] → Named P Δ g r) → Named P Δ (push u g) (push t r)
       go true h e ih = rw (same-sound t u h) (n-same (ih e))
       go false h e ih = cons-nil e
   named-sound n (push t r) (svar k g) e = cons-nil e
@@ -237,14 +238,14 @@ module _ (P : Program) (Δ : List Kind) where
       equal (fault 10) (typeOf P t) (tuple (z .1)) ▸ λ y e.
       assigned Γ d (tuple (z .1)) λ g p. ⊢malloc (z .1) (h .1) (h .0) e p
   judge-given Γ (getsp d t) l = formed-given t ⊗ equal (fault 10) (typeOf P t) (pointer (Γ .sp)) ▸ λ z h. assigned Γ d (pointer (Γ .sp)) λ g p. ⊢get-sp (h .0) (h .1) p
-  judge-given Γ (setsp s) l = pointer-given (Γ .regs) s ▸ λ b h. above-given b (Γ .sp) ▸ λ a e. gives (⊢set-sp a b h e)
+  judge-given Γ (setsp s) l = pointer-given (Γ .regs) s ▸ λ b h. above-given b (Γ .sp) ▸ λ a e. gives (⊢set-sp b a h e)
   judge-given Γ (salloc n) l = needed (fault 13) (leb (items (junks n (Γ .sp))) 64) (λ e. leb→le (items (junks n (Γ .sp))) 64 (to-so _ e)) ▸ λ z h. gives (⊢salloc h)
   judge-given Γ (sfree n) l = read 11 (under n (Γ .sp)) (pops-sound n (Γ .sp)) ▸ λ b h. gives (⊢sfree h)
   judge-given Γ (sld d i) l = at-given 11 (Γ .sp) i ▸ λ t h. assigned Γ d t λ g p. ⊢sld1 h p
   judge-given Γ (sst i s) l =
       known-given (Γ .regs) s ⊗ at-given 11 (Γ .sp) i ▸ λ z h.
       read 11 (replaced (Γ .sp) i (z .0)) (put-sound (Γ .sp) i (z .0)) ▸ λ b p.
-      gives (⊢sst1 (z .1) (z .0) (h .0) (h .1) p)
+      gives (⊢sst1 (z .1) (z .0) (h .1) (h .0) p)
   judge-given Γ (slp d s i) l = pointer-given (Γ .regs) s ▸ λ b h. above-given b (Γ .sp) ⊗ at-given 11 b i ▸ λ z j. assigned Γ d (z .1) λ g p. ⊢sld2 (z .0) b h (j .0) (j .1) p
   judge-given Γ (ssp d i s t) l =
       formed-given t ⊗ known-given (Γ .regs) s ⊗ through-given Γ d i s t ▸ λ z h.
@@ -264,11 +265,11 @@ module _ (P : Program) (Δ : List Kind) where
   unfolding judge
   jmp-sound Γ v e = gave {Q = λ Γ′. Target P Δ Γ v} (target-given Γ v ▸ λ z h. gives h) e
 
-  pub halt-sound : (Γ : Context) (t : ℕ) {Γ′ : Context} → judge P Δ Γ (halt t) ≡ holds Γ′ → Wf Δ aStack (typeOf P t) × At (Γ .regs) 0 (typeOf P t)
+  pub halt-sound : (Γ : Context) (t : ℕ) {Γ′ : Context} → judge P Δ Γ (halt t) ≡ holds Γ′ → WfType Δ (typeOf P t) × At (Γ .regs) 0 (typeOf P t)
   unfolding judge
   halt-sound Γ t e =
       gave
-      {Q = λ Γ′. Wf Δ aStack (typeOf P t) × At (Γ .regs) 0 (typeOf P t)}
+      {Q = λ Γ′. WfType Δ (typeOf P t) × At (Γ .regs) 0 (typeOf P t)}
       (formed-given t ⊗ known-given (Γ .regs) 0 ▸ λ z h. equal (fault 10) (z .1) (typeOf P t) ▸ λ y p. gives (h .0, rw p at (h .1)))
       e
 
@@ -279,26 +280,26 @@ module _ (P : Program) (Δ : List Kind) where
   base-complete ⊢int = refl
   base-complete (⊢label B e) = rw e
 
-  left-complete : {A : List Arg} {q p : List Kind} → Args Δ A p → lettersLeft P Δ A (q ++ p) ≡ some q
+  left-complete : {θ : List Arg} {q p : List Kind} → Args Δ θ p → lettersLeft P Δ θ (q ++ p) ≡ some q
   unfolding lettersLeft
-  left-complete {A} {q} {p} a =
+  left-complete {θ} {q} {p} a =
       let k = length-append q p in
       let j = args-len a in
-      let n : length (q ++ p) - length A ≡ length q = omega arith in
-      let m : length A ≤ length (q ++ p) = omega arith in
-      rw (so-true (leb (length A) (length (q ++ p))) (le→leb (length A) (length (q ++ p)) m), n, args-letters a, drop-append-seam q p, sameLetters-refl p, take-append-seam q p)
+      let n : length (q ++ p) - length θ ≡ length q = omega arith in
+      let m : length θ ≤ length (q ++ p) = omega arith in
+      rw (so-true (leb (length θ) (length (q ++ p))) (le→leb (length θ) (length (q ++ p)) m), n, args-letters a, drop-append-seam q p, sameLetters-refl p, take-append-seam q p)
 
   pub operand-complete : (f : Fault) {g : Ty stack} {v : Operand} {t : Ty value} → OfOperand P Δ g v t → operand P Δ f g v ≡ holds t
   unfolding operand formed applied _▹_ _&_ need orFault asCode isFilled
   operand-complete f (⊢plain x) = base-complete x
-  operand-complete f (⊢tapp {ts = ts} {t = t} l q p a r x e y w z) = rw (args-complete y, formed-complete Δ aStack (typeOf P t) w, base-complete x, e, left-complete {q = q} y, z, same-refl)
+  operand-complete f (⊢tapp {ts = ts} {t = t} q p a r y x w z) = rw (args-complete y, formed-complete Δ aStack (typeOf P t) w, base-complete x, left-complete {q = q} y, z, same-refl)
 
   operands-complete : {g : Ty stack} {vs : List Operand} {a : Ty stack} → OfOperands P Δ g vs a → operands P Δ g vs ≡ holds a
   unfolding operands _▹_ _&_
   operands-complete ⊢none = refl
   operands-complete (⊢more x y) = rw (operand-complete (fault 10) x, operands-complete y)
 
-  named-complete : (n : ℕ) {r g : Ty stack} → Named P Δ r g → unfits P Δ n r g ≡ []
+  named-complete : (n : ℕ) {r g : Ty stack} → Named P Δ g r → unfits P Δ n r g ≡ []
   unfolding unfits
   named-complete n n-nil = refl
   named-complete n (n-same x) = rw (same-refl, named-complete (suc n) x)
@@ -318,11 +319,11 @@ module _ (P : Program) (Δ : List Kind) where
   judge-complete (⊢st c t x y z) = rw (at-complete x, at-complete y, at-complete z, same-refl)
   judge-complete (⊢malloc {t = t} c xs w e p) = rw (formed-complete Δ aStack (typeOf P t) w, operands-complete xs, e, same-refl, put-complete p)
   judge-complete (⊢get-sp {t = t} w e p) = rw (formed-complete Δ aStack (typeOf P t) w, e, same-refl, put-complete p)
-  judge-complete (⊢set-sp a b x e) = rw (at-complete x, e, above-complete a b)
+  judge-complete (⊢set-sp b a x e) = rw (at-complete x, e, above-complete a b)
   judge-complete {Γ} (⊢salloc {n = n} l) = rw (so-true (leb (items (junks n (Γ .sp))) 64) (le→leb (items (junks n (Γ .sp))) 64 l))
   judge-complete (⊢sfree x) = rw (pops-complete x)
   judge-complete (⊢sld1 x p) = rw (at-complete x, put-complete p)
-  judge-complete (⊢sst1 u t x y p) = rw (at-complete x, at-complete y, put-complete p)
+  judge-complete (⊢sst1 u t y x p) = rw (at-complete x, at-complete y, put-complete p)
   judge-complete (⊢sld2 a b x e y p) = rw (at-complete x, e, above-complete a b, at-complete y, put-complete p)
   judge-complete (⊢sst2 {t = t} a b c u v x y e z p w k r) = rw (at-complete x, at-complete y, e, above-complete a b, at-complete z, put-complete p, formed-complete Δ aStack (typeOf P t) w, k, same-refl, put-complete r)
 
@@ -330,6 +331,6 @@ module _ (P : Program) (Δ : List Kind) where
   unfolding judge _▹_
   jmp-complete x = rw (target-complete x)
 
-  pub halt-complete : (Γ : Context) (t : ℕ) → Wf Δ aStack (typeOf P t) → At (Γ .regs) 0 (typeOf P t) → judge P Δ Γ (halt t) ≡ holds Γ
+  pub halt-complete : (Γ : Context) (t : ℕ) → WfType Δ (typeOf P t) → At (Γ .regs) 0 (typeOf P t) → judge P Δ Γ (halt t) ≡ holds Γ
   unfolding judge _▹_ _&_ need orFault known formed
   halt-complete Γ t w x = rw (formed-complete Δ aStack (typeOf P t) w, at-complete x, same-refl)

@@ -18,7 +18,8 @@ use Rattle.types.specs.Equal.{same}
 use Rattle.valid.specs.Program.{Block, Program}
 use Rattle.valid.specs.Verdict.{passTwoOf}
 use Rattle.valid.specs.Rules.{Context, atStart}
-use Rattle.valid.specs.PassThree.{Judged, holds, fails, faultsOf, _▹_, _&_, orFault, need, noneOf, formed, known, integerAt, tupleAt, pointerAt, assign, base, applied, operand, operands, unfits, targetOf, newTail, judge, bodyFaults, isFormed, isEntry, hasNone, blockFaults, blocksFaults, passThree}
+use Rattle.valid.specs.Tests.{isFormed, isEntry}
+use Rattle.valid.specs.PassThree.{Judged, holds, fails, faultsOf, _▹_, _&_, orFault, need, noneOf, formed, known, integerAt, tupleAt, pointerAt, assign, base, applied, operand, operands, unfits, targetOf, newTail, judge, bodyFaults, hasNone, blockFaults, blocksFaults, passThree}
 
 -- ---- numbers within bounds
 abbrev pub In : ℕ → ℕ → Fault → Type 0

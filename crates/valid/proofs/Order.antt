@@ -10,7 +10,7 @@ use Rattle.syntax.specs.Fault.{Clear, given}
 use Rattle.text.specs.Bytes.{linesOf}
 use Rattle.text.specs.Grammar.{parse}
 use Rattle.text.specs.PassOne.{isLast, Place, atRows, inBlock, behindBlock, placeAfter, inOrder, mayEnd, Counts, none-yet, tooMany, lineFaults, linesFaults, passOne, said, entriesOf, rowsOf, Listing, grouped, listingsOf}
-use Rattle.types.specs.Types.{Ty, int, junk, var, tuple, pointer, code, Arg}
+use Rattle.types.specs.Types.{Ty, Arg}
 use Rattle.types.specs.Rows.{typeAt, typesOf}
 use Rattle.types.proofs.Equal.{none-true, not-false}
 use Rattle.valid.specs.Program.{Block, blockOf, blocksOf, programFrom, programOf}
@@ -67,12 +67,7 @@ ordered p n (some e ∷ es) c = one-line p e (said es) (in-order p n e (c .0)) (
 -- a block's body is its listing's, whatever its row
 pub body-of : (t : Ty value) (xs : List Instr) → blockOf t xs .body ≡ xs
 unfolding blockOf
-body-of int xs = refl
-body-of junk xs = refl
-body-of (var k) xs = refl
-body-of (tuple a) xs = refl
-body-of (pointer a) xs = refl
-body-of (code q a r) xs = refl
+body-of t xs = refl
 
 block-closed : (types : List Arg) (bs : List Listing) → AllClosed bs → (l : ℕ) (B : Block) → getElem? (blocksOf types bs) l ≡ some B → Closed (B .body)
 unfolding blocksOf

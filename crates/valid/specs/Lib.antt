@@ -1,4 +1,5 @@
 pub mod Program
 pub mod Rules
+pub mod Tests
 pub mod PassThree
 pub mod Verdict

@@ -1,19 +1,20 @@
 -- Pass three (document 01, "Typing", and "Faults", 7 to 14): for each line the set of faults that stand on it. A premise fails
 -- with a fault; premises side by side are all looked at, and one that reads a type waits for it: "a premise is not looked at if
 -- another fault on its line leaves it without a type to read".
-use Prim.Native.Nat.{ℕ, zero, suc, _-_}
+use Prim.Native.Nat.{ℕ, suc, _-_}
 use mathlib.Core.Bool.{Bool, true, false, _&&_, not, cond}
 use mathlib.Core.Option.{Option, none, some}
 use mathlib.Core.List.{List, [], _∷_, _++_, map}
-use lib.Dec.{leb, ltb, eqb}
-use lib.ListN.{length, getD, getElem?, take, drop, replicate}
+use lib.Dec.{leb, ltb}
+use lib.ListN.{length, getElem?, take, drop, replicate}
 use Rattle.syntax.specs.Partial.{chain, guarded}
 use Rattle.syntax.specs.Syntax.{Kind, value, stack, Base, reg, lit, lab, Operand, plain, inst, Instr, aop, bop, mov, ld, st, malloc, getsp, setsp, salloc, sfree, sld, sst, slp, ssp, jmp, halt}
 use Rattle.syntax.specs.Fault.{Fault, fault, unfit, given, Pass}
-use Rattle.types.specs.Types.{Ty, int, junk, var, tuple, pointer, code, nil, push, svar, gap, join, items, Arg, arg, kindOf, filled, Use, aStack, aTuple, aFile}
+use Rattle.types.specs.Types.{Ty, int, tuple, pointer, code, nil, push, svar, gap, join, items, Arg, kindOf, filled, aStack}
 use Rattle.types.specs.Equal.{same, sameLetters}
-use Rattle.valid.specs.Program.{Block, Program, typeOf, argsOf}
-use Rattle.valid.specs.Rules.{junks, Context, withRegs, withSp, atStart, entryRegs}
+use Rattle.valid.specs.Program.{Block, Program, typeOf, argsOf, CodeType, asCode}
+use Rattle.valid.specs.Rules.{junks, Context, withRegs, withSp, atStart}
+use Rattle.valid.specs.Tests.{itemAt, replaced, under, above, asInt, asTuple, asPointer, isFormed, formedArgs, isEntry}
 
 -- ---- premises
 -- what a premise gives, or the faults that stand against it, at least one
@@ -55,125 +56,6 @@ unfoldable pub noneOf : List Fault → Judged (Unit {0})
 noneOf [] = holds tt
 noneOf (f ∷ fs) = fails f fs
 
--- ---- reading types
--- item i, if it is a value type and no stack variable stands above it; a register, if it is known
-unfoldable pub itemAt : Ty stack → ℕ → Option (Ty value)
-itemAt nil i = none
-itemAt (push t a) zero = some t
-itemAt (push t a) (suc i) = itemAt a i
-itemAt (svar k a) i = none
-itemAt (gap a) zero = none
-itemAt (gap a) (suc i) = itemAt a i
-
--- the list with t for item i
-unfoldable pub replaced : Ty stack → ℕ → Ty value → Option (Ty stack)
-replaced nil i t = none
-replaced (push u a) zero t = some (push t a)
-replaced (push u a) (suc i) t = chain (replaced a i t) (λ b. some (push u b))
-replaced (svar k a) i t = none
-replaced (gap a) zero t = some (push t a)
-replaced (gap a) (suc i) t = chain (replaced a i t) (λ b. some (gap b))
-
--- what is under the first n items, if these are value types
-unfoldable pub under : ℕ → Ty stack → Option (Ty stack)
-under zero a = some a
-under (suc n) nil = none
-under (suc n) (push t a) = under n a
-under (suc n) (svar k a) = none
-under (suc n) (gap a) = none
-
--- what stands above b in a, if b is a tail of a
-unfoldable pub above : Ty stack → Ty stack → Option (Ty stack)
-above b nil = cond (same nil b) (some nil) none
-above b (push t a) = cond (same (push t a) b) (some nil) (chain (above b a) (λ c. some (push t c)))
-above b (svar k a) = cond (same (svar k a) b) (some nil) (chain (above b a) (λ c. some (svar k c)))
-above b (gap a) = cond (same (gap a) b) (some nil) (chain (above b a) (λ c. some (gap c)))
-
--- the type is `int`
-unfoldable pub asInt : Ty value → Option (Unit {0})
-asInt int = some tt
-asInt junk = none
-asInt (var k) = none
-asInt (tuple a) = none
-asInt (pointer a) = none
-asInt (code q a r) = none
-
--- a tuple type's components
-unfoldable pub asTuple : Ty value → Option (Ty stack)
-asTuple int = none
-asTuple junk = none
-asTuple (var k) = none
-asTuple (tuple a) = some a
-asTuple (pointer a) = none
-asTuple (code q a r) = none
-
--- a pointer type's stack
-unfoldable pub asPointer : Ty value → Option (Ty stack)
-asPointer int = none
-asPointer junk = none
-asPointer (var k) = none
-asPointer (tuple a) = none
-asPointer (pointer a) = some a
-asPointer (code q a r) = none
-
--- a code type's letters, stack and registers
-pub record CodeType : Type 0 where
-  pub letters : List Kind
-  pub sp : Ty stack
-  pub regs : Ty stack
-
--- a type as a code type, if it is one
-unfoldable pub asCode : Ty value → Option CodeType
-asCode int = none
-asCode junk = none
-asCode (var k) = none
-asCode (tuple a) = none
-asCode (pointer a) = none
-asCode (code q a r) = some (record { letters = q; sp = a; regs = r })
-
--- ---- well-formed types, as a test (Wf of crate types)
--- the letter is there, and is κ
-unfoldable pub isKind : Kind → Option Kind → Bool
-isKind κ none = false
-isKind value (some value) = true
-isKind value (some stack) = false
-isKind stack (some value) = false
-isKind stack (some stack) = true
-
--- the list is a stack type: it may have stack variables
-unfoldable pub isStack : Use → Bool
-isStack aStack = true
-isStack aTuple = false
-isStack aFile = false
-
--- the list is a register file: it may have gaps
-unfoldable pub isFile : Use → Bool
-isFile aStack = false
-isFile aTuple = false
-isFile aFile = true
-
--- the type is well-formed under Δ: clause by clause as Wf
-unfoldable pub isFormed : List Kind → Use → {κ : Kind} → Ty κ → Bool
-isFormed Δ u int = true
-isFormed Δ u junk = true
-isFormed Δ u (var k) = isKind value (getElem? Δ k)
-isFormed Δ u (tuple a) = isFormed Δ aTuple a
-isFormed Δ u (pointer a) = isFormed Δ aStack a
-isFormed Δ u (code q a r) = isFormed (q ++ Δ) aStack a && (isFormed (q ++ Δ) aFile r && eqb (items r) 8)
-isFormed Δ u nil = true
-isFormed Δ u (push t a) = isFormed Δ u t && isFormed Δ u a
-isFormed Δ u (svar k a) = isStack u && (isKind stack (getElem? Δ k) && isFormed Δ u a)
-isFormed Δ u (gap a) = isFile u && isFormed Δ u a
-
--- an argument is well-formed under Δ
-unfoldable pub formedArg : List Kind → Arg → Bool
-formedArg Δ (arg κ t) = isFormed Δ aStack t
-
--- every argument is
-unfoldable pub formedArgs : List Kind → List Arg → Bool
-formedArgs Δ [] = true
-formedArgs Δ (a ∷ A) = formedArg Δ a && formedArgs Δ A
-
 -- ---- one line, with the types before it
 module _ (P : Program) (Δ : List Kind) where
   -- 7: "row with a variable unbound or of the wrong letter, in .. an instruction"
@@ -214,7 +96,7 @@ module _ (P : Program) (Δ : List Kind) where
 
   -- the letters left, if there are no more arguments than letters and each is of its letter
   unfoldable pub lettersLeft : List Arg → List Kind → Option (List Kind)
-  lettersLeft A l = guarded (leb (length A) (length l) && sameLetters (map kindOf A) (drop (length l - length A) l)) (take (length l - length A) l)
+  lettersLeft θ l = guarded (leb (length θ) (length l) && sameLetters (map kindOf θ) (drop (length l - length θ) l)) (take (length l - length θ) l)
 
   -- the resulting row's type t is the filled type
   unfoldable pub isFilled : Ty value → Option (Ty value) → Bool
@@ -224,11 +106,11 @@ module _ (P : Program) (Δ : List Kind) where
   -- "arguments on a type that is no code" is 9, 14 "too many arguments, or of the wrong letter", then "the checker confirms that it
   -- equals the filled type"; `unequal` is the fault that says it does not
   unfoldable pub applied : Fault → Ty stack → Base → List Arg → ℕ → Judged (Unit {0})
-  applied unequal g b A t =
+  applied unequal g b θ t =
       base g b ▹ λ u.
       orFault 9 (asCode u) ▹ λ c.
-      orFault 14 (lettersLeft A (c .letters)) ▹ λ q.
-      need unequal (isFilled (typeOf P t) (filled A q (c .sp) (c .regs)))
+      orFault 14 (lettersLeft θ (c .letters)) ▹ λ q.
+      need unequal (isFilled (typeOf P t) (filled θ q (c .sp) (c .regs)))
 
   -- the type of an operand; with arguments it is the resulting row's, and 7 is looked for in all its rows
   unfoldable pub operand : Fault → Ty stack → Operand → Judged (Ty value)
@@ -307,22 +189,6 @@ module _ (P : Program) (Δ : List Kind) where
   bodyFaults (fails f fs) (x ∷ xs) = [] ∷ bodyFaults (fails f fs) xs
 
 -- ---- blocks
--- the number of samples that the entry declares: r1's components
-unfoldable pub declared : Ty stack → ℕ
-declared nil = 0
-declared (push int a) = 0
-declared (push junk a) = 0
-declared (push (var k) a) = 0
-declared (push (tuple c) a) = items c
-declared (push (pointer c) a) = 0
-declared (push (code q s r) a) = 0
-declared (svar k a) = 0
-declared (gap a) = 0
-
--- "block 0 must bind nothing, have no stack items, r1 a tuple of integers, others `-`"
-unfoldable pub isEntry : Block → Bool
-isEntry B = sameLetters (B .letters) [] && (same (B .sp) nil && same (B .regs) (entryRegs (declared (B .regs))))
-
 -- a block's own line: 7, "entry unfit" for block 0, "sp over 64 items"
 unfoldable pub blockFaults : Bool → Block → List Fault
 blockFaults first B =

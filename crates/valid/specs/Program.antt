@@ -1,7 +1,8 @@
 -- A program: the types of its rows, and its blocks with the types on entry that their code rows give.
 use Prim.Native.Nat.{ℕ}
-use mathlib.Core.List.{List, [], _∷_, map, reverse}
-use lib.ListN.{length, getD}
+use mathlib.Core.Option.{Option, none, some, Option·getD}
+use mathlib.Core.List.{List, [], map, reverse}
+use lib.ListN.{getD}
 use Rattle.syntax.specs.Syntax.{Kind, value, stack, Instr, Entry}
 use Rattle.text.specs.PassOne.{Listing, entriesOf, rowsOf, listingsOf}
 use Rattle.types.specs.Types.{Ty, int, junk, var, tuple, pointer, code, nil, Arg, arg}
@@ -19,7 +20,7 @@ pub record Program : Type 0 where
   pub types : List Arg
   pub blocks : List Block
 
--- the type of row t; the arguments that rows give, in the order of their variables
+-- the type of row t
 abbrev pub typeOf : Program → ℕ → Ty value
 typeOf P t = typeAt value (P .types) t
 
@@ -27,19 +28,32 @@ typeOf P t = typeAt value (P .types) t
 abbrev pub argsOf : Program → List ℕ → List Arg
 argsOf P ts = reverse (map (λ t. getD (P .types) t (arg value junk)) ts)
 
--- "At a block's start registers and sp are as its row says"; pass two sees that it is a code row
+-- the parts of a code type: its letters, its stack and its registers
+pub record CodeType : Type 0 where
+  pub letters : List Kind  -- in the order of their variables
+  pub sp : Ty stack
+  pub regs : Ty stack
+
+-- a type as a code type, if it is one
+unfoldable pub asCode : Ty value → Option CodeType
+asCode int = none
+asCode junk = none
+asCode (var k) = none
+asCode (tuple a) = none
+asCode (pointer a) = none
+asCode (code q a r) = some (record { letters = q; sp = a; regs = r })
+
+-- the parts of a row's type; pass two refuses a block whose row is no code row, so what stands for its parts plays no part
+abbrev pub codeOf : Ty value → CodeType
+codeOf τ = Option·getD (asCode τ) (record { letters = []; sp = nil; regs = nil })
+
+-- the block with a row of type τ: "At a block's start registers and sp are as its row says"
 unfoldable pub blockOf : Ty value → List Instr → Block
-blockOf int xs = record { letters = []; sp = nil; regs = nil; body = xs }
-blockOf junk xs = record { letters = []; sp = nil; regs = nil; body = xs }
-blockOf (var k) xs = record { letters = []; sp = nil; regs = nil; body = xs }
-blockOf (tuple a) xs = record { letters = []; sp = nil; regs = nil; body = xs }
-blockOf (pointer a) xs = record { letters = []; sp = nil; regs = nil; body = xs }
-blockOf (code q a r) xs = record { letters = q; sp = a; regs = r; body = xs }
+blockOf τ xs = record { letters = codeOf τ .letters; sp = codeOf τ .sp; regs = codeOf τ .regs; body = xs }
 
 -- the blocks of a text, by the types of its rows
 unfoldable pub blocksOf : List Arg → List Listing → List Block
-blocksOf types [] = []
-blocksOf types (b ∷ bs) = blockOf (typeAt value types (b .code)) (b .body) ∷ blocksOf types bs
+blocksOf types bs = map (λ b. blockOf (typeAt value types (b .code)) (b .body)) bs
 
 -- the program that lines say
 unfoldable pub programFrom : List Entry → Program

@@ -1,3 +1,4 @@
 // Which programs are well typed: the typing rules of Figures 10 to 12 with document 01's bounds (specs/Rules.antt), the
-// faults of pass three (specs/PassThree.antt), and the verdict on a text (specs/Verdict.antt). The proofs show that the
-// verdict is accepted exactly where the rules type every block. Definitions and theorems only.
+// faults of pass three (specs/PassThree.antt, by the tests of specs/Tests.antt), and the verdict on a text
+// (specs/Verdict.antt). The proofs show that the verdict is accepted exactly where the rules type every block.
+// Definitions and theorems only.

@@ -10,7 +10,7 @@ use lib.Seq.{getD-set-same, getD-set-other}
 use Rattle.syntax.specs.Syntax.{value, stack}
 use Rattle.types.specs.Types.{Ty, Arg}
 use Rattle.types.specs.Rows.{typeAt}
-use Rattle.valid.specs.PassThree.{itemAt, replaced}
+use Rattle.valid.specs.Tests.{itemAt, replaced}
 use Rattle.valid_context.specs.Context.{linked, onLink, regsFrom, regsOf}
 
 module _ (T : List Arg) where

@@ -19,7 +19,7 @@ use Rattle.types.specs.Equal.{same}
 use Rattle.types.proofs.Equal.{and-inv, none-true, same-sound, same-refl}
 use Rattle.types.proofs.Filling.{items-join}
 use Rattle.valid.specs.Rules.{junks}
-use Rattle.valid.specs.PassThree.{itemAt, replaced, under, above}
+use Rattle.valid.specs.Tests.{itemAt, replaced, under, above}
 use Rattle.valid.proofs.Reading.{above-sound, above-complete}
 use Rattle.valid_context.specs.Context.{linked, firstVar, onItem, spOf, spAbove, areValues}
 

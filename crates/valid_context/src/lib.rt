@@ -15,7 +15,7 @@ ghost use Rattle.syntax.proofs.Least.{least};
 ghost use Rattle.types.specs.Types.{Arg, junk};
 ghost use Rattle.types.specs.Rows.{typeAt};
 ghost use Rattle.valid.specs.Rules.{junks};
-ghost use Rattle.valid.specs.PassThree.{itemAt, replaced, under};
+ghost use Rattle.valid.specs.Tests.{itemAt, replaced, under};
 ghost use Rattle.valid_context.specs.Context.{linked, regsOf, spOf, spAbove, areValues};
 
 // The lesser of two fault numbers, 0 standing for none.

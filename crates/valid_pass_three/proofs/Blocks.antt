@@ -19,7 +19,8 @@ use Rattle.tables.proofs.Steps.{length-rows, length-instrs, endOf, blocks-step}
 use Rattle.types.proofs.Meaning.{length-types}
 use Rattle.valid.specs.Program.{Block, Program, blockOf, blocksOf}
 use Rattle.valid.specs.Rules.{atStart}
-use Rattle.valid.specs.PassThree.{holds, isFormed, isEntry, bodyFaults, blockFaults, blocksFaults, hasNone, passThree}
+use Rattle.valid.specs.Tests.{isFormed, isEntry}
+use Rattle.valid.specs.PassThree.{holds, bodyFaults, blockFaults, blocksFaults, hasNone, passThree}
 use Rattle.valid.proofs.Clear.{clear-replicate}
 use Rattle.valid.proofs.Order.{body-of}
 use Rattle.types_rows.specs.Read.{tab, lower, valueAt, placeV, meanS}

@@ -15,7 +15,7 @@ use Rattle.types.specs.Types.{Arg, arg, aStack}
 use Rattle.types.specs.Rows.{typesOf, rowRefs}
 use Rattle.types.proofs.Equal.{none-true}
 use Rattle.types.proofs.Meaning.{typeIn}
-use Rattle.valid.specs.PassThree.{formedArg}
+use Rattle.valid.specs.Tests.{formedArg}
 use Rattle.tables.specs.Tables.{RowTable, cell, rowFrom, rowAt, rowsIn}
 use Rattle.valid_scope.specs.variables.Free.{fits, fitTo, topOf, freeIn, respectedIn, properIn}
 use Rattle.types_rows.specs.Read.{tab}

@@ -15,7 +15,7 @@ use Rattle.types.specs.Types.{Ty, int, junk, var, tuple, pointer, code, nil, pu
 use Rattle.types.specs.Rows.{typeAt, components, registers, meaning, meanings, typesOf, isValue, isOf, isSort, valueRow, stackRow, Ref, knownRefs, rowRefs, allBelow, allOfSort}
 use Rattle.types.proofs.Equal.{and-inv}
 use Rattle.types.proofs.Meaning.{typeIn, types-snoc, type-before, type-at}
-use Rattle.valid.specs.PassThree.{isStack, isFile}
+use Rattle.valid.specs.Tests.{isStack, isFile}
 use Rattle.tables.specs.Tables.{RowTable, cell, span, codeRowAt, rowFrom, rowAt, rowsFrom, rowsIn}
 use Rattle.tables.proofs.Steps.{length-rows, row-in}
 use Rattle.types_rows.proofs.Bridge.{rows-snoc}

@@ -17,8 +17,9 @@ ghost use Rattle.types.specs.Rows.{typeAt, typesOf};
 ghost use Rattle.tables.specs.Tables.{rowsIn};
 ghost use Rattle.types_rows.specs.Read.{tab, meanV, slotAt, onSlot, partsOf, CountedTo};
 ghost use Rattle.valid.specs.Program.{blockOf};
-ghost use Rattle.valid.specs.Rules.{ints};
-ghost use Rattle.valid.specs.PassThree.{isEntry, declared, blockFaults};
+ghost use Rattle.valid.specs.Rules.{ints, declared};
+ghost use Rattle.valid.specs.Tests.{isEntry};
+ghost use Rattle.valid.specs.PassThree.{blockFaults};
 ghost use Rattle.valid_scope.specs.Scoped.{Scoped};
 ghost use Rattle.valid_scope.specs.entry.Entry.{gaps, Declares, CodeAt, blockAt};
 

@@ -18,7 +18,7 @@ ghost use lib.ListN.{length, getD};
 ghost use Rattle.syntax.specs.Syntax.{value};
 ghost use Rattle.types.specs.Types.{junk, arg};
 ghost use Rattle.types.specs.Rows.{typesOf};
-ghost use Rattle.valid.specs.PassThree.{formedArg};
+ghost use Rattle.valid.specs.Tests.{formedArg};
 ghost use Rattle.tables.specs.Tables.{span, letterOf, rowFrom, rowAt, rowsIn};
 ghost use Rattle.types_rows.specs.Read.{tab};
 ghost use Rattle.image.specs.Sections.{rowSection, partSection, useSection, topSection, Ordered, Outside};

@@ -19,7 +19,8 @@ use Rattle.types.proofs.Equal.{and-inv}
 use Rattle.tables.specs.Tables.{span, letterOf, lettersAt, rowsIn}
 use Rattle.tables.proofs.Steps.{span-step}
 use Rattle.valid.specs.Program.{Program, typeOf, argsOf}
-use Rattle.valid.specs.PassThree.{isFormed, formedArg, formedArgs, formed, lettersLeft}
+use Rattle.valid.specs.Tests.{isFormed, formedArg, formedArgs}
+use Rattle.valid.specs.PassThree.{formed, lettersLeft}
 use Rattle.types_rows.specs.Read.{tab, meanV, meanS, valueAt, valueWith, buildV, isStackAt, argOf}
 use Rattle.types_rows.specs.declared.Val.the-variants.{ValVar, Junk}
 use Rattle.types_rows.proofs.Laws.{value-is}

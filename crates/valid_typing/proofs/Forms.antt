@@ -15,8 +15,9 @@ use Rattle.types.specs.Types.{Ty, int, junk, var, tuple, pointer, code, nil, Ar
 use Rattle.types.specs.Rows.{typeAt}
 use Rattle.types.specs.Equal.{same}
 use Rattle.types.proofs.Equal.{same-refl}
-use Rattle.valid.specs.Program.{Program}
-use Rattle.valid.specs.PassThree.{Judged, _▹_, orFault, known, integerAt, tupleAt, pointerAt, itemAt, asInt, asTuple, asPointer, asCode}
+use Rattle.valid.specs.Program.{Program, asCode}
+use Rattle.valid.specs.Tests.{itemAt, asInt, asTuple, asPointer}
+use Rattle.valid.specs.PassThree.{Judged, _▹_, orFault, known, integerAt, tupleAt, pointerAt}
 use Rattle.types_rows.specs.Read.{tab, lower, valueWith, valueAt, placeV, OkV, buildV, meanV, meanS, partsOf}
 use Rattle.types_rows.specs.declared.Val.{Val}
 use Rattle.types_rows.specs.declared.Val.the-variants.{Int, Junk, ValVar, ValFill, Tuple, Pointer, Code}

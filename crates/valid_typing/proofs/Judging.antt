@@ -15,7 +15,8 @@ use Rattle.types.specs.Equal.{same}
 use Rattle.types.proofs.Equal.{same-sound}
 use Rattle.valid.specs.Program.{Program, typeOf}
 use Rattle.valid.specs.Rules.{junks, Context, withRegs, withSp}
-use Rattle.valid.specs.PassThree.{Judged, holds, fails, _▹_, _&_, orFault, need, itemAt, replaced, under, above, asInt, formed, known, integerAt, tupleAt, pointerAt, assign, operand, operands, targetOf, newTail, judge}
+use Rattle.valid.specs.Tests.{itemAt, replaced, under, above, asInt}
+use Rattle.valid.specs.PassThree.{Judged, holds, fails, _▹_, _&_, orFault, need, formed, known, integerAt, tupleAt, pointerAt, assign, operand, operands, targetOf, newTail, judge}
 use Rattle.valid_context.specs.Context.{linked}
 use Rattle.syntax.proofs.Least.{least}
 use Rattle.valid_context.specs.Told.{toldOf, answer}

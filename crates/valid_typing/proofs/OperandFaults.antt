@@ -9,8 +9,9 @@ use Rattle.syntax.specs.Syntax.{Kind, value, stack, Base, reg, lit, inst}
 use Rattle.syntax.specs.Fault.{Fault, numberOf}
 use Rattle.types.specs.Types.{Ty, int, Arg, filled}
 use Rattle.types.specs.Rows.{typeAt}
-use Rattle.valid.specs.Program.{Program, typeOf, argsOf}
-use Rattle.valid.specs.PassThree.{Judged, _▹_, orFault, need, itemAt, CodeType, asCode, formedArgs, formed, base, lettersLeft, isFilled, applied, operand}
+use Rattle.valid.specs.Program.{Program, typeOf, argsOf, CodeType, asCode}
+use Rattle.valid.specs.Tests.{itemAt, formedArgs}
+use Rattle.valid.specs.PassThree.{Judged, _▹_, orFault, need, formed, base, lettersLeft, isFilled, applied, operand}
 use Rattle.valid_context.specs.Context.{linked}
 use Rattle.syntax.proofs.Least.{least}
 use Rattle.valid_context.specs.Told.{toldOf, answer}

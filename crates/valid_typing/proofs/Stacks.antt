@@ -18,7 +18,7 @@ use Rattle.types.specs.Equal.{same}
 use Rattle.types.proofs.Equal.{same-false}
 use Rattle.types.proofs.Filling.{below-lt, below-ge, Side, lo, hi, side, join-assoc, join-nil}
 use Rattle.tables.specs.Tables.{RowTable}
-use Rattle.valid.specs.PassThree.{itemAt, above}
+use Rattle.valid.specs.Tests.{itemAt, above}
 use Rattle.types_rows.specs.Read.{tab, meanV, meanS, acting, placed, valueUnder, stackUnder, dropS, ItemOf, itemsAt, CountedTo}
 use Rattle.types_rows.specs.declared.Item.{Item}
 use Rattle.types_rows.specs.declared.Item.the-variants.{NoItem, ValItem, VarItem}

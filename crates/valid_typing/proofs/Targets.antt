@@ -10,9 +10,9 @@ use Rattle.syntax.specs.Syntax.{Kind, value, stack, Operand}
 use Rattle.syntax.specs.Fault.{Fault, fault, unfit, numberOf, lowest, itemsOf}
 use Rattle.types.specs.Types.{Ty, nil, push, svar, gap}
 use Rattle.types.specs.Equal.{same}
-use Rattle.valid.specs.Program.{Program}
+use Rattle.valid.specs.Program.{Program, CodeType, asCode}
 use Rattle.valid.specs.Rules.{Context}
-use Rattle.valid.specs.PassThree.{Judged, holds, faultsOf, _▹_, _&_, orFault, need, noneOf, CodeType, asCode, operand, unfits, noneLeft, targetOf}
+use Rattle.valid.specs.PassThree.{Judged, holds, faultsOf, _▹_, _&_, orFault, need, noneOf, operand, unfits, noneLeft, targetOf}
 use Rattle.syntax.proofs.Least.{least}
 use Rattle.valid_context.specs.Told.{lacks, toldOf, answer}
 use Rattle.valid_context.proofs.Told.{told-and, told-stop, told-some, told-none, told-need}

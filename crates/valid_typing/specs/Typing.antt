@@ -10,8 +10,9 @@ use Rattle.types.specs.Types.{Ty, junk, nil, push, svar, gap, Arg, arg, items}
 use Rattle.types.specs.Rows.{typeAt, typesOf}
 use Rattle.types.specs.Equal.{same}
 use Rattle.tables.specs.Tables.{cell, rowsIn, lettersAt}
-use Rattle.valid.specs.Program.{Program}
-use Rattle.valid.specs.PassThree.{Judged, _▹_, orFault, itemAt, tupleAt, CodeType}
+use Rattle.valid.specs.Program.{Program, CodeType}
+use Rattle.valid.specs.Tests.{itemAt}
+use Rattle.valid.specs.PassThree.{Judged, _▹_, orFault, tupleAt}
 use Rattle.types_rows.specs.Read.{tab, Counted, meanV, meanS, partsOf}
 use Rattle.types_rows.specs.declared.Item.{Item}
 use Rattle.types_rows.specs.declared.Item.the-variants.{NoItem, ValItem, VarItem}

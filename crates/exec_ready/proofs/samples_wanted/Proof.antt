@@ -5,7 +5,7 @@ use Rattle.types.specs.Rows.{typeAt, typesOf}
 use Rattle.tables.specs.Tables.{rowsIn}
 use Rattle.types_rows.specs.Read.{tab}
 use Rattle.valid.specs.Program.{blockOf}
-use Rattle.valid.specs.PassThree.{declared}
+use Rattle.valid.specs.Rules.{declared}
 use Rattle.image.specs.Sections.{part, rowSection, partSection}
 use borrow.Author.Needs.{needs}
 use Rattle.exec_ready.proofs.samples_wanted.Statement.{statement}

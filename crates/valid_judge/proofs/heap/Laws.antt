@@ -14,7 +14,8 @@ use Rattle.syntax.specs.Partial.{guarded}
 use Rattle.syntax.proofs.Least.{least}
 use Rattle.valid.specs.Program.{Program, typeOf}
 use Rattle.valid.specs.Rules.{Context, withRegs}
-use Rattle.valid.specs.PassThree.{replaced, assign}
+use Rattle.valid.specs.Tests.{replaced}
+use Rattle.valid.specs.PassThree.{assign}
 use Rattle.types_rows.specs.Read.{tab}
 use Rattle.types_rows.proofs.Bridge.{length-types}
 use Rattle.valid_context.specs.Context.{linked}

@@ -13,7 +13,8 @@ use Rattle.syntax.proofs.Least.{least, items-append}
 use Rattle.types.specs.Types.{Ty}
 use Rattle.valid.specs.Program.{Program}
 use Rattle.valid.specs.Rules.{Context}
-use Rattle.valid.specs.PassThree.{Judged, holds, fails, faultsOf, _▹_, _&_, orFault, itemAt, asInt, known, integerAt, targetOf, judge}
+use Rattle.valid.specs.Tests.{itemAt, asInt}
+use Rattle.valid.specs.PassThree.{Judged, holds, fails, faultsOf, _▹_, _&_, orFault, known, integerAt, targetOf, judge}
 use Rattle.valid_context.specs.Told.{Told, gives, lacks, toldOf, answer}
 use Rattle.valid_context.specs.premises.Answers.{ItemIs, Answered}
 use Rattle.valid_typing.proofs.Judging.{jmp-told, bop-told}

@@ -18,7 +18,8 @@ use Rattle.types.specs.Equal.{same}
 use Rattle.types.proofs.Equal.{and-inv, same-sound}
 use Rattle.valid.specs.Program.{Program, typeOf}
 use Rattle.valid.specs.Rules.{junks, Context, withSp}
-use Rattle.valid.specs.PassThree.{asPointer, itemAt, replaced, under, above, formed, pointerAt, assign, judge}
+use Rattle.valid.specs.Tests.{asPointer, itemAt, replaced, under, above}
+use Rattle.valid.specs.PassThree.{formed, pointerAt, assign, judge}
 use Rattle.valid_context.specs.Context.{linked, regsOf, spOf, spAbove, areValues, contextOf}
 use Rattle.valid_context.specs.Told.{toldOf, answer}
 use Rattle.valid_context.proofs.Sp.{items-is, item-is, put-is, tail-is}

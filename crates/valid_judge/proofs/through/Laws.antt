@@ -14,7 +14,8 @@ use Rattle.types.specs.Equal.{same}
 use Rattle.types.proofs.Equal.{same-sound}
 use Rattle.valid.specs.Program.{Program, typeOf}
 use Rattle.valid.specs.Rules.{Context, withSp}
-use Rattle.valid.specs.PassThree.{itemAt, replaced, above, pointerAt, known, formed, assign, newTail, judge}
+use Rattle.valid.specs.Tests.{itemAt, replaced, above}
+use Rattle.valid.specs.PassThree.{pointerAt, known, formed, assign, newTail, judge}
 use Rattle.valid_context.specs.Context.{linked, regsOf, spOf, spAbove, contextOf}
 use Rattle.valid_context.specs.Told.{toldOf, answer}
 use Rattle.valid_context.proofs.Sp.{join-is}

@@ -13,7 +13,8 @@ use Rattle.types.specs.Rows.{typeAt}
 use Rattle.types.specs.Equal.{same}
 use Rattle.valid.specs.Program.{Program, typeOf}
 use Rattle.valid.specs.Rules.{Context}
-use Rattle.valid.specs.PassThree.{Judged, _▹_, orFault, asInt, formed, integerAt, operand, operands, assign, judge}
+use Rattle.valid.specs.Tests.{asInt}
+use Rattle.valid.specs.PassThree.{Judged, _▹_, orFault, formed, integerAt, operand, operands, assign, judge}
 use Rattle.types_rows.specs.Read.{tab, valueAt, valueWith, meanV, meanS, buildV}
 use Rattle.types_rows.specs.declared.Val.the-variants.{ValVar, Int}
 use Rattle.types_rows.proofs.Laws.{value-is}

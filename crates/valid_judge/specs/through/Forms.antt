@@ -6,7 +6,7 @@ use mathlib.Core.List.{List}
 use Rattle.syntax.specs.Syntax.{value, stack}
 use Rattle.types.specs.Types.{Ty, pointer, items, Arg}
 use Rattle.types.specs.Rows.{typeAt}
-use Rattle.valid.specs.PassThree.{replaced}
+use Rattle.valid.specs.Tests.{replaced}
 use Rattle.types_rows.specs.Read.{tab, meanS}
 use Rattle.valid_context.specs.Context.{spOf}
 use Rattle.valid_typing.specs.Typing.{SmallVars}

@@ -8,9 +8,9 @@ use Rattle.syntax.specs.Syntax.{Kind, value, stack, Base, reg, lit, lab, Operan
 use Rattle.syntax.specs.Fault.{Fault, fault, unfit, itemsOf}
 use Rattle.types.specs.Types.{Ty, int, nil, push, svar, gap, items, Arg}
 use Rattle.types.specs.Equal.{same}
-use Rattle.valid.specs.Program.{Program, argsOf}
+use Rattle.valid.specs.Program.{Program, argsOf, asCode}
 use Rattle.valid.specs.Rules.{Context}
-use Rattle.valid.specs.PassThree.{Judged, holds, fails, faultsOf, _▹_, _&_, orFault, need, noneOf, asCode, lettersLeft, formed, known, integerAt, tupleAt, pointerAt, assign, base, applied, operand, operands, unfits, targetOf, newTail, judge}
+use Rattle.valid.specs.PassThree.{Judged, holds, fails, faultsOf, _▹_, _&_, orFault, need, noneOf, lettersLeft, formed, known, integerAt, tupleAt, pointerAt, assign, base, applied, operand, operands, unfits, targetOf, newTail, judge}
 use Rattle.valid_context.specs.premises.Answers.{In, first, later}
 use Rattle.valid_verdict.proofs.finding.Laws.{in-some}
 

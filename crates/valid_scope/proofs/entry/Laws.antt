@@ -25,9 +25,10 @@ use Rattle.types_rows.specs.declared.Slot.the-variants.{Known}
 use Rattle.types_rows.proofs.Val.{the-type}
 use Rattle.types_rows.proofs.Laws.{lower-low, plain-value, value-is, never}
 use Rattle.types_rows.proofs.Bridge.{type-at, arg-at}
-use Rattle.valid.specs.Program.{Block, blockOf}
-use Rattle.valid.specs.Rules.{ints, entryRegs}
-use Rattle.valid.specs.PassThree.{declared, isFormed, formedArg, isEntry, blockFaults}
+use Rattle.valid.specs.Program.{Block, asCode, blockOf}
+use Rattle.valid.specs.Rules.{ints, entryRegs, declared}
+use Rattle.valid.specs.Tests.{isFormed, formedArg, isEntry}
+use Rattle.valid.specs.PassThree.{blockFaults}
 use Rattle.valid_scope.specs.declared.entry.Samples.{Samples}
 use Rattle.valid_scope.specs.entry.Entry.{gaps, Declares, blockAt}
 
@@ -229,11 +230,11 @@ module _ (rows parts : List ℕ) (n c h : ℕ) {v : Val} (e : h ≡ lower (n + 1
       type-at (tab rows parts) value n c ∙ ap (meanV (tab rows parts)) (sym (e ∙ ap (λ (m : ℕ). lower m c) l)) ∙ sym (form-is rows parts h f q)
 
   pub block-is : {x p : ℕ} (xs : List Instr) → v ≡ Code x p → blockOf (typeAt value (typesOf (rowsIn (tab rows parts) n)) c) xs ≡ blockAt (tab rows parts) h x p xs
-  unfolding blockOf
+  unfolding blockOf asCode
   block-is xs q = ap (λ (t : Ty value). blockOf t xs) (row-type q)
 
   no-block : (w : Val) (xs : List Instr) → OneOf (0 ∷ 1 ∷ 2 ∷ 3 ∷ 4 ∷ 5 ∷ []) (tagOf the-type w) → blockOf (buildV (meanV (tab rows parts)) (meanS (tab rows parts)) parts h w) xs ≡ record { letters = []; sp = nil; regs = nil; body = xs }
-  unfolding blockOf
+  unfolding blockOf asCode
   no-block Int xs k = refl
   no-block Junk xs k = refl
   no-block (ValVar j) xs k = refl

@@ -14,7 +14,7 @@ use Rattle.syntax.specs.Syntax.{Kind, value, stack}
 use Rattle.types.specs.Types.{Ty, int, junk, var, tuple, pointer, code, nil, push, svar, gap, Use, aStack, aTuple, aFile}
 use Rattle.types.proofs.Equal.{and-inv}
 use Rattle.types.proofs.Filling.{Side, lo, hi, side}
-use Rattle.valid.specs.PassThree.{isKind, isStack, isFile, isFormed}
+use Rattle.valid.specs.Tests.{isKind, isStack, isFile, isFormed}
 use Rattle.valid_scope.specs.variables.Free.{both, useOf, fits, fitTo, freeAs, respected, proper}
 
 -- ---- small facts

@@ -9,8 +9,7 @@ use Rattle.types.specs.Equal.{same}
 use Rattle.tables.specs.Tables.{RowTable, lettersAt}
 use Rattle.types_rows.specs.Read.{meanV, meanS, partsOf, CountedTo}
 use Rattle.valid.specs.Program.{Block}
-use Rattle.valid.specs.Rules.{entryRegs}
-use Rattle.valid.specs.PassThree.{declared}
+use Rattle.valid.specs.Rules.{entryRegs, declared}
 use Rattle.valid_scope.specs.declared.entry.Samples.{Samples}
 
 -- k registers that are not named

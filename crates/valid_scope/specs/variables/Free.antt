@@ -8,7 +8,7 @@ use lib.Dec.{eqb}
 use lib.ListN.{length, getElem?}
 use Rattle.syntax.specs.Syntax.{Kind, value, stack}
 use Rattle.types.specs.Types.{Ty, int, junk, var, tuple, pointer, code, nil, push, svar, gap, items, Arg, arg, Use, aStack, aTuple, aFile}
-use Rattle.valid.specs.PassThree.{isStack, isFile}
+use Rattle.valid.specs.Tests.{isStack, isFile}
 
 -- ---- how a variable is used: 0 not at all, 1 as a value variable, 2 as a stack variable, 3 as both
 -- used as u says and as w says

@@ -12,7 +12,8 @@ use Rattle.types.specs.Types.{Ty, int, Arg}
 use Rattle.types.specs.Rows.{typeAt}
 use Rattle.tables.specs.Tables.{cell, baseOf}
 use Rattle.valid.specs.Program.{Program}
-use Rattle.valid.specs.PassThree.{itemAt, labelType, base}
+use Rattle.valid.specs.Tests.{itemAt}
+use Rattle.valid.specs.PassThree.{labelType, base}
 use Rattle.types_rows.specs.Read.{tab, lower, meanV, valueAt, valueWith, placeV}
 use Rattle.types_rows.specs.declared.Val.the-variants.{Int}
 use Rattle.types_rows.proofs.Laws.{link-in}

@@ -16,7 +16,8 @@ use Rattle.types.specs.Rows.{typeAt}
 use Rattle.types.specs.Equal.{same}
 use Rattle.tables.specs.Tables.{OperandTable, operandAt, operandsAt}
 use Rattle.valid.specs.Program.{Program}
-use Rattle.valid.specs.PassThree.{Judged, holds, _▹_, _&_, asTuple, operand, operands}
+use Rattle.valid.specs.Tests.{asTuple}
+use Rattle.valid.specs.PassThree.{Judged, holds, _▹_, _&_, operand, operands}
 use Rattle.types_rows.specs.Read.{lower, partsOf}
 use Rattle.valid_context.specs.Told.{toldOf, answer}
 use Rattle.valid_context.proofs.Told.{told-and, told-then, told-stop}

@@ -6,7 +6,7 @@ use mathlib.Core.Path.{ap, _∙_}
 use mathlib.Core.List.{map}
 use borrow.Author.Tests.{not-true, not-false}
 use Rattle.tables.specs.Tables.{span, letterOf}
-use Rattle.valid.specs.PassThree.{formedArg}
+use Rattle.valid.specs.Tests.{formedArg}
 use Rattle.valid_typing.specs.Typing.{givenArg}
 use Rattle.valid_typing.proofs.Args.{RestFormed, rest-first, rest-next, rest-fails, rest-done}
 use Rattle.image.specs.Sections.{part, sharedSection, slotSection}

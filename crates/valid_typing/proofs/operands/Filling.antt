@@ -16,8 +16,9 @@ use Rattle.types.specs.Rows.{typeAt, typesOf}
 use Rattle.types.specs.Equal.{sameLetters}
 use Rattle.types.proofs.Equal.{and-inv}
 use Rattle.tables.specs.Tables.{OperandTable, cell, span, letterOf, baseOf, operandOf, operandAt, rowsIn}
-use Rattle.valid.specs.Program.{Program, typeOf, argsOf}
-use Rattle.valid.specs.PassThree.{CodeType, asCode, formedArg, formedArgs, formed, lettersLeft, isFilled, base, applied, operand}
+use Rattle.valid.specs.Program.{Program, typeOf, argsOf, CodeType, asCode}
+use Rattle.valid.specs.Tests.{formedArg, formedArgs}
+use Rattle.valid.specs.PassThree.{formed, lettersLeft, isFilled, base, applied, operand}
 use Rattle.valid.proofs.Reading.{formed-sound}
 use Rattle.types_rows.specs.Read.{tab, argOf}
 use Rattle.types_rows.proofs.Bridge.{arg-is, arg-at, type-in}

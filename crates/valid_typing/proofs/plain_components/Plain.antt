@@ -14,7 +14,8 @@ use Rattle.types.specs.Types.{Ty}
 use Rattle.types.specs.Rows.{typeAt}
 use Rattle.tables.specs.Tables.{OperandTable, cell, operandAt, operandsAt}
 use Rattle.valid.specs.Program.{Program}
-use Rattle.valid.specs.PassThree.{asInt, asTuple, operand, operands}
+use Rattle.valid.specs.Tests.{asInt, asTuple}
+use Rattle.valid.specs.PassThree.{operand, operands}
 use Rattle.types_rows.specs.Read.{lower, partsOf}
 use Rattle.valid_context.specs.Told.{toldOf, answer}
 use Rattle.types.proofs.Equal.{same-sound}

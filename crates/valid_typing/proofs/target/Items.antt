@@ -12,9 +12,9 @@ use Rattle.syntax.specs.Syntax.{Kind, value, Operand}
 use Rattle.syntax.specs.Fault.{unfit, numberOf}
 use Rattle.types.specs.Types.{Ty}
 use Rattle.types.specs.Equal.{same, sameLetters}
-use Rattle.valid.specs.Program.{Program}
+use Rattle.valid.specs.Program.{Program, CodeType, asCode}
 use Rattle.valid.specs.Rules.{Context}
-use Rattle.valid.specs.PassThree.{Judged, CodeType, asCode, operand, unfits, noneLeft, targetOf}
+use Rattle.valid.specs.PassThree.{Judged, operand, unfits, noneLeft, targetOf}
 use Rattle.valid_context.specs.Told.{toldOf, answer}
 use Rattle.valid_context.specs.premises.Answers.{In, first, later, ItemIs, Answered}
 use Rattle.valid_typing.proofs.Items.{itemsIn}

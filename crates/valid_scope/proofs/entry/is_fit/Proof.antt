@@ -1,7 +1,7 @@
 use mathlib.Core.Path.{ap, sym, _∙_}
 use mathlib.Core.Bool.{Bool, not, _&&_}
 use Rattle.types_rows.specs.Read.{tab}
-use Rattle.valid.specs.PassThree.{isEntry}
+use Rattle.valid.specs.Tests.{isEntry}
 use Rattle.valid_scope.specs.entry.Entry.{blockAt}
 use Rattle.valid_scope.proofs.entry.is_fit.Statement.{statement}
 use Rattle.valid_scope.proofs.entry.is_fit.Tie as tie

@@ -1,7 +1,7 @@
 use mathlib.Core.Path.{refl, ap}
 use Rattle.types.specs.Types.{push}
 use Rattle.types.specs.Equal.{same}
-use Rattle.valid.specs.PassThree.{declared}
+use Rattle.valid.specs.Rules.{declared}
 use Rattle.valid_scope.proofs.entry.Laws.{form-is, declares-as, declares-none, declares-tuple, items-parts, tuple-ok}
 use borrow.Author.Needs.{needs}
 use Rattle.valid_scope.proofs.entry.tuple_of_ints.Statement.{statement}
