@@ -163,11 +163,11 @@ module _ (P : Program) where
 
 -- ---- the verdict
 -- it is accepted, with its counts, exactly where no pass has a fault
-accepts : (text : List ℕ) → earliest (passes text) ≡ none → check text ≡ accepted (length (programOf text .blocks)) (instrCount (programOf text .blocks))
+pub accepts : (text : List ℕ) → earliest (passes text) ≡ none → check text ≡ accepted (length (programOf text .blocks)) (instrCount (programOf text .blocks))
 unfolding check
 accepts text e = rw e
 
-refuses : (text : List ℕ) (r : Refusal) → earliest (passes text) ≡ some r → check text ≡ refused r
+pub refuses : (text : List ℕ) (r : Refusal) → earliest (passes text) ≡ some r → check text ≡ refused r
 unfolding check
 refuses text r e = rw e
 

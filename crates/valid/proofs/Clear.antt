@@ -41,13 +41,13 @@ AllClear [] = Unit
 AllClear (p ∷ ps) = Clear p × AllClear ps
 
 -- a pass has no lowest line with a fault exactly where it is clear
-line-clear : (n : ℕ) (p : Pass) → lowestLine n p ≡ none → Clear p
+pub line-clear : (n : ℕ) (p : Pass) → lowestLine n p ≡ none → Clear p
 unfolding lowestLine
 line-clear n [] e = tt
 line-clear n ([] ∷ p) e = (refl, line-clear (suc n) p e)
 line-clear n ((f ∷ fs) ∷ p) e = some-none e
 
-clear-line : (n : ℕ) (p : Pass) → Clear p → lowestLine n p ≡ none
+pub clear-line : (n : ℕ) (p : Pass) → Clear p → lowestLine n p ≡ none
 unfolding lowestLine
 clear-line n [] c = refl
 clear-line n ([] ∷ p) c = clear-line (suc n) p (c .1)

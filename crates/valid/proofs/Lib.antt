@@ -5,3 +5,5 @@ pub mod Unique
 pub mod Order
 pub mod Accept
 pub mod Numbers
+pub mod Verdicts
+pub mod Bound

@@ -2,3 +2,4 @@ pub mod Program
 pub mod Rules
 pub mod PassThree
 pub mod Verdict
+pub mod Answers
