@@ -13,7 +13,7 @@ use Rattle.valid.proofs.Reading.{none-some}
 pub cons-nil : {A X : Type 0} {x : A} {xs : List A} → x ∷ xs ≡ [] → X
 cons-nil e = let z : _≡_ {A = ℕ} 0 1 = cc in absurd (omega arith)
 
-some-none : {A X : Type 0} {x : A} → some x ≡ none → X
+pub some-none : {A X : Type 0} {x : A} → some x ≡ none → X
 some-none e = none-some (sym e)
 
 pub given-none : (b : Bool) (n : ℕ) → given b n ≡ [] → b ≡ false

@@ -7,3 +7,4 @@ pub mod Accept
 pub mod Numbers
 pub mod Verdicts
 pub mod Bound
+pub mod FirstFault

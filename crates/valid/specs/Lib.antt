@@ -3,3 +3,4 @@ pub mod Rules
 pub mod PassThree
 pub mod Verdict
 pub mod Answers
+pub mod FirstFault
