@@ -8,6 +8,7 @@ use Rattle.types.specs.Types.{Ty, items}
 use Rattle.types.proofs.Filling.{items-join}
 use Rattle.valid.specs.Program.{Block, Program}
 use Rattle.valid.specs.Rules.{Put, phere, pnew, pthere, pskip, Pops, pop0, pop1, Context, Rule, ⊢aop, ⊢bop, ⊢mov, ⊢ld, ⊢st, ⊢malloc, ⊢get-sp, ⊢set-sp, ⊢salloc, ⊢sfree, ⊢sld1, ⊢sld2, ⊢sst1, ⊢sst2, Before, start, next, Code}
+use Rattle.valid.specs.Answers.{SpWithin}
 
 -- an item for another leaves as many
 put-items : {a b : Ty stack} {i : ℕ} {t : Ty value} → Put a i t b → items b ≡ items a
@@ -45,9 +46,6 @@ rule-bounded P Δ (⊢sst2 a b c u w x y e z p f k q) h =
     omega arith
 
 -- the bound holds at a block's start and before each of its instructions
-pub sp-bounded : (P : Program) (B : Block) → Code P B → (i : ℕ) (Γ : Context) → Before P B i Γ → items (Γ .sp) ≤ 64
-sp-bounded P B c i Γ b = go b
-  where
-    go : {j : ℕ} {Δ : Context} → Before P B j Δ → items (Δ .sp) ≤ 64
-    go start = c .bounded
-    go (next a e r) = rule-bounded P (B .letters) r (go a)
+pub sp-within : (P : Program) (B : Block) → Code P B → SpWithin P B
+sp-within P B c i Γ start = c .bounded
+sp-within P B c (suc i) Γ (next {Γ = Γ₀} a e r) = rule-bounded P (B .letters) r (sp-within P B c i Γ₀ a)
