@@ -7,7 +7,7 @@ use Rattle.syntax.specs.Syntax.{Kind, value, stack, Instr}
 use Rattle.types.specs.Types.{Ty, items}
 use Rattle.types.proofs.Filling.{items-join}
 use Rattle.valid.specs.Program.{Block, Program}
-use Rattle.valid.specs.Rules.{Put, phere, pnew, pthere, pskip, Pops, pop0, pop1, Context, Rule, ⊢aop, ⊢bop, ⊢mov, ⊢ld, ⊢st, ⊢malloc, ⊢get-sp, ⊢set-sp, ⊢salloc, ⊢sfree, ⊢sld1, ⊢sld2, ⊢sst1, ⊢sst2, Before, start, next, Code}
+use Rattle.valid.specs.Rules.{Put, phere, pnew, pthere, pskip, Pops, pop0, pop1, Context, Rule, ⊢aop, ⊢bop, ⊢mov, ⊢ld, ⊢st, ⊢malloc, ⊢get-sp, ⊢set-sp, ⊢salloc, ⊢sfree, ⊢sld1, ⊢sld2, ⊢sst1, ⊢sst2, start, next, Code}
 use Rattle.valid.specs.Answers.{SpWithin}
 
 -- an item for another leaves as many

@@ -8,3 +8,4 @@ pub mod Numbers
 pub mod Verdicts
 pub mod Bound
 pub mod FirstFault
+pub mod Lines

@@ -2,14 +2,18 @@
 -- PassThree.antt's part; where it stands is said here without it.
 use Prim.Native.Nat.{ℕ, zero, suc, _+_, _≤_, _<_}
 use mathlib.Core.Path.{_≡_}
-use mathlib.Core.Option.{some}
+use mathlib.Core.Option.{Option, none, some}
 use mathlib.Core.List.{List, [], _∷_}
 use lib.ListN.{length, getElem?}
-use Rattle.syntax.specs.Syntax.{Kind, Operand, Instr, jmp, halt}
+use Rattle.syntax.specs.Partial.{chain}
+use Rattle.syntax.specs.Syntax.{Kind, Operand, Instr, jmp, halt, Entry, block, instr}
 use Rattle.syntax.specs.Fault.{Refusal}
+use Rattle.text.specs.Bytes.{linesOf}
+use Rattle.text.specs.Grammar.{parse}
 use Rattle.types.specs.Types.{code, items, aStack, Wf}
-use Rattle.valid.specs.Program.{Block, Program, typeOf}
-use Rattle.valid.specs.Rules.{At, Context, Target, Rule, Before, Code, Entry}
+use Rattle.valid.specs.Program.{Block, Program, typeOf, blockOf, programOf}
+use Rattle.valid.specs.Rules.{At, Context, Target, Rule, Before, Code}
+use Rattle.valid.specs.Rules as Rules
 use Rattle.valid.specs.Verdict.{refused, check}
 
 -- ---- lines
@@ -23,13 +27,25 @@ linesBefore (B ∷ Bs) (suc l) = suc (length (B .body)) + linesBefore Bs l
 unfoldable pub lineOf : Program → ℕ → ℕ
 lineOf P l = suc (length (P .types)) + linesBefore (P .blocks) l
 
+-- what line n of the text says, if it is of some form; there is no line 0
+unfoldable pub saidOn : List ℕ → ℕ → Option Entry
+saidOn text zero = none
+saidOn text (suc m) = chain (getElem? (linesOf text) m) parse
+
+-- the lines of block l, which is B: its own names its code row, and each of its instructions is said on the line counted for it
+pub record BlockLines (text : List ℕ) (l : ℕ) (B : Block) : Type 0 where
+  pub row : ℕ
+  pub own-line : saidOn text (lineOf (programOf text) l) ≡ some (block row)
+  pub of-row : B ≡ blockOf (typeOf (programOf text) row) (B .body)
+  pub instr-lines : (i : ℕ) (x : Instr) → getElem? (B .body) i ≡ some x → saidOn text (lineOf (programOf text) l + suc i) ≡ some (instr x)
+
 -- ---- what the rules ask of a line
 -- block l's own line: its row is closed (7 if not), sp has at most 64 items "at a block's start too (13 on the block's line)", and
 -- block 0 is fit for entry (8)
 pub record Opens (l : ℕ) (B : Block) : Type 0 where
   pub formed : Wf [] aStack (code (B .letters) (B .sp) (B .regs))
   pub bounded : items (B .sp) ≤ 64
-  pub entry : l ≡ 0 → (n : ℕ) × Entry B n
+  pub entry : l ≡ 0 → (n : ℕ) × Rules.Entry B n
 
 -- an instruction's line: some rule types it where the types are Γ; `jmp` has its target (Figure 11), and "`halt` needs r1 of type t"
 pub data Follows (P : Program) (Δ : List Kind) (Γ : Context) : Instr → Type 0 where
