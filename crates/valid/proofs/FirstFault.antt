@@ -92,12 +92,12 @@ cons-drop (y ∷ l) (suc j) e = cons-drop l j e
 
 -- ---- an instruction's line
 module _ (P : Program) (Δ : List Kind) where
-  -- a premise with a fault does not hold
+  -- a premise that holds has no fault
   holds-none : {A : Type 0} {m : Judged A} {x : A} → m ≡ holds x → faultsOf m ≡ []
   unfolding faultsOf
   holds-none e = rw e
 
-  -- one instruction that is a typed sequence
+  -- the first instruction of a typed sequence
   only : {Γ : Context} {x : Instr} {xs : List Instr} → Seq P Δ Γ (x ∷ xs) → Follows P Δ Γ x
   only (⊢seq r s) = by-rule r
   only (⊢jmp t) = by-target t
