@@ -26,14 +26,14 @@ use Rattle.valid.proofs.Order.{Closed, ends, goes, blocks-closed}
 
 -- ---- a block's instructions
 -- a premise without a fault holds
-holding : {A : Type 0} (m : Judged A) → faultsOf m ≡ [] → (x : A) × (m ≡ holds x)
+pub holding : {A : Type 0} (m : Judged A) → faultsOf m ≡ [] → (x : A) × (m ≡ holds x)
 unfolding faultsOf
 holding (holds x) e = (x, refl)
 holding (fails f fs) e = cons-nil e
 
 module _ (P : Program) (Δ : List Kind) where
   -- the last line, a jump or a halt
-  last-typed : (Γ Γ′ : Context) (x : Instr) → isLast x ≡ true → judge P Δ Γ x ≡ holds Γ′ → Seq P Δ Γ (x ∷ [])
+  pub last-typed : (Γ Γ′ : Context) (x : Instr) → isLast x ≡ true → judge P Δ Γ x ≡ holds Γ′ → Seq P Δ Γ (x ∷ [])
   unfolding isLast
   last-typed Γ Γ′ (aop o d s v) l e = none-true l
   last-typed Γ Γ′ (bop o r v) l e = none-true l
@@ -53,12 +53,12 @@ module _ (P : Program) (Δ : List Kind) where
   last-typed Γ Γ′ (halt t) l e = let h = halt-sound P Δ Γ t e in ⊢halt (h .1) (h .0)
 
   -- lines without a fault are a typed sequence, and back
-  body-typed : (Γ : Context) {xs : List Instr} → Closed xs → Clear (bodyFaults P Δ (holds Γ) xs) → Seq P Δ Γ xs
+  pub body-typed : (Γ : Context) {xs : List Instr} → Closed xs → Clear (bodyFaults P Δ (holds Γ) xs) → Seq P Δ Γ xs
   unfolding bodyFaults
   body-typed Γ (ends {x} l) c = let h = holding (judge P Δ Γ x) (c .0) in last-typed Γ (h .0) x l (h .1)
   body-typed Γ (goes {x} l k) c = let h = holding (judge P Δ Γ x) (c .0) in ⊢seq (judge-sound P Δ Γ x (h .1) l) (body-typed (h .0) k (rw (h .1) at (c .1)))
 
-  body-clear : {Γ : Context} {xs : List Instr} → Seq P Δ Γ xs → Clear (bodyFaults P Δ (holds Γ) xs)
+  pub body-clear : {Γ : Context} {xs : List Instr} → Seq P Δ Γ xs → Clear (bodyFaults P Δ (holds Γ) xs)
   unfolding bodyFaults faultsOf
   body-clear (⊢seq r s) = rw (judge-complete P Δ r) (refl, body-clear s)
   body-clear (⊢jmp t) = (rw (jmp-complete P Δ t), tt)
@@ -70,7 +70,7 @@ unfolding items ints
 items-ints zero = refl
 items-ints (suc n) = ap suc (items-ints n)
 
-entry-sound : (B : Block) → isEntry B ≡ true → Entry B (declared (B .regs))
+pub entry-sound : (B : Block) → isEntry B ≡ true → Entry B (declared (B .regs))
 unfolding isEntry
 entry-sound B e =
     let h = and-inv (sameLetters (B .letters) []) _ e in
@@ -82,7 +82,7 @@ pub entry-declared : (B : Block) (n : ℕ) → Entry B n → declared (B .regs) 
 unfolding declared entryRegs
 entry-declared B n e = rw (e .registers) (items-ints n)
 
-entry-complete : (B : Block) (n : ℕ) → Entry B n → isEntry B ≡ true
+pub entry-complete : (B : Block) (n : ℕ) → Entry B n → isEntry B ≡ true
 unfolding isEntry
 entry-complete B n e = rw (entry-declared B n e, e .binds-nothing, e .no-items, e .registers, sameLetters-refl, same-refl nil, same-refl (entryRegs n))
 
@@ -98,7 +98,7 @@ within-complete n l = go (ltb 64 n) refl
     go false e = refl
 
 -- the line has no fault exactly where the row is closed, block 0 is fit for entry and sp is within its bound
-line-fit : (first : Bool) (B : Block) → blockFaults first B ≡ [] → WfType [] (code (B .letters) (B .sp) (B .regs)) × (first && not (isEntry B) ≡ false) × (items (B .sp) ≤ 64)
+pub line-fit : (first : Bool) (B : Block) → blockFaults first B ≡ [] → WfType [] (code (B .letters) (B .sp) (B .regs)) × (first && not (isEntry B) ≡ false) × (items (B .sp) ≤ 64)
 unfolding blockFaults
 line-fit first B e =
     let t = code (B .letters) (B .sp) (B .regs) in
@@ -106,7 +106,7 @@ line-fit first B e =
     let j = append-eq-nil-iff {p = given (not (isFormed [] aStack t)) 7} {q = given (first && not (isEntry B)) 8} .0 (h .0) in
     (formed-sound [] aStack t (not-false _ (given-none _ 7 (j .0))), given-none _ 8 (j .1), within (items (B .sp)) (given-none _ 13 (h .1)))
 
-fit-line : (first : Bool) (B : Block) → WfType [] (code (B .letters) (B .sp) (B .regs)) → first && not (isEntry B) ≡ false → items (B .sp) ≤ 64 → blockFaults first B ≡ []
+pub fit-line : (first : Bool) (B : Block) → WfType [] (code (B .letters) (B .sp) (B .regs)) → first && not (isEntry B) ≡ false → items (B .sp) ≤ 64 → blockFaults first B ≡ []
 unfolding blockFaults given
 fit-line first B w e l = rw (formed-complete [] aStack (code (B .letters) (B .sp) (B .regs)) w, e, within-complete (items (B .sp)) l)
 
@@ -164,11 +164,11 @@ module _ (P : Program) where
 
 -- ---- the verdict
 -- it is accepted, with its counts, exactly where no pass has a fault
-accepts : (text : List ℕ) → earliest (passes text) ≡ none → check text ≡ accepted (length (programOf text .blocks)) (instrCount (programOf text .blocks))
+pub accepts : (text : List ℕ) → earliest (passes text) ≡ none → check text ≡ accepted (length (programOf text .blocks)) (instrCount (programOf text .blocks))
 unfolding check
 accepts text e = rw e
 
-refuses : (text : List ℕ) (r : Refusal) → earliest (passes text) ≡ some r → check text ≡ refused r
+pub refuses : (text : List ℕ) (r : Refusal) → earliest (passes text) ≡ some r → check text ≡ refused r
 unfolding check
 refuses text r e = rw e
 

@@ -13,7 +13,7 @@ use Rattle.valid.proofs.Reading.{none-some}
 pub cons-nil : {A X : Type 0} {x : A} {xs : List A} → x ∷ xs ≡ [] → X
 cons-nil e = let z : _≡_ {A = ℕ} 0 1 = cc in absurd (omega arith)
 
-some-none : {A X : Type 0} {x : A} → some x ≡ none → X
+pub some-none : {A X : Type 0} {x : A} → some x ≡ none → X
 some-none e = none-some (sym e)
 
 pub given-none : (b : Bool) (n : ℕ) → given b n ≡ [] → b ≡ false
@@ -41,13 +41,13 @@ AllClear [] = Unit
 AllClear (p ∷ ps) = Clear p × AllClear ps
 
 -- a pass has no lowest line with a fault exactly where it is clear
-line-clear : (n : ℕ) (p : Pass) → lowestLine n p ≡ none → Clear p
+pub line-clear : (n : ℕ) (p : Pass) → lowestLine n p ≡ none → Clear p
 unfolding lowestLine
 line-clear n [] e = tt
 line-clear n ([] ∷ p) e = (refl, line-clear (suc n) p e)
 line-clear n ((f ∷ fs) ∷ p) e = some-none e
 
-clear-line : (n : ℕ) (p : Pass) → Clear p → lowestLine n p ≡ none
+pub clear-line : (n : ℕ) (p : Pass) → Clear p → lowestLine n p ≡ none
 unfolding lowestLine
 clear-line n [] c = refl
 clear-line n ([] ∷ p) c = clear-line (suc n) p (c .1)

@@ -5,3 +5,7 @@ pub mod Unique
 pub mod Order
 pub mod Accept
 pub mod Numbers
+pub mod Verdicts
+pub mod Bound
+pub mod FirstFault
+pub mod Lines

@@ -3,3 +3,5 @@ pub mod Rules
 pub mod Tests
 pub mod PassThree
 pub mod Verdict
+pub mod Answers
+pub mod FirstFault
