@@ -120,9 +120,16 @@ raising-low : (m d : ℕ) (κ : Kind) (k : ℕ) → k < d → raising m d κ k �
 unfolding raising
 raising-low m d κ k h = below-lt d k (variable κ k) (λ j. variable κ (j + (m + d))) h
 
-pub raising-high : (m d : ℕ) (κ : Kind) (j : ℕ) → raising m d κ (j + d) ≡ variable κ (j + (m + d))
+raising-high : (m d : ℕ) (κ : Kind) (j : ℕ) → raising m d κ (j + d) ≡ variable κ (j + (m + d))
 unfolding raising
 raising-high m d κ j = below-ge d j (variable κ (j + d)) (λ j. variable κ (j + (m + d)))
+
+pub raise-variable : (m : ℕ) (κ : Kind) (j : ℕ) → raise m (variable κ j) ≡ variable κ (j + m)
+unfolding raise
+raise-variable m κ j =
+    let p = add-zero j in
+    let q = add-zero m in
+    walk-variable (raising m) 0 κ j ∙ rw (p, q) at (raising-high m 0 κ j)
 
 pub filling-low : (A : List Arg) (d : ℕ) (κ : Kind) (k : ℕ) → k < d → filling A d κ k ≡ variable κ k
 unfolding filling
