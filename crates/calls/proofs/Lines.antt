@@ -11,7 +11,7 @@ use lib.ListN.{length}
 use Rattle.syntax.specs.Partial.{chain, guarded}
 use Rattle.syntax.specs.Syntax.{Row, rowI, rowN, rowE, rowV, rowX, rowP, rowU, rowK, rowA, rowC, Base, reg, lit, lab, Operand, plain, inst, Instr, aop, bop, mov, ld, st, malloc, getsp, setsp, salloc, sfree, sld, sst, slp, ssp, jmp, halt, Entry, row, block, instr}
 use Rattle.text.specs.Bytes.{bytes, sameBytes, split, isDecimal, spelled, number, literal, Line, ended, unended, fieldsOf, linesOf}
-use Rattle.text.specs.Grammar.{Field, Form, _>>=_, end, each, rest, rowNumber, register, carrier, orLiteral, carried, fromParts, operand, Named, forms, formNamed, entryOf, parse}
+use Rattle.text.specs.Grammar.{Field, Form, _>>=_, end, each, rest, rowNumber, labelNumber, register, carrier, orLiteral, carried, fromParts, operand, Named, forms, formNamed, entryOf, parse}
 use Rattle.text.specs.PassOne.{said, entriesOf}
 use Rattle.types.proofs.Equal.{and-inv}
 use Rattle.valid.proofs.Reading.{none-some, some-inj}
@@ -91,8 +91,8 @@ unfolding carrier
 carrier-in [] b e = none-some e
 carrier-in (c ∷ s) b e = go (eqb c (code "#")) e
   where
-    go : (t : Bool) → cond t (chain (number 0 63 s) (λ l. some (lab l))) (chain (register (c ∷ s)) (λ r. some (reg r))) ≡ some b → BaseIn b
-    go true e = let h = bind-inv (number 0 63 s) _ b e in rw (← (some-inj (h .2))) tt
+    go : (t : Bool) → cond t (chain (labelNumber s) (λ l. some (lab l))) (chain (register (c ∷ s)) (λ r. some (reg r))) ≡ some b → BaseIn b
+    go true e = let h = bind-inv (labelNumber s) _ b e in rw (← (some-inj (h .2))) tt
     go false e = let h = bind-inv (register (c ∷ s)) _ b e in rw (← (some-inj (h .2))) (register-in (c ∷ s) (h .0) (h .1))
 
 literal-in : (o : Option Base) (f : Field) (b : Base) → ((c : Base) → o ≡ some c → BaseIn c) → orLiteral o f ≡ some b → BaseIn b

@@ -8,7 +8,7 @@ use lib.ListN.{length, getD}
 use Rattle.syntax.specs.Syntax.{value, stack, Row, rowI, rowN, rowE, rowV, rowX, rowP, rowU, rowK, rowA, rowC, Instr, Entry, row, block, instr}
 use Rattle.text.specs.PassOne.{entriesOf, rowsOf, Listing, listingsOf}
 use Rattle.types.specs.Types.{Ty, int, junk, var, tuple, pointer, code, push, items, Arg, arg, ofKind}
-use Rattle.types.specs.Rows.{typeAt, components, registers, meaning, meanings, typesOf}
+use Rattle.types.specs.Rows.{typeAt, components, registers, inTurn, meaning, typesOf}
 use Rattle.valid.specs.Program.{asCode, blockOf, blocksOf, programFrom, programOf}
 use Rattle.valid.specs.Rules.{declared}
 use Rattle.exec.specs.Run.{wanted}
@@ -77,8 +77,8 @@ module _ (A : List Arg) (h : All FitArg A) where
   meaning-fit (rowA r₁ r₂) s = tt
   meaning-fit (rowC q r rs) s = registers-fit rs
 
-meanings-fit : (rs : List Row) (A : List Arg) → All FitArg A → All FitRow rs → All FitArg (meanings A rs)
-unfolding meanings
+meanings-fit : (rs : List Row) (A : List Arg) → All FitArg A → All FitRow rs → All FitArg (inTurn meaning A rs)
+unfolding inTurn
 meanings-fit [] A h s = h
 meanings-fit (r ∷ rs) A h s = meanings-fit rs (A ++ meaning A r ∷ []) (all-append FitArg A (meaning A r ∷ []) h (meaning-fit A h r (s .0), tt)) (s .1)
 

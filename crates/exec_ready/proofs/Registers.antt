@@ -11,7 +11,7 @@ use borrow.Author.Tests.{leb-true, eqb-true, eqb-false, ltb-true, ltb-false}
 use Rattle.syntax.specs.Partial.{chain, guarded}
 use Rattle.syntax.specs.Syntax.{Row, rowI, rowN, rowE, rowV, rowX, rowP, rowK, rowA, Base, reg, lit, lab, Operand, plain, inst, Arith, add, sub, mul, Branch, beq, bneq, bgt, blt, bgte, blte, Instr, aop, bop, mov, ld, st, malloc, getsp, setsp, salloc, sfree, sld, sst, slp, ssp, jmp, halt, Entry, row, block, instr}
 use Rattle.text.specs.Bytes.{bytes, sameBytes, split, literal, Line, ended, unended, fieldsOf, linesOf, isDecimal, spelled, number}
-use Rattle.text.specs.Grammar.{Field, Form, _>>=_, end, each, rest, rowNumber, register, carrier, orLiteral, carried, fromParts, operand, Named, arith as arithForm, branch, forms, formNamed, entryOf, parse}
+use Rattle.text.specs.Grammar.{Field, Form, _>>=_, end, each, rest, rowNumber, labelNumber, register, carrier, orLiteral, carried, fromParts, operand, Named, arith as arithForm, branch, forms, formNamed, entryOf, parse}
 use Rattle.text.specs.PassOne.{said, entriesOf, Listing, grouped, listingsOf}
 use Rattle.tables.specs.Tables.{cell, span, OperandTable, baseOf, operandOf, operandAt, operandsAt, instrFrom, instrAt, instrsFrom, blocksFrom}
 use Rattle.exec_words.specs.memory.Lent.{operandTable}
@@ -46,7 +46,7 @@ register-low (b ∷ s) = go (eqb b 114)
 carrier-low : (f : Field) → Given LowBase (carrier f)
 unfolding Given carrier
 carrier-low [] = tt
-carrier-low (b ∷ s) = go (eqb b 35) (number 0 63 s) (register (b ∷ s)) (register-low (b ∷ s))
+carrier-low (b ∷ s) = go (eqb b 35) (labelNumber s) (register (b ∷ s)) (register-low (b ∷ s))
   where
     label : (o : Option ℕ) → Given LowBase (chain o (λ l. some (lab l)))
     label none = tt

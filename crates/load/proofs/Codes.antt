@@ -13,13 +13,13 @@ use Rattle.syntax.specs.Partial.{guarded}
 use Rattle.syntax.specs.Syntax.{Kind, value, Row, rowI, rowN, rowE, rowV, rowX, rowP, rowU, rowK, rowA, rowC, Instr, Entry, instr}
 use Rattle.syntax.specs.Fault.{Clear, given}
 use Rattle.syntax.proofs.Least.{given-none}
-use Rattle.text.specs.PassOne.{Listing}
-use Rattle.text.proofs.Entries.{blocksEntries, entriesIn}
+use Rattle.text.specs.PassOne.{Listing, blocksEntries, entriesIn}
 use Rattle.types.specs.Types.{Arg, ofKind}
-use Rattle.types.specs.Rows.{ref, codeRow, typeAt, meaning, typesOf, isCode, isOf, isSort, allBelow, allOfSort, rowsFaults, refsFaults, entryFaults, entriesFaults}
+use Rattle.types.specs.Rows.{ref, codeRow, typeAt, meaning, typesOf, isCode, isOf, isSort, allBelow, allOfSort, refsFaults, entriesFaults}
 use Rattle.types.proofs.Equal.{and-inv, none-true, not-false}
 use Rattle.types.proofs.Meaning.{typeIn, type-is, rows-clear}
 use Rattle.tables.specs.Tables.{RowTable, cell, rowAt, rowsIn, OperandTable, blocksFrom}
+use Rattle.types_rows.specs.Clear.{RowsClear}
 use Rattle.tables.proofs.Steps.{length-rows, row-in}
 use Rattle.valid_scope.proofs.Rows.{row-getD}
 use Rattle.valid.specs.Program.{Block, Program, asCode, blockOf, blocksOf}
@@ -63,7 +63,7 @@ skip rows nb [] es c = c
 skip rows nb (x ∷ xs) es c = skip rows nb xs es (c .1)
 
 codes-clear : (τ : RowTable) (n nb : ℕ) (bs : List Listing) → Clear (entriesFaults (rowsIn τ n) nb (blocksEntries bs)) → AllCodes τ n bs
-unfolding entriesFaults entryFaults blocksEntries
+unfolding entriesFaults blocksEntries
 codes-clear τ n nb [] c = tt
 codes-clear τ n nb (b ∷ bs) c = (code-ok τ n (b .code) (c .0), codes-clear τ n nb bs (skip (rowsIn τ n) nb (b .body) (blocksEntries bs) (c .1)))
 
@@ -99,7 +99,7 @@ module _ (P : Program) (Δ : List Kind) (xs : List Instr) where
   label-of A (rowK t s) e = none-true e
   label-of A (rowA s₁ s₂) e = none-true e
 
-  label-type : (τ : RowTable) (n c : ℕ) → Clear (rowsFaults [] [] (rowsIn τ n)) → CodeOk τ n c → labelType P Δ (some (blockOf (typeAt value (typesOf (rowsIn τ n)) c) xs)) ≡ some (typeAt value (typesOf (rowsIn τ n)) c)
+  label-type : (τ : RowTable) (n c : ℕ) → RowsClear τ n → CodeOk τ n c → labelType P Δ (some (blockOf (typeAt value (typesOf (rowsIn τ n)) c) xs)) ≡ some (typeAt value (typesOf (rowsIn τ n)) c)
   unfolding typeAt
   label-type τ n c cl k =
       let e = length-rows τ n in
@@ -109,7 +109,7 @@ module _ (P : Program) (Δ : List Kind) (xs : List Instr) where
       ap (λ (a : Arg). labelType P Δ (some (blockOf (ofKind value a) xs))) m ∙ label-of (typesOf (rowsIn τ n)) (rowAt τ c) (k .1) ∙ ap (λ (a : Arg). some (ofKind value a)) (sym m)
 
 -- ---- the program that the tables hold
-module _ (τ : RowTable) (n : ℕ) (β ι : List ℕ) (ω : OperandTable) (ni : ℕ) (P : Program) (Δ : List Kind) (cl : Clear (rowsFaults [] [] (rowsIn τ n))) where
+module _ (τ : RowTable) (n : ℕ) (β ι : List ℕ) (ω : OperandTable) (ni : ℕ) (P : Program) (Δ : List Kind) (cl : RowsClear τ n) where
   abbrev types : List Arg
   types = typesOf (rowsIn τ n)
 
@@ -124,7 +124,7 @@ module _ (τ : RowTable) (n : ℕ) (β ι : List ℕ) (ω : OperandTable) (ni : 
       let q = labels-from (suc b) (suc k) (λ j h. subst (λ (x : ℕ). CodeOk τ n (cell 2 β x 0)) (omega arith) (a (suc j) (omega arith))) l in
       rw (leb·suc-suc (suc l) (suc k), ← e) q
 
-pub holds-is : (τ : RowTable) (n : ℕ) (β ι : List ℕ) (ω : OperandTable) (ni nb : ℕ) (P : Program) → Clear (rowsFaults [] [] (rowsIn τ n))
+pub holds-is : (τ : RowTable) (n : ℕ) (β ι : List ℕ) (ω : OperandTable) (ni nb : ℕ) (P : Program) → RowsClear τ n
     → ((l : ℕ) → l < nb → CodeOk τ n (cell 2 β l 0)) → P .types ≡ typesOf (rowsIn τ n) → P .blocks ≡ blocksOf (typesOf (rowsIn τ n))
     (blocksFrom β ι ω ni 0 nb) → Holds τ n β nb P
 holds-is τ n β ι ω ni nb P cl a e f = record {

@@ -10,10 +10,11 @@ use lib.ListN.{length, replicate, length-replicate}
 use borrow.Author.Tests.{ne-eqb, ltb-true, ltb-false}
 use Rattle.syntax.specs.Syntax.{Row, Entry}
 use Rattle.syntax.specs.Fault.{Refusal, Pass, Clear, lowestLine, orElse, earliest}
-use Rattle.text.specs.PassOne.{Listing, passOne, entriesOf, rowsOf, listingsOf}
-use Rattle.text.proofs.Entries.{entriesIn, entries-in}
+use Rattle.text.specs.PassOne.{Listing, passOne, entriesOf, rowsOf, listingsOf, entriesIn}
+use Rattle.text.proofs.Entries.{entries-in}
 use Rattle.types.specs.Rows.{typesOf, rowsFaults, entriesFaults, passTwo}
 use Rattle.tables.specs.Tables.{RowTable, cell, rowAt, rowsIn, OperandTable, blocksFrom}
+use Rattle.types_rows.specs.Clear.{RowsClear}
 use Rattle.valid.specs.Program.{programOf, programFrom, blocksOf}
 use Rattle.valid.specs.Verdict.{passTwoOf}
 use Rattle.valid.proofs.Clear.{earliest-clear, clear-split}
@@ -67,7 +68,7 @@ found-none : (f : Found) → f .number ≡ 0 → foundRefusal f ≡ none
 unfolding foundRefusal
 found-none f z = rw z refl
 
-two-clear : (rows : List Row) (nb : ℕ) (es : List Entry) → lowestLine 0 (passTwo rows nb es) ≡ none → Clear (rowsFaults [] [] rows ++ entriesFaults rows nb es)
+two-clear : (rows : List Row) (nb : ℕ) (es : List Entry) → lowestLine 0 (passTwo rows nb es) ≡ none → Clear (rowsFaults rows 0 rows ++ entriesFaults rows nb es)
 unfolding passTwo
 two-clear rows nb es e = clear-none (passTwo rows nb es) e .1
 
@@ -109,17 +110,17 @@ module _ (text : List ℕ) (σ : Store) (r : Read) (d : decode.Decoded text σ r
     two-none : f .number ≡ 0 → none ≡ orElse (lowestLine 0 (passOne text)) (lowestLine 0 (passTwoOf text))
     two-none z = sym (found-none f z) ∙ two-is
 
-    all-clear : f .number ≡ 0 → Clear (rowsFaults [] [] (rowsIn τ (r .rows)) ++ entriesFaults (rowsIn τ (r .rows)) (r .blocks) (entriesIn (rowsIn τ (r .rows)) bs))
+    all-clear : f .number ≡ 0 → Clear (rowsFaults (rowsIn τ (r .rows)) 0 (rowsIn τ (r .rows)) ++ entriesFaults (rowsIn τ (r .rows)) (r .blocks) (entriesIn (rowsIn τ (r .rows)) bs))
     all-clear z = two-clear (rowsIn τ (r .rows)) (r .blocks) (entriesIn (rowsIn τ (r .rows)) bs) (sym e ∙ found-none f z)
 
-    pub rows-seen : f .number ≡ 0 → Clear (rowsFaults [] [] (rowsIn τ (r .rows)))
-    rows-seen z = clear-split (rowsFaults [] [] (rowsIn τ (r .rows))) (entriesFaults (rowsIn τ (r .rows)) (r .blocks) (entriesIn (rowsIn τ (r .rows)) bs)) (all-clear z) .0
+    pub rows-seen : f .number ≡ 0 → RowsClear τ (r .rows)
+    rows-seen z = clear-split (rowsFaults (rowsIn τ (r .rows)) 0 (rowsIn τ (r .rows))) (entriesFaults (rowsIn τ (r .rows)) (r .blocks) (entriesIn (rowsIn τ (r .rows)) bs)) (all-clear z) .0
 
     codes : f .number ≡ 0 → (l : ℕ) → l < r .blocks → CodeOk τ (r .rows) (cell 2 (σ .blocks) l 0)
     codes z =
         all-codes τ (r .rows) (σ .blocks) (σ .instrs) (operandsOf σ) (r .instrs) (r .blocks)
         (subst Clear (entries-rows (rowsIn τ (r .rows)) (rowsIn τ (r .rows)) (r .blocks) bs)
-        (clear-split (rowsFaults [] [] (rowsIn τ (r .rows))) (entriesFaults (rowsIn τ (r .rows)) (r .blocks)
+        (clear-split (rowsFaults (rowsIn τ (r .rows)) 0 (rowsIn τ (r .rows))) (entriesFaults (rowsIn τ (r .rows)) (r .blocks)
         (entriesIn (rowsIn τ (r .rows)) bs)) (all-clear z) .1))
 
     pub rows-small-in : (x : ℕ) → x < r .rows → SmallRow (rowAt τ x)
@@ -173,7 +174,7 @@ module _ (text : List ℕ) (σ : Store) (r : Read) (d : decode.Decoded text σ r
           first = d .first;
           rising = d .rising;
           within = d .within;
-          clear = subst (λ l. Clear (rowsFaults [] [] l)) (sym (p .rows)) (rows-seen z);
+          clear = subst (λ l. Clear (rowsFaults l 0 l)) (sym (p .rows)) (rows-seen z);
           int-row = p .int-row;
           junk-row = p .junk-row;
           counted = p .counted;

@@ -6,10 +6,11 @@ use mathlib.Core.Option.{Option, none, some}
 use mathlib.Core.List.{List, []}
 use lib.Dec.{eqb}
 use lib.ListN.{length}
-use Rattle.syntax.specs.Fault.{Refusal, Clear, lowestLine, orElse}
+use Rattle.syntax.specs.Fault.{Refusal, lowestLine, orElse}
 use Rattle.text.specs.PassOne.{passOne, entriesOf, rowsOf, listingsOf}
-use Rattle.types.specs.Rows.{typesOf, isCode, rowsFaults}
+use Rattle.types.specs.Rows.{typesOf, isCode}
 use Rattle.tables.specs.Tables.{cell, rowAt, rowsIn, instrAt, blocksFrom}
+use Rattle.types_rows.specs.Clear.{RowsClear}
 use Rattle.types_rows.specs.Read.{Counted}
 use Rattle.valid_scope.specs.Scoped.{Scoped}
 use Rattle.valid.specs.Program.{programOf}
@@ -88,7 +89,7 @@ pub record IsLoaded (text : List ℕ) (σ : Store) (uses tops : List ℕ) (r : L
   pub rising : (l : ℕ) → suc l < r .blocks → cell 2 (σ .blocks) l 1 < cell 2 (σ .blocks) (suc l) 1
   pub within : (l : ℕ) → l < r .blocks → cell 2 (σ .blocks) l 1 < r .instrs
   -- what pass two has seen
-  pub clear : Clear (rowsFaults [] [] (rowsIn (rowTable σ) (r .rows)))
+  pub clear : RowsClear (rowTable σ) (r .rows)
   -- what pass three reads: rows `I` and `N` behind the text's, counts of items, uses of variables
   pub int-row : cell 4 (σ .rows) (r .rows) 0 ≡ 0
   pub junk-row : cell 4 (σ .rows) (r .rows + 1) 0 ≡ 1

@@ -3,13 +3,11 @@
 // these tables are right, and the text's rows and its other tables stay as they are. Asked: room, and that passes one and two found no
 // fault in the rows.
 use image::Places;
-ghost use mathlib.Core.List.{[]};
 ghost use Prim.Native.Nat.{ℕ, _+_, _-_, _*_, _≤_, _<_};
 ghost use mathlib.Core.Path.{_≡_};
 ghost use lib.ListN.{length, set};
-ghost use Rattle.syntax.specs.Fault.{Clear};
-ghost use Rattle.types.specs.Rows.{rowsFaults};
-ghost use Rattle.tables.specs.Tables.{rowAt, rowsIn};
+ghost use Rattle.tables.specs.Tables.{rowAt};
+ghost use Rattle.types_rows.specs.Clear.{RowsClear};
 ghost use Rattle.types_rows.specs.Read.{tab};
 ghost use Rattle.image.specs.Sections.{rowSection, partSection, useSection, topSection, Ordered};
 ghost use Rattle.valid_context.specs.premises.Bounds.{SmallRow};
@@ -30,7 +28,7 @@ fn put_two(rows: &mut [u16], n: usize)
 // Puts the two rows behind the n of the text, counts the items of stack rows, and finds how rows use variables.
 pub(crate) fn prepare(image: &mut [u16], p: Places, n: usize)
     requires { ⌜ Ordered p (length (now image)) × (n ≤ 512) × SpaceFor n (p .blocks - p .rows) (p .tops - p .uses) (p .shared - p .tops) ⌝ }
-    requires { ⌜ Clear (rowsFaults [] [] (rowsIn (tab (rowSection p (now image)) (partSection p (now image))) n)) × ((r : ℕ) → r < n → SmallRow (rowAt (tab (rowSection p (now image)) (partSection p (now image))) r)) ⌝ }
+    requires { ⌜ RowsClear (tab (rowSection p (now image)) (partSection p (now image))) n × ((r : ℕ) → r < n → SmallRow (rowAt (tab (rowSection p (now image)) (partSection p (now image))) r)) ⌝ }
     ensures { λ _. ⌜ Prepared (rowSection p (now (image .entry))) (rowSection p (now (image .exit))) (partSection p (now (image .entry))) n (useSection p (now (image .exit))) (topSection p (now (image .exit))) × Kept p (now (image .entry)) (now (image .exit)) ⌝ }
 {
     let from = p.rows;

@@ -13,7 +13,7 @@ use Rattle.text.specs.Bytes.{bytes, sameBytes, Line, ended, unended, fieldsOf, 
 use Rattle.text.specs.Grammar.{Form, _>>=_, end, each, rest, Named, forms, formNamed, entryOf, parse}
 use Rattle.text.specs.PassOne.{said, entriesOf, rowsOf, Listing, listingsOf}
 use Rattle.types.specs.Types.{Ty, int, junk, var, tuple, pointer, code, nil, push, svar, gap, join, items, Arg, arg, ofKind}
-use Rattle.types.specs.Rows.{typeAt, components, registers, meaning, meanings, typesOf}
+use Rattle.types.specs.Rows.{typeAt, components, registers, inTurn, meaning, typesOf}
 use Rattle.types.proofs.Equal.{to-so}
 use Rattle.valid.specs.Program.{Block, asCode, blockOf, blocksOf, programFrom, programOf}
 use Rattle.valid.specs.Rules.{ints, entryRegs, Typed}
@@ -241,8 +241,8 @@ small-snoc : (A : List Arg) (a : Arg) → AllSmallArgs A → SmallArg a → AllS
 small-snoc [] a h k = (k, tt)
 small-snoc (b ∷ A) a h k = (h .0, small-snoc A a (h .1) k)
 
-small-meanings : (rs : List Row) (A : List Arg) → AllSmallArgs A → AllShortRows rs → AllSmallArgs (meanings A rs)
-unfolding meanings
+small-meanings : (rs : List Row) (A : List Arg) → AllSmallArgs A → AllShortRows rs → AllSmallArgs (inTurn meaning A rs)
+unfolding inTurn
 small-meanings [] A h s = h
 small-meanings (r ∷ rs) A h s = small-meanings rs (A ++ meaning A r ∷ []) (small-snoc A (meaning A r) h (small-meaning A h r (s .0))) (s .1)
 

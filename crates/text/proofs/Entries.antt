@@ -5,21 +5,12 @@ use mathlib.Core.Path.{_≡_, refl, sym, ap}
 use mathlib.Core.Bool.{Bool, true, false, not, cond}
 use mathlib.Core.Option.{Option, none, some}
 use mathlib.Core.List.{List, [], _∷_, _++_, map, append-eq-nil-iff}
-use Rattle.syntax.specs.Syntax.{Row, Entry, row, block, instr}
+use Rattle.syntax.specs.Syntax.{Entry, row, block, instr}
 use Rattle.syntax.specs.Fault.{Fault, Clear, given}
 use Rattle.syntax.proofs.Least.{given-none}
 use Rattle.text.specs.Bytes.{linesOf}
 use Rattle.text.specs.Grammar.{parse}
-use Rattle.text.specs.PassOne.{isLast, Place, atRows, inBlock, behindBlock, placeAfter, inOrder, mayEnd, Counts, none-yet, tooMany, lineFaults, linesFaults, passOne, said, entriesOf, rowsOf, Listing, grouped, listingsOf}
-
--- each block's line and its instructions
-unfoldable pub blocksEntries : List Listing → List Entry
-blocksEntries [] = []
-blocksEntries (b ∷ bs) = block (b .code) ∷ (map instr (b .body) ++ blocksEntries bs)
-
--- the rows, and then the blocks
-unfoldable pub entriesIn : List Row → List Listing → List Entry
-entriesIn rs bs = map row rs ++ blocksEntries bs
+use Rattle.text.specs.PassOne.{isLast, Place, atRows, inBlock, behindBlock, placeAfter, inOrder, mayEnd, Counts, none-yet, tooMany, lineFaults, linesFaults, passOne, said, entriesOf, rowsOf, grouped, listingsOf, blocksEntries, entriesIn}
 
 -- ---- what follows a place
 -- behind the type lines: no rows, the instructions up to the first block line, and the blocks

@@ -1,13 +1,13 @@
 -- What a line says: the forms of document 01's "Program text", one entry of the table for each, in its order.
-use Prim.Native.Nat.{ℕ, zero, suc, _+_, _-_, pred}
+use Prim.Native.Nat.{ℕ, _-_}
 use Prim.Native.Char.{code}
 use Prim.Native.String.{String}
-use mathlib.Core.Bool.{Bool, true, false, _&&_, cond}
+use mathlib.Core.Bool.{Bool, _&&_, cond}
 use mathlib.Core.Option.{Option, none, some}
 use mathlib.Core.List.{List, [], _∷_}
 use lib.Dec.{eqb, leb}
 use lib.ListN.{length}
-use Rattle.syntax.specs.Syntax.{Kind, value, stack, Row, rowI, rowN, rowE, rowV, rowX, rowP, rowU, rowK, rowA, rowC, Base, reg, lit, lab, Operand, plain, inst, Arith, add, sub, mul, Branch, beq, bneq, bgt, blt, bgte, blte, Instr, aop, bop, mov, ld, st, malloc, getsp, setsp, salloc, sfree, sld, sst, slp, ssp, jmp, halt, Entry, row, block, instr}
+use Rattle.syntax.specs.Syntax.{registerCount, Kind, value, stack, rowI, rowN, rowE, rowV, rowX, rowP, rowU, rowK, rowA, rowC, Base, reg, lit, lab, Operand, plain, inst, Arith, add, sub, mul, Branch, beq, bneq, bgt, blt, bgte, blte, aop, bop, mov, ld, st, malloc, getsp, setsp, salloc, sfree, sld, sst, slp, ssp, jmp, halt, Entry, row, block, instr}
 use Rattle.syntax.specs.Partial.{chain, guarded}
 use Rattle.text.specs.Bytes.{bytes, sameBytes, split, Line, ended, unended, fieldsOf, number, literal}
 
@@ -19,7 +19,8 @@ Field = List ℕ
 abbrev pub Form : Type 0
 Form = List Field → Option Entry
 
--- one field, then the others
+-- One field, then the others: none if no field is left or it is not of that form. A form is written `do x ← p; y ← q; ..`: one field,
+-- read by p and called x, then the others, q's first; `do` stands for `p >>= λ x. q >>= λ y. ..`.
 infixl 60 _>>=_
 unfoldable pub _>>=_ : {A : Type 0} → (Field → Option A) → (A → Form) → Form
 _>>=_ p k [] = none
@@ -52,10 +53,14 @@ index f = number 0 63 f
 unfoldable pub amount : Field → Option ℕ
 amount f = number 0 64 f
 
+-- "a label (0 to 63)"
+unfoldable pub labelNumber : Field → Option ℕ
+labelNumber f = number 0 63 f
+
 -- "Registers are r1 to r8."
 unfoldable pub register : Field → Option ℕ
 register [] = none
-register (b ∷ s) = chain (guarded (eqb b (code "r")) s) (λ s. chain (number 1 8 s) (λ n. some (n - 1)))
+register (b ∷ s) = chain (guarded (eqb b (code "r")) s) (λ s. chain (number 1 registerCount s) (λ n. some (n - 1)))
 
 -- "one letter per bound variable (v value, s stack)"
 unfoldable pub letter : ℕ → Option Kind
@@ -74,12 +79,12 @@ letters f = cond (sameBytes f (bytes "-")) (some []) (chain (eachLetter f) (λ q
 unfoldable pub known : Field → Option (Option ℕ)
 known f = cond (sameBytes f (bytes "-")) (some none) (chain (rowNumber f) (λ r. some (some r)))
 
--- "An operand v is a register, a literal of 32 signed bits, or `#` and a label (0 to 63)."
+-- what may carry type arguments: `#` and a label, or a register
 unfoldable pub carrier : Field → Option Base
 carrier [] = none
-carrier (b ∷ s) = cond (eqb b (code "#")) (chain (number 0 63 s) (λ l. some (lab l))) (chain (register (b ∷ s)) (λ r. some (reg r)))
+carrier (b ∷ s) = cond (eqb b (code "#")) (chain (labelNumber s) (λ l. some (lab l))) (chain (register (b ∷ s)) (λ r. some (reg r)))
 
--- a register or label as read, or else a literal
+-- a register or label as read, or else "a literal of 32 signed bits"
 abbrev pub orLiteral : Option Base → Field → Option Base
 orLiteral none f = chain (literal f) (λ n. some (lit n))
 orLiteral (some b) f = some b
@@ -96,7 +101,7 @@ fromParts (b ∷ []) = chain (orLiteral (carrier b) b) (λ c. some (plain c))
 fromParts (l ∷ t ∷ []) = carried (split (code ":") l) t
 fromParts (l ∷ t ∷ u ∷ ps) = none
 
--- an operand v
+-- "An operand v is a register, a literal of 32 signed bits, or `#` and a label (0 to 63)."
 unfoldable pub operand : Field → Option Operand
 operand f = fromParts (split (code "=") f)
 
@@ -133,7 +138,7 @@ forms =
     ∷ named "V" (do k ← index; end (row (rowV k)))
     ∷ named "U" (rest (λ n. leb n 16) rowNumber (λ ts. row (rowU ts)))
     ∷ named "P" (do s ← rowNumber; end (row (rowP s)))
-    ∷ named "C" (do q ← letters; s ← rowNumber; rest (λ n. eqb n 8) known (λ rs. row (rowC q s rs)))
+    ∷ named "C" (do q ← letters; s ← rowNumber; rest (λ n. eqb n registerCount) known (λ rs. row (rowC q s rs)))
     ∷ named "E" (end (row rowE))
     ∷ named "X" (do k ← index; end (row (rowX k)))
     ∷ named "K" (do t ← rowNumber; s ← rowNumber; end (row (rowK t s)))

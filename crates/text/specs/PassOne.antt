@@ -1,13 +1,13 @@
 -- Pass one (document 01, "Faults", 1 to 3), and what the text says once it has no such fault.
-use Prim.Native.Nat.{ℕ, suc, _+_}
+use Prim.Native.Nat.{ℕ, suc}
 use mathlib.Core.Bool.{Bool, true, false, not, cond}
 use mathlib.Core.Option.{Option, none, some}
 use mathlib.Core.List.{List, [], _∷_, _++_, map}
 use lib.Dec.{leb, ltb}
 use lib.ListN.{length}
-use Rattle.syntax.specs.Syntax.{Row, Arith, Branch, Operand, Instr, aop, bop, mov, ld, st, malloc, getsp, setsp, salloc, sfree, sld, sst, slp, ssp, jmp, halt, Entry, row, block, instr}
+use Rattle.syntax.specs.Syntax.{Row, Instr, aop, bop, mov, ld, st, malloc, getsp, setsp, salloc, sfree, sld, sst, slp, ssp, jmp, halt, Entry, row, block, instr}
 use Rattle.syntax.specs.Fault.{Fault, fault, given, Pass}
-use Rattle.text.specs.Bytes.{Line, linesOf}
+use Rattle.text.specs.Bytes.{linesOf}
 use Rattle.text.specs.Grammar.{parse}
 
 -- ---- order
@@ -139,3 +139,13 @@ grouped (instr x ∷ es) = (x ∷ grouped es .0, grouped es .1)
 -- the blocks among them: labels 0, 1, ..
 unfoldable pub listingsOf : List Entry → List Listing
 listingsOf es = grouped es .1
+
+-- ---- the lines that rows and blocks make, the other way round
+-- each block's line and its instructions
+unfoldable pub blocksEntries : List Listing → List Entry
+blocksEntries [] = []
+blocksEntries (b ∷ bs) = block (b .code) ∷ (map instr (b .body) ++ blocksEntries bs)
+
+-- the rows, and then the blocks
+unfoldable pub entriesIn : List Row → List Listing → List Entry
+entriesIn rs bs = map row rs ++ blocksEntries bs

@@ -14,7 +14,7 @@ use borrow.Author.Tests.{eq-eqb, ne-eqb, le-leb, lt-leb}
 use Rattle.syntax.specs.Partial.{chain, guarded}
 use Rattle.syntax.specs.Syntax.{Base, reg, lit, lab, Operand, inst}
 use Rattle.text.specs.Bytes.{split, number, literal}
-use Rattle.text.specs.Grammar.{rowNumber, index, register, each, carrier, orLiteral, carried, fromParts, operand}
+use Rattle.text.specs.Grammar.{rowNumber, index, labelNumber, register, each, carrier, orLiteral, carried, fromParts, operand}
 use Rattle.text_lines.specs.Parts.{firstPart}
 use Rattle.text_lines.proofs.Parts.{only, split-is, split-more, split-last}
 use Rattle.text_fields.specs.declared.plain_operands.OperandRead.{OperandRead}
@@ -47,7 +47,7 @@ carrier-none [] e = refl
 carrier-none (b ∷ s) e = absurd (omega arith)
 
 pub carrier-label : (f : List ℕ) → (length f ≡ 0 → ⊥) → getD f 0 0 ≡ 35 → plainRead 2 (index (drop 1 f)) ≡ answerOf (asPlain (carrier f))
-unfolding carrier index
+unfolding carrier labelNumber index
 carrier-label [] h e = absurd (h refl)
 carrier-label (b ∷ s) h e = simp (eq-eqb b 35 e) (label-read (number 0 63 s))
 

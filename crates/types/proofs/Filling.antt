@@ -1,11 +1,12 @@
 -- The laws of filling: two walks in a row are one, and closing commutes with filling.
 use Prim.Native.Nat.{ℕ, zero, suc, _+_, _≤_, _<_}
-use native.Mathlib.Nat.{add-assoc, zero-add, suc-add, add-zero, add-suc, not-suc-le-zero, le-of-suc-le-suc}
+use native.Mathlib.Nat.{add-sub-cancel, add-zero, add-suc, not-suc-le-zero, le-of-suc-le-suc}
 use native.Mathlib.Omega.{arith}
 use mathlib.Core.Path.{_≡_, refl, ap, ap₂, sym, _∙_}
-use mathlib.Core.Option.{Option, none, some}
+use mathlib.Core.Option.{some}
 use mathlib.Core.List.{List, [], _∷_, _++_, map, append-assoc}
 use lib.ListN.{length, length-append, getElem?}
+use borrow.Author.Tests.{lt-ltb, le-ltb}
 use Rattle.syntax.specs.Syntax.{Kind, value, stack}
 use Rattle.types.specs.Types.{Ty, int, junk, var, tuple, pointer, code, nil, push, svar, gap, join, items, variable, below, Act, walk, raising, raise, Arg, arg, ofKind, place, filling, fill, fillArg, Use, aStack, aTuple, aFile, Wf, Args, noargs, more}
 
@@ -61,14 +62,11 @@ module _ (F G H : Act) (m n : ℕ) (h : (e : ℕ) (κ : Kind) (k : ℕ) → walk
 -- ---- below: the two sides
 pub below-lt : {A : Type 0} (d k : ℕ) (x : A) (f : ℕ → A) → k < d → below d k x f ≡ x
 unfolding below
-below-lt zero k x f h = absurd (not-suc-le-zero h)
-below-lt (suc d) zero x f h = refl
-below-lt (suc d) (suc k) x f h = below-lt d k x f (le-of-suc-le-suc h)
+below-lt d k x f h = rw (lt-ltb k d h)
 
 pub below-ge : {A : Type 0} (d j : ℕ) (x : A) (f : ℕ → A) → below d (j + d) x f ≡ f j
 unfolding below
-below-ge zero j x f = ap f (add-zero j)
-below-ge (suc d) j x f = ap (λ z. below (suc d) z x f) (add-suc j d) ∙ below-ge d j x f
+below-ge d j x f = rw (le-ltb (j + d) d (omega arith), add-sub-cancel j d)
 
 pub data Side (d k : ℕ) : Type 0 where
   lo : k < d → Side d k
@@ -125,6 +123,13 @@ raising-low m d κ k h = below-lt d k (variable κ k) (λ j. variable κ (j + (m
 raising-high : (m d : ℕ) (κ : Kind) (j : ℕ) → raising m d κ (j + d) ≡ variable κ (j + (m + d))
 unfolding raising
 raising-high m d κ j = below-ge d j (variable κ (j + d)) (λ j. variable κ (j + (m + d)))
+
+pub raise-variable : (m : ℕ) (κ : Kind) (j : ℕ) → raise m (variable κ j) ≡ variable κ (j + m)
+unfolding raise
+raise-variable m κ j =
+    let p = add-zero j in
+    let q = add-zero m in
+    walk-variable (raising m) 0 κ j ∙ rw (p, q) at (raising-high m 0 κ j)
 
 pub filling-low : (A : List Arg) (d : ℕ) (κ : Kind) (k : ℕ) → k < d → filling A d κ k ≡ variable κ k
 unfolding filling

@@ -1,3 +1,5 @@
 pub mod Equal
 pub mod Filling
+pub mod InTurn
 pub mod Meaning
+pub mod PassTwo

@@ -8,14 +8,16 @@ use mathlib.Core.Bool.{Bool, true, false, not, cond}
 use mathlib.Core.Option.{Option, none, some}
 use mathlib.Core.List.{List, [], _∷_, _++_, map, reverse, append-assoc, append-nil}
 use lib.Dec.{ltb}
-use lib.ListN.{length, getD, take, drop, take-append-drop, length-append, List·getD-append}
-use lib.Seq.{split-at, length-take-le, getD-at}
+use lib.ListN.{length, getD, take, drop, take-append-drop, length-append}
+use lib.Seq.{length-take-le}
 use borrow.Author.Tests.{ltb-true}
 use Rattle.syntax.specs.Syntax.{Kind, value, stack, Row, rowI, rowN, rowE, rowV, rowX, rowP, rowU, rowK, rowA, rowC}
 use Rattle.syntax.specs.Fault.{Fault, given, Clear}
 use Rattle.types.specs.Types.{junk, tuple, pointer, code, push, gap, join, Arg, arg, kindOf, ofKind}
-use Rattle.types.specs.Rows.{typeAt, components, registers, meaning, meanings, typesOf, isValue, Ref, knownRefs, rowRefs, allBelow, allOfSort, sizeOf, rowFaults, rowsFaults}
+use Rattle.types.specs.Rows.{typeAt, components, registers, meaning, typesOf, isValue, Ref, knownRefs, rowRefs, allBelow, allOfSort, sizeOf, refsFaults, rowsFaults}
 use Rattle.types.proofs.Equal.{and-inv, not-false}
+use Rattle.types.proofs.InTurn.{in-turn-length, in-turn-snoc, in-turn-more, in-turn-before}
+use Rattle.types.proofs.PassTwo.{rowFaultsBy, rowsFaultsFrom, rows-from}
 
 -- the rows that a row names
 abbrev pub named : Row → List ℕ
@@ -26,55 +28,25 @@ abbrev pub typeIn : List Arg → ℕ → Arg
 typeIn A r = getD A r (arg value junk)
 
 -- ---- the table of types grows behind
-meanings-append : (A : List Arg) (xs ys : List Row) → meanings A (xs ++ ys) ≡ meanings (meanings A xs) ys
-unfolding meanings
-meanings-append A [] ys = refl
-meanings-append A (x ∷ xs) ys = meanings-append (A ++ meaning A x ∷ []) xs ys
-
-meanings-length : (A : List Arg) (xs : List Row) → length (meanings A xs) ≡ length A + length xs
-unfolding meanings
-meanings-length A [] = sym (add-zero (length A))
-meanings-length A (x ∷ xs) =
-    let h = meanings-length (A ++ meaning A x ∷ []) xs in
-    let k = length-append A (meaning A x ∷ []) in
-    omega arith
-
-meanings-low : (A : List Arg) (xs : List Row) (r : ℕ) → r < length A → typeIn (meanings A xs) r ≡ typeIn A r
-unfolding meanings
-meanings-low A [] r h = refl
-meanings-low A (x ∷ xs) r h =
-    let k = length-append A (meaning A x ∷ []) in
-    meanings-low (A ++ meaning A x ∷ []) xs r (omega arith) ∙ List·getD-append A (meaning A x ∷ []) (arg value junk) r h
-
 -- each row has one type
 pub length-types : (rows : List Row) → length (typesOf rows) ≡ length rows
 unfolding typesOf
-length-types rows = let h = meanings-length [] rows in omega arith
+length-types rows = let h = in-turn-length meaning [] rows in omega arith
 
 -- one more row
 pub types-snoc : (rows : List Row) (x : Row) → typesOf (rows ++ x ∷ []) ≡ typesOf rows ++ meaning (typesOf rows) x ∷ []
-unfolding typesOf meanings
-types-snoc rows x = meanings-append [] rows (x ∷ [])
+unfolding typesOf
+types-snoc rows x = in-turn-snoc meaning rows x
 
 -- rows appended behind change nothing for the rows before them
 pub type-more : (rows more : List Row) (r : ℕ) → r < length rows → typeIn (typesOf (rows ++ more)) r ≡ typeIn (typesOf rows) r
 unfolding typesOf
-type-more rows more r h =
-    let k = length-types rows in
-    ap (λ A. typeIn A r) (meanings-append [] rows more) ∙ meanings-low (meanings [] rows) more r (omega arith)
+type-more rows more r h = in-turn-more meaning rows more r (arg value junk) h
 
 -- row r means what its form means in the table of the rows before it, whatever it names
 pub type-before : (rows : List Row) (r : ℕ) (d : Row) → r < length rows → typeIn (typesOf rows) r ≡ meaning (typesOf (take r rows)) (getD rows r d)
-type-before rows r d h =
-    let A : List Row = take r rows in
-    let x : Row = getD rows r d in
-    let n : length A ≡ r = length-take-le r rows (omega arith) in
-    let m = length-types A in
-    let k = length-append A (x ∷ []) in
-    ap (λ l. typeIn (typesOf l) r) (split-at rows r d h ∙ sym (append-assoc A (x ∷ []) (drop (suc r) rows)))
-    ∙ type-more (A ++ x ∷ []) (drop (suc r) rows) r (omega arith)
-    ∙ ap (λ l. typeIn l r) (types-snoc A x)
-    ∙ getD-at (typesOf A) (meaning (typesOf A) x) [] (arg value junk) r (omega arith)
+unfolding typesOf
+type-before rows r d h = in-turn-before meaning rows r (arg value junk) d h
 
 -- ---- a form's meaning looks at the rows that it names, and at no others
 module _ (n : ℕ) (A B : List Arg) (same : (t : ℕ) → t < n → typeIn A t ≡ typeIn B t) where
@@ -158,8 +130,8 @@ unfolding given
 none-given true n fs e = let z : _≡_ {A = ℕ} 0 1 = cc in absurd (omega arith)
 none-given false n fs e = (refl, e)
 
-rows-seen : (before : List Row) (sizes : List ℕ) (rows : List Row) → Clear (rowsFaults before sizes rows) → (r : ℕ) (d : Row) → r < length rows → (allBelow (length before + r) (named (getD rows r d)) ≡ true) × (allOfSort (before ++ take r rows) (rowRefs (getD rows r d)) ≡ true)
-unfolding rowsFaults rowFaults
+rows-seen : (before : List Row) (sizes : List ℕ) (rows : List Row) → Clear (rowsFaultsFrom before sizes rows) → (r : ℕ) (d : Row) → r < length rows → (allBelow (length before + r) (named (getD rows r d)) ≡ true) × (allOfSort (before ++ take r rows) (rowRefs (getD rows r d)) ≡ true)
+unfolding rowsFaultsFrom rowFaultsBy refsFaults
 rows-seen before sizes [] c r d h = absurd (not-suc-le-zero h)
 rows-seen before sizes (x ∷ rows) c zero d h =
     let four : List Fault = given (not (allBelow (length before) (named x))) 4 in
@@ -173,5 +145,5 @@ rows-seen before sizes (x ∷ rows) c (suc r) d h =
     let n : length (before ++ x ∷ []) + r ≡ length before + suc r = omega (arith, length-append before (x ∷ [])) in
     (rw n at (i .0), rw append-assoc at (i .1))
 
-pub rows-clear : (rows : List Row) → Clear (rowsFaults [] [] rows) → (r : ℕ) (d : Row) → r < length rows → (allBelow r (named (getD rows r d)) ≡ true) × (allOfSort (take r rows) (rowRefs (getD rows r d)) ≡ true)
-rows-clear rows c r d h = let s = rows-seen [] [] rows c r d h in (rw zero-add at (s .0), s .1)
+pub rows-clear : (rows : List Row) → Clear (rowsFaults rows 0 rows) → (r : ℕ) (d : Row) → r < length rows → (allBelow r (named (getD rows r d)) ≡ true) × (allOfSort (take r rows) (rowRefs (getD rows r d)) ≡ true)
+rows-clear rows c r d h = let s = rows-seen [] [] rows (rw (rows-from rows) at c) r d h in (rw zero-add at (s .0), s .1)

@@ -1,5 +1,4 @@
 -- A test for the equality of types that computes. That it is equality is proved (proofs/Equal.antt: same-sound, same-refl).
-use Prim.Native.Nat.{ℕ}
 use mathlib.Core.Bool.{Bool, true, false, _&&_}
 use mathlib.Core.List.{List, [], _∷_}
 use lib.Dec.{eqb}

@@ -1,15 +1,20 @@
 -- Rows to types, sizes, and pass two (document 01, "Program text" and "Faults", 4 to 6).
 use Prim.Native.Nat.{ℕ, suc, _+_}
-use mathlib.Core.Bool.{Bool, true, false, _&&_, _||_, not, cond}
+use mathlib.Core.Bool.{Bool, true, false, _&&_, not}
 use mathlib.Core.Option.{Option, none, some}
 use mathlib.Core.List.{List, [], _∷_, _++_, map, reverse}
 use lib.Dec.{ltb}
-use lib.ListN.{length, getD, getElem?}
+use lib.ListN.{length, getD, getElem?, take}
 use Rattle.syntax.specs.Syntax.{Kind, value, stack, Row, rowI, rowN, rowE, rowV, rowX, rowP, rowU, rowK, rowA, rowC, Base, reg, lit, lab, Operand, plain, inst, Instr, aop, bop, mov, ld, st, malloc, getsp, setsp, salloc, sfree, sld, sst, slp, ssp, jmp, halt, Entry, row, block, instr}
 use Rattle.syntax.specs.Fault.{Fault, given, Pass}
 use Rattle.types.specs.Types.{Ty, int, junk, var, tuple, pointer, code, nil, push, svar, gap, join, Arg, arg, ofKind}
 
 -- ---- what rows mean, each by the rows before it
+-- what f says of each row, by what it said of the rows before it
+unfoldable pub inTurn : {A : Type 0} → (List A → Row → A) → List A → List Row → List A
+inTurn f before [] = before
+inTurn f before (r ∷ rs) = inTurn f (before ++ f before r ∷ []) rs
+
 -- row r as a type of the kind needed; pass two sees that there is one
 unfoldable pub typeAt : (κ : Kind) → List Arg → ℕ → Ty κ
 typeAt κ table r = ofKind κ (getD table r (arg value junk))
@@ -38,14 +43,9 @@ meaning table (rowX k) = arg stack (svar k nil)
 meaning table (rowK t s) = arg stack (push (typeAt value table t) (typeAt stack table s))
 meaning table (rowA s₁ s₂) = arg stack (join (typeAt stack table s₁) (typeAt stack table s₂))
 
--- the types of the rows before, then of these
-unfoldable pub meanings : List Arg → List Row → List Arg
-meanings table [] = table
-meanings table (r ∷ rs) = meanings (table ++ meaning table r ∷ []) rs
-
 -- the types of all rows
 unfoldable pub typesOf : List Row → List Arg
-typesOf rows = meanings [] rows
+typesOf rows = inTurn meaning [] rows
 
 -- ---- which rows and labels a line names, and what they must be
 -- "value, stack or code row where another is needed (.. value or stack for an argument)"
@@ -196,46 +196,36 @@ total sizes (r ∷ rs) = getD sizes (r .row) 0 + total sizes rs
 unfoldable pub sizeOf : List ℕ → Row → ℕ
 sizeOf sizes r = suc (total sizes (rowRefs r))
 
--- the sizes of the rows before, then of these
-unfoldable pub sizesFrom : List ℕ → List Row → List ℕ
-sizesFrom sizes [] = sizes
-sizesFrom sizes (r ∷ rs) = sizesFrom (sizes ++ sizeOf sizes r ∷ []) rs
-
 -- the sizes of all rows
 unfoldable pub sizesOf : List Row → List ℕ
-sizesOf rows = sizesFrom [] rows
+sizesOf rows = inTurn sizeOf [] rows
 
--- the faults of row r, by the rows before it and their sizes: "row does not exist, or row not lower", its sort, "size over 4,096"
-unfoldable pub rowFaults : List Row → List ℕ → Row → List Fault
-rowFaults before sizes r =
-    given (not (allBelow (length before) (rowsIn (rowRefs r)))) 4
-    ++ given (not (allOfSort before (rowRefs r))) 5
-    ++ given (ltb 4096 (sizeOf sizes r)) 6
-
--- the faults of each type line, by the rows before it and their sizes
-unfoldable pub rowsFaults : List Row → List ℕ → List Row → Pass
-rowsFaults before sizes [] = []
-rowsFaults before sizes (r ∷ rs) = rowFaults before sizes r ∷ rowsFaults (before ++ r ∷ []) (sizes ++ sizeOf sizes r ∷ []) rs
-
--- 4 if a row named does not exist, 5 if one is of another sort than needed
+-- 4 if a row named does not exist among these, 5 if one is of another sort than needed
 unfoldable pub refsFaults : List Row → List Ref → List Fault
 refsFaults rows rs = given (not (allBelow (length rows) (rowsIn rs))) 4 ++ given (not (allOfSort rows rs)) 5
 
--- of a line behind the type lines, by all rows and the number of blocks
-unfoldable pub entryFaults : List Row → ℕ → Entry → List Fault
-entryFaults rows blocks (row r) = []
-entryFaults rows blocks (block c) = refsFaults rows (ref codeRow c ∷ [])
-entryFaults rows blocks (instr x) =
+-- the faults of r, which is row n: "row does not exist, or row not lower", its sort, "size over 4,096"
+unfoldable pub rowFaults : List Row → ℕ → Row → List Fault
+rowFaults rows n r = refsFaults (take n rows) (rowRefs r) ++ given (ltb 4096 (getD (sizesOf rows) n 0)) 6
+
+-- the faults of each type line; these are the rows from n on
+unfoldable pub rowsFaults : List Row → ℕ → List Row → Pass
+rowsFaults rows n [] = []
+rowsFaults rows n (r ∷ rs) = rowFaults rows n r ∷ rowsFaults rows (suc n) rs
+
+-- the faults of an instruction, by all rows and the number of blocks: 4 also if a label does not exist
+unfoldable pub instrFaults : List Row → ℕ → Instr → List Fault
+instrFaults rows blocks x =
     given (not (allBelow blocks (labels (names x .operands)))) 4
     ++ refsFaults rows (map (ref valueRow) (names x .valueRows) ++ operandsRefs (names x .operands))
 
--- type lines come first, so a line's faults stand at its own place
+-- the faults of the lines behind the type lines; those come first, so a line's faults stand at its own place
 unfoldable pub entriesFaults : List Row → ℕ → List Entry → Pass
 entriesFaults rows blocks [] = []
 entriesFaults rows blocks (row r ∷ es) = entriesFaults rows blocks es
-entriesFaults rows blocks (block c ∷ es) = entryFaults rows blocks (block c) ∷ entriesFaults rows blocks es
-entriesFaults rows blocks (instr x ∷ es) = entryFaults rows blocks (instr x) ∷ entriesFaults rows blocks es
+entriesFaults rows blocks (block c ∷ es) = refsFaults rows (ref codeRow c ∷ []) ∷ entriesFaults rows blocks es
+entriesFaults rows blocks (instr x ∷ es) = instrFaults rows blocks x ∷ entriesFaults rows blocks es
 
 -- pass two, from the rows, the number of blocks and the lines; line 0 has none
 unfoldable pub passTwo : List Row → ℕ → List Entry → Pass
-passTwo rows blocks es = [] ∷ rowsFaults [] [] rows ++ entriesFaults rows blocks es
+passTwo rows blocks es = [] ∷ rowsFaults rows 0 rows ++ entriesFaults rows blocks es

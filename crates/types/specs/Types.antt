@@ -1,13 +1,14 @@
 -- Types (Figure 6; document 01, "When types are equal"), read so that equality is equality: "A stack type is read as a list of
 -- items from the top, each a value type or a stack variable; E adds none, A joins."
-use Prim.Native.Nat.{ℕ, zero, suc, _+_, _-_, _≤_}
+use Prim.Native.Nat.{ℕ, zero, suc, _+_, _-_}
 use mathlib.Core.Path.{_≡_}
-use mathlib.Core.Bool.{Bool, true, false, _&&_}
-use mathlib.Core.Option.{Option, none, some}
+use mathlib.Core.Bool.{Bool, true, false, _&&_, cond}
+use mathlib.Core.Option.{Option, some}
 use mathlib.Core.List.{List, [], _∷_, _++_}
+use lib.Dec.{ltb}
 use lib.ListN.{length, getElem?}
 use Rattle.syntax.specs.Partial.{guarded}
-use Rattle.syntax.specs.Syntax.{Kind, value, stack}
+use Rattle.syntax.specs.Syntax.{registerCount, Kind, value, stack}
 
 -- One family: at `value` the value types, at `stack` lists of items. Such a list is a stack type, a tuple's components, or the
 -- eight registers of a code type; `gap` is a register of which nothing is known. A code type has its letters in the order of
@@ -42,11 +43,9 @@ unfoldable pub variable : (κ : Kind) → ℕ → Ty κ
 variable value k = var k
 variable stack k = svar k nil
 
--- x if k is bound by the d nearest binders; else f at how far k is past them
+-- x if the d nearest binders bind variable k; else f at how far k is past them
 unfoldable pub below : {A : Type 0} → ℕ → ℕ → A → (ℕ → A) → A
-below zero k x f = f k
-below (suc d) zero x f = x
-below (suc d) (suc k) x f = below d k x f
+below d k x f = cond (ltb k d) x (f (k - d))
 
 -- what stands for a variable: under so many binders, of a kind, with an index
 abbrev pub Act : Type 0
@@ -94,47 +93,47 @@ ofKind stack (arg value t) = nil
 -- one further out, which comes down by the number of arguments.
 unfoldable pub place : (κ : Kind) → ℕ → List Arg → ℕ → Ty κ
 place κ d [] j = variable κ (j + d)
-place κ d (a ∷ A) zero = raise d (ofKind κ a)
-place κ d (a ∷ A) (suc j) = place κ d A j
+place κ d (a ∷ θ) zero = raise d (ofKind κ a)
+place κ d (a ∷ θ) (suc j) = place κ d θ j
 
--- what stands for a variable when A fills: one that the d nearest binders bind stays
+-- what stands for a variable when θ fills: one that the d nearest binders bind stays
 unfoldable pub filling : List Arg → Act
-filling A d κ k = below d k (variable κ k) (place κ d A)
+filling θ d κ k = below d k (variable κ k) (place κ d θ)
 
 -- the type with the variables past the d nearest filled by arguments, all at once; fill 0 closes a type
 unfoldable pub fill : ℕ → List Arg → {κ : Kind} → Ty κ → Ty κ
-fill d A t = walk (filling A) d t
+fill d θ t = walk (filling θ) d t
 
 -- an argument with its variables filled
 unfoldable pub fillArg : List Arg → Arg → Arg
-fillArg A (arg κ t) = arg κ (fill 0 A t)
+fillArg θ (arg κ t) = arg κ (fill 0 θ t)
 
 -- the argument for variable j is of kind κ; so is a variable that no argument fills
 unfoldable pub fitsKind : Kind → List Arg → ℕ → Bool
 fitsKind κ [] j = true
-fitsKind value (arg value t ∷ A) zero = true
-fitsKind value (arg stack t ∷ A) zero = false
-fitsKind stack (arg value t ∷ A) zero = false
-fitsKind stack (arg stack t ∷ A) zero = true
-fitsKind κ (a ∷ A) (suc j) = fitsKind κ A j
+fitsKind value (arg value t ∷ θ) zero = true
+fitsKind value (arg stack t ∷ θ) zero = false
+fitsKind stack (arg value t ∷ θ) zero = false
+fitsKind stack (arg stack t ∷ θ) zero = true
+fitsKind κ (a ∷ θ) (suc j) = fitsKind κ θ j
 
 -- every variable that an argument fills is of its letter: only a row with a fault 7 on its own line has another
 unfoldable pub meets : List Arg → ℕ → {κ : Kind} → Ty κ → Bool
-meets A d int = true
-meets A d junk = true
-meets A d (var k) = below d k true (fitsKind value A)
-meets A d (tuple a) = meets A d a
-meets A d (pointer a) = meets A d a
-meets A d (code q a r) = meets A (length q + d) a && meets A (length q + d) r
-meets A d nil = true
-meets A d (push t a) = meets A d t && meets A d a
-meets A d (svar k a) = below d k true (fitsKind stack A) && meets A d a
-meets A d (gap a) = meets A d a
+meets θ d int = true
+meets θ d junk = true
+meets θ d (var k) = below d k true (fitsKind value θ)
+meets θ d (tuple a) = meets θ d a
+meets θ d (pointer a) = meets θ d a
+meets θ d (code q a r) = meets θ (length q + d) a && meets θ (length q + d) r
+meets θ d nil = true
+meets θ d (push t a) = meets θ d t && meets θ d a
+meets θ d (svar k a) = below d k true (fitsKind stack θ) && meets θ d a
+meets θ d (gap a) = meets θ d a
 
 -- "Type arguments fill the first bound variables, left to right; fewer than all is allowed": the code type with letters q left.
 -- The first letters have the last variables, so q stands first. `none`: a variable of the wrong letter would have to be filled.
 unfoldable pub filled : List Arg → List Kind → Ty stack → Ty stack → Option (Ty value)
-filled A q a r = guarded (meets A (length q) a && meets A (length q) r) (code q (fill (length q) A a) (fill (length q) A r))
+filled θ q a r = guarded (meets θ (length q) a && meets θ (length q) r) (code q (fill (length q) θ a) (fill (length q) θ r))
 
 -- ---- well-formed types
 -- what a list of items is
@@ -149,7 +148,7 @@ Wf Δ u junk = Unit
 Wf Δ u (var k) = getElem? Δ k ≡ some value
 Wf Δ u (tuple a) = Wf Δ aTuple a
 Wf Δ u (pointer a) = Wf Δ aStack a
-Wf Δ u (code q a r) = Wf (q ++ Δ) aStack a × Wf (q ++ Δ) aFile r × (items r ≡ 8)
+Wf Δ u (code q a r) = Wf (q ++ Δ) aStack a × Wf (q ++ Δ) aFile r × (items r ≡ registerCount)
 Wf Δ u nil = Unit
 Wf Δ u (push t a) = Wf Δ u t × Wf Δ u a
 Wf Δ u (svar k a) = (u ≡ aStack) × (getElem? Δ k ≡ some stack) × Wf Δ u a
@@ -162,4 +161,4 @@ WfType Δ τ = Wf Δ aStack τ
 -- arguments for the letters q, well-formed under Δ; closed ones under []
 pub data Args (Δ : List Kind) : List Arg → List Kind → Type 0 where
   noargs : Args Δ [] []
-  more : {κ : Kind} {t : Ty κ} {A : List Arg} {q : List Kind} → Wf Δ aStack t → Args Δ A q → Args Δ (arg κ t ∷ A) (κ ∷ q)
+  more : {κ : Kind} {t : Ty κ} {θ : List Arg} {q : List Kind} → Wf Δ aStack t → Args Δ θ q → Args Δ (arg κ t ∷ θ) (κ ∷ q)

@@ -12,11 +12,13 @@ use borrow.Author.Tests.{ne-eqb, eqb-true, eqb-false, leb-true, leb-false, ltb-f
 use Rattle.syntax.specs.Syntax.{Row}
 use Rattle.syntax.specs.Fault.{Fault, Clear, given, numberOf, lowest, Refusal, lowestLine, orElse}
 use Rattle.syntax.proofs.Least.{least, leastOf, given-none, line-next, line-here}
-use Rattle.text.specs.PassOne.{Listing}
-use Rattle.text.proofs.Entries.{entriesIn}
-use Rattle.types.specs.Rows.{Ref, rowRefs, allBelow, allOfSort, sizeOf, sizesFrom, sizesOf, rowFaults, rowsFaults, refsFaults, passTwo, entriesFaults}
+use Rattle.text.specs.PassOne.{Listing, entriesIn}
+use Rattle.types.specs.Rows.{inTurn, Ref, rowRefs, allBelow, allOfSort, sizeOf, sizesOf, refsFaults, rowsFaults, entriesFaults, passTwo}
+use Rattle.types.proofs.InTurn.{in-turn-snoc}
+use Rattle.types.proofs.PassTwo.{rowFaultsBy, rowsFaultsFrom, rows-from}
 use Rattle.tables.specs.Tables.{RowTable, rowAt, rowsFrom, rowsIn}
 use Rattle.types_rows.proofs.Bridge.{rows-snoc}
+use Rattle.types_rows.specs.Clear.{RowsClear}
 use Rattle.types_rows.specs.size.Size.{Measured}
 use Rattle.types_pass_two.specs.declared.refs.Found.{Found}
 use Rattle.types_pass_two.specs.row_refs.Rows.{rowRefsFaults}
@@ -68,7 +70,7 @@ measured-none τ n h z = absurd (z (zero-at n h))
 -- ---- the type lines from row r on
 module _ (τ : RowTable) (n : ℕ) where
   unfoldable pub rowsLeft : ℕ → Option Refusal
-  rowsLeft r = lowestLine (suc r) (rowsFaults (rowsIn τ r) (sizesOf (rowsIn τ r)) (rowsFrom τ r (n - r)))
+  rowsLeft r = lowestLine (suc r) (rowsFaultsFrom (rowsIn τ r) (sizesOf (rowsIn τ r)) (rowsFrom τ r (n - r)))
 
   step : (r : ℕ) → r < n → rowsFrom τ r (n - r) ≡ rowAt τ r ∷ rowsFrom τ (suc r) (n - suc r)
   unfolding rowsFrom
@@ -77,24 +79,19 @@ module _ (τ : RowTable) (n : ℕ) where
   snoc : (r : ℕ) → rowsIn τ r ++ rowAt τ r ∷ [] ≡ rowsIn τ (suc r)
   snoc r = sym (rows-snoc τ 0 r ∙ ap (λ z. rowsFrom τ 0 r ++ rowAt τ z ∷ []) (zero-add r))
 
-  sizes-append : (S : List ℕ) (xs ys : List Row) → sizesFrom S (xs ++ ys) ≡ sizesFrom (sizesFrom S xs) ys
-  unfolding sizesFrom
-  sizes-append S [] ys = refl
-  sizes-append S (x ∷ xs) ys = sizes-append (S ++ sizeOf S x ∷ []) xs ys
-
   sizes-snoc : (r : ℕ) → sizesOf (rowsIn τ r) ++ sizeOf (sizesOf (rowsIn τ r)) (rowAt τ r) ∷ [] ≡ sizesOf (rowsIn τ (suc r))
-  unfolding sizesOf sizesFrom
-  sizes-snoc r = sym (sizes-append [] (rowsIn τ r) (rowAt τ r ∷ [])) ∙ ap (sizesFrom []) (snoc r)
+  unfolding sizesOf
+  sizes-snoc r = sym (in-turn-snoc sizeOf (rowsIn τ r) (rowAt τ r)) ∙ ap sizesOf (snoc r)
 
-  here : (r : ℕ) → r < n → rowsLeft r ≡ lowestLine (suc r) (faultsAt τ r ∷ rowsFaults (rowsIn τ (suc r)) (sizesOf (rowsIn τ (suc r))) (rowsFrom τ (suc r) (n - suc r)))
-  unfolding rowsLeft rowsFaults
+  here : (r : ℕ) → r < n → rowsLeft r ≡ lowestLine (suc r) (faultsAt τ r ∷ rowsFaultsFrom (rowsIn τ (suc r)) (sizesOf (rowsIn τ (suc r))) (rowsFrom τ (suc r) (n - suc r)))
+  unfolding rowsLeft rowsFaultsFrom
   here r h =
-      ap (λ l. lowestLine (suc r) (rowsFaults (rowsIn τ r) (sizesOf (rowsIn τ r)) l)) (step r h)
-      ∙ ap₂ (λ (b : List Row) (s : List ℕ). lowestLine (suc r) (faultsAt τ r ∷ rowsFaults b s (rowsFrom τ (suc r) (n - suc r)))) (snoc r) (sizes-snoc r)
+      ap (λ l. lowestLine (suc r) (rowsFaultsFrom (rowsIn τ r) (sizesOf (rowsIn τ r)) l)) (step r h)
+      ∙ ap₂ (λ (b : List Row) (s : List ℕ). lowestLine (suc r) (faultsAt τ r ∷ rowsFaultsFrom b s (rowsFrom τ (suc r) (n - suc r)))) (snoc r) (sizes-snoc r)
 
-  pub rows-start : rowsLeft 0 ≡ lowestLine 1 (rowsFaults [] [] (rowsIn τ n))
-  unfolding rowsLeft rowsFrom sizesOf sizesFrom
-  rows-start = let e : n - 0 ≡ n = omega arith in rw e refl
+  pub rows-start : rowsLeft 0 ≡ lowestLine 1 (rowsFaults (rowsIn τ n) 0 (rowsIn τ n))
+  unfolding rowsLeft rowsFrom sizesOf inTurn
+  rows-start = let e : n - 0 ≡ n = omega arith in rw (e, rows-from (rowsIn τ n)) refl
 
   pub rows-next : (r f : ℕ) → r < n → f ≡ leastOf (faultsAt τ r) → f ≡ 0 → rowsLeft (r + 1) ≡ rowsLeft r
   unfolding rowsLeft
@@ -120,7 +117,7 @@ module _ (τ : RowTable) (n : ℕ) where
       either false = refl
 
   pub rows-end : (r : ℕ) → n ≤ r → none ≡ rowsLeft r
-  unfolding rowsLeft rowsFrom rowsFaults lowestLine
+  unfolding rowsLeft rowsFrom rowsFaultsFrom lowestLine
   rows-end r h = let e : n - r ≡ 0 = omega arith in rw e refl
 
   -- ---- no row of a clear pass is too large
@@ -128,40 +125,40 @@ module _ (τ : RowTable) (n : ℕ) where
   no-six b p q e = given-none b 6 (append-eq-nil-iff {p = p ++ q} {q = given b 6} .0 e .1)
 
   seen-size : (r : ℕ) → faultsAt τ r ≡ [] → sizeOf (sizesOf (rowsIn τ r)) (rowAt τ r) ≤ 4096
-  unfolding rowFaults
+  unfolding rowFaultsBy refsFaults
   seen-size r e =
       ltb-false 4096 (sizeOf (sizesOf (rowsIn τ r)) (rowAt τ r)) (no-six (ltb 4096 (sizeOf (sizesOf (rowsIn τ r)) (rowAt τ r)))
       (given (not (allBelow (length (rowsIn τ r)) (map (λ (x : Ref). x .row) (rowRefs (rowAt τ r))))) 4)
       (given (not (allOfSort (rowsIn τ r) (rowRefs (rowAt τ r)))) 5) e)
 
-  carry : {a b : List Row} {s t : List ℕ} (l : List Row) → a ≡ b → s ≡ t → Clear (rowsFaults a s l) → Clear (rowsFaults b t l)
-  carry {a} {b} {s} {t} l e f c = subst (λ x. Clear (rowsFaults x t l)) e (subst (λ x. Clear (rowsFaults a x l)) f c)
+  carry : {a b : List Row} {s t : List ℕ} (l : List Row) → a ≡ b → s ≡ t → Clear (rowsFaultsFrom a s l) → Clear (rowsFaultsFrom b t l)
+  carry {a} {b} {s} {t} l e f c = subst (λ x. Clear (rowsFaultsFrom x t l)) e (subst (λ x. Clear (rowsFaultsFrom a x l)) f c)
 
-  sizes-seen : (k r : ℕ) → Clear (rowsFaults (rowsIn τ r) (sizesOf (rowsIn τ r)) (rowsFrom τ r k)) → (x : ℕ) → r ≤ x → x < r + k → sizeOf (sizesOf (rowsIn τ x)) (rowAt τ x) ≤ 4096
-  unfolding rowsFrom rowsFaults
+  sizes-seen : (k r : ℕ) → Clear (rowsFaultsFrom (rowsIn τ r) (sizesOf (rowsIn τ r)) (rowsFrom τ r k)) → (x : ℕ) → r ≤ x → x < r + k → sizeOf (sizesOf (rowsIn τ x)) (rowAt τ x) ≤ 4096
+  unfolding rowsFrom rowsFaultsFrom
   sizes-seen zero r c x h l = absurd (omega arith)
   sizes-seen (suc k) r c x h l = go (sizes-seen k (suc r) rest x) (eqb r x) refl
     where
-      rest : Clear (rowsFaults (rowsIn τ (suc r)) (sizesOf (rowsIn τ (suc r))) (rowsFrom τ (suc r) k))
+      rest : Clear (rowsFaultsFrom (rowsIn τ (suc r)) (sizesOf (rowsIn τ (suc r))) (rowsFrom τ (suc r) k))
       rest = carry (rowsFrom τ (suc r) k) (snoc r) (sizes-snoc r) (c .1)
 
       go : (suc r ≤ x → x < suc r + k → sizeOf (sizesOf (rowsIn τ x)) (rowAt τ x) ≤ 4096) → (b : Bool) → eqb r x ≡ b → sizeOf (sizesOf (rowsIn τ x)) (rowAt τ x) ≤ 4096
       go f true e = let q : r ≡ x = eqb-true r x e in rw (← q) (seen-size r (c .0))
       go f false e = let q : r ≡ x → ⊥ = eqb-false r x e in f (omega (arith, q)) (omega arith)
 
-  pub size-clear : Clear (rowsFaults [] [] (rowsIn τ n)) → (x : ℕ) → x < n → sizeOf (sizesOf (rowsIn τ x)) (rowAt τ x) ≤ 4096
-  unfolding rowsFrom sizesOf sizesFrom
-  size-clear c x h = sizes-seen n 0 c x (omega arith) (omega arith)
+  pub size-clear : RowsClear τ n → (x : ℕ) → x < n → sizeOf (sizesOf (rowsIn τ x)) (rowAt τ x) ≤ 4096
+  unfolding rowsFrom sizesOf inTurn
+  size-clear c x h = sizes-seen n 0 (rw (rows-from (rowsIn τ n)) at c) x (omega arith) (omega arith)
 
 -- ---- the pass
 module _ (τ : RowTable) (n nb : ℕ) (bs : List Listing) where
-  pub at-row : (f : Found) → refusalOf f ≡ lowestLine 1 (rowsFaults [] [] (rowsIn τ n)) → (f .number ≡ 0 → ⊥) → refusalOf f ≡ lowestLine 0 (passTwo (rowsIn τ n) nb (entriesIn (rowsIn τ n) bs))
+  pub at-row : (f : Found) → refusalOf f ≡ lowestLine 1 (rowsFaults (rowsIn τ n) 0 (rowsIn τ n)) → (f .number ≡ 0 → ⊥) → refusalOf f ≡ lowestLine 0 (passTwo (rowsIn τ n) nb (entriesIn (rowsIn τ n) bs))
   unfolding refusalOf
   at-row f e h =
       let k : eqb (f .number) 0 ≡ false = ne-eqb (f .number) 0 h in
       sym (pass-two τ n nb bs ∙ ap (λ o. orElse o (lowestLine (n + 1) (entriesFaults (rowsIn τ n) nb (entriesIn [] bs)))) (sym e) ∙ rw k refl)
 
-  pub behind-rows : (f g : Found) → refusalOf f ≡ lowestLine 1 (rowsFaults [] [] (rowsIn τ n)) → f .number ≡ 0 → g ≡ foundOf (lowestLine (n + 1) (entriesFaults (rowsIn τ n) nb (entriesIn [] bs))) → refusalOf g ≡ lowestLine 0 (passTwo (rowsIn τ n) nb (entriesIn (rowsIn τ n) bs))
+  pub behind-rows : (f g : Found) → refusalOf f ≡ lowestLine 1 (rowsFaults (rowsIn τ n) 0 (rowsIn τ n)) → f .number ≡ 0 → g ≡ foundOf (lowestLine (n + 1) (entriesFaults (rowsIn τ n) nb (entriesIn [] bs))) → refusalOf g ≡ lowestLine 0 (passTwo (rowsIn τ n) nb (entriesIn (rowsIn τ n) bs))
   behind-rows f g e z q =
       let k : refusalOf f ≡ none = unfold refusalOf in rw z refl in
       ap refusalOf q ∙ sym (whole-refusal (n + 1) (rowsIn τ n) nb (entriesIn [] bs)) ∙ sym (pass-two τ n nb bs ∙ ap (λ o. orElse o (lowestLine (n + 1) (entriesFaults (rowsIn τ n) nb (entriesIn [] bs)))) (sym e ∙ k))

@@ -12,10 +12,9 @@ ghost use Prim.Native.Nat.{ℕ, min, _<_, _≤_};
 ghost use mathlib.Core.Path.{_≡_};
 ghost use mathlib.Core.List.{List, [], _∷_};
 ghost use lib.ListN.{getD};
-ghost use Rattle.syntax.specs.Syntax.{instr};
 ghost use Rattle.syntax.proofs.Least.{leastOf};
 ghost use Rattle.tables.specs.Tables.{cell, rowsIn, operandAt, operandsAt, instrAt};
-ghost use Rattle.types.specs.Rows.{entryFaults};
+ghost use Rattle.types.specs.Rows.{instrFaults};
 ghost use Rattle.types_rows.specs.Read.{tab};
 ghost use Rattle.types_pass_two.specs.instr_refs.Instrs.{operandTable, labelLeast, operandsLeast, givenPlace, countOf};
 
@@ -181,7 +180,7 @@ pub(crate) fn instr_fault(
     args: &[u16],
     j: usize,
 ) -> usize
-    ensures { λ r. ⌜ ((ps : List ℕ) → r ≡ leastOf (entryFaults (rowsIn (tab (now (rows .entry)) ps) n) nb (instr (instrAt (now (instrs .entry)) (operandTable (now (operands .entry)) (now (numbers .entry)) (now (args .entry))) j)))) ⌝ }
+    ensures { λ r. ⌜ ((ps : List ℕ) → r ≡ leastOf (instrFaults (rowsIn (tab (now (rows .entry)) ps) n) nb (instrAt (now (instrs .entry)) (operandTable (now (operands .entry)) (now (numbers .entry)) (now (args .entry))) j))) ⌝ }
 {
     let k = code_at(instrs, j);
     let m = operand_count(k, cell8(instrs, j, 6));

@@ -7,11 +7,10 @@ pub mod row_refs;
 
 use crate::refs::Found;
 ghost use mathlib.Core.Path.{_≡_};
-ghost use mathlib.Core.List.{[]};
 ghost use Prim.Native.Nat.{_≤_};
 ghost use Rattle.syntax.specs.Fault.{lowestLine};
 ghost use Rattle.syntax.proofs.Least.{leastOf};
-ghost use Rattle.text.proofs.Entries.{entriesIn};
+ghost use Rattle.text.specs.PassOne.{entriesIn};
 ghost use Rattle.types.specs.Rows.{rowsFaults, passTwo};
 ghost use Rattle.tables.specs.Tables.{rowsIn, blocksFrom};
 ghost use Rattle.types_rows.specs.Read.{tab};
@@ -38,7 +37,7 @@ fn row_fault(rows: &[u16], parts: &[u16], sizes: &mut [u16], r: usize) -> usize
 // The lowest of the n type lines with a fault. Row r stands on line r + 1.
 fn rows_fault(rows: &[u16], parts: &[u16], sizes: &mut [u16], n: usize) -> Found
     requires { ⌜ (n ≤ 65535) × Measured (tab (now rows) (now parts)) (now sizes) ⌝ }
-    ensures { λ out. ⌜ refusalOf out ≡ lowestLine 1 (rowsFaults [] [] (rowsIn (tab (now (rows .entry)) (now (parts .entry))) n)) ⌝ }
+    ensures { λ out. ⌜ refusalOf out ≡ lowestLine 1 (rowsFaults (rowsIn (tab (now (rows .entry)) (now (parts .entry))) n) 0 (rowsIn (tab (now (rows .entry)) (now (parts .entry))) n)) ⌝ }
 {
     let mut r = 0;
     while r < n {

@@ -5,12 +5,11 @@
 ghost use Prim.Native.Nat.{ℕ, _<_, _≤_};
 ghost use mathlib.Core.Path.{_≡_};
 ghost use mathlib.Core.Bool.{cond};
-ghost use mathlib.Core.List.{List};
+ghost use mathlib.Core.List.{List, [], _∷_};
 ghost use lib.Dec.{ltb};
-ghost use Rattle.syntax.specs.Syntax.{block};
 ghost use Rattle.syntax.proofs.Least.{least, leastOf};
 ghost use Rattle.tables.specs.Tables.{cell, span, rowsIn};
-ghost use Rattle.types.specs.Rows.{valueRow, stackRow, codeRow, entryFaults};
+ghost use Rattle.types.specs.Rows.{valueRow, stackRow, codeRow, ref, refsFaults};
 ghost use Rattle.types_rows.specs.Read.{tab};
 ghost use Rattle.types_pass_two.specs.row_refs.Rows.{rowRefsFaults};
 ghost use Rattle.types_pass_two.specs.row_refs.Least.{refLeast, refsLeast, partRefs, listRefs};
@@ -139,7 +138,7 @@ pub(crate) fn row_fault(rows: &[u16], parts: &[u16], r: usize) -> usize
 
 // The least fault that stands on the line of a block with the code row c.
 pub(crate) fn block_fault(rows: &[u16], n: usize, c: usize) -> usize
-    ensures { λ r. ⌜ ((ps : List ℕ) (nb : ℕ) → r ≡ leastOf (entryFaults (rowsIn (tab (now (rows .entry)) ps) n) nb (block c))) ⌝ }
+    ensures { λ r. ⌜ ((ps : List ℕ) → r ≡ leastOf (refsFaults (rowsIn (tab (now (rows .entry)) ps) n) (ref codeRow c ∷ []))) ⌝ }
 {
     code_ref(rows, n, c)
 }

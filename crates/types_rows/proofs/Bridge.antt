@@ -9,9 +9,10 @@ use lib.Dec.{leb, ltb}
 use lib.ListN.{length, length-append, getD, List·getD-eq-default, List·getD-append}
 use lib.Seq.{getD-at}
 use borrow.Author.Tests.{ne-eqb, leb-true, leb-false, ltb-true, ltb-false, le-leb, lt-ltb, le-ltb}
-use Rattle.syntax.specs.Syntax.{Kind, value, stack, Row, rowA}
+use Rattle.syntax.specs.Syntax.{Kind, value, stack, rowA}
 use Rattle.types.specs.Types.{tuple, pointer, push, gap, join, items, Arg, arg, ofKind}
-use Rattle.types.specs.Rows.{typeAt, components, registers, meaning, meanings, typesOf}
+use Rattle.types.specs.Rows.{inTurn, typeAt, components, registers, meaning, typesOf}
+use Rattle.types.proofs.Meaning.{types-snoc as more-types}
 use Rattle.tables.specs.Tables.{RowTable, cell, span, knownOf, lettersAt, codeRowAt, rowFrom, rowAt, rowsFrom, rowsIn}
 use Rattle.types_rows.specs.declared.Val.the-variants.{Junk, ValVar}
 use Rattle.types_rows.specs.declared.Stk.the-variants.{Nil, StkVar, Join}
@@ -25,11 +26,6 @@ rows-snoc τ i zero = rw (add-zero i) refl
 rows-snoc τ i (suc n) =
     let q : suc i + n ≡ i + suc n = omega arith in
     ap (_∷_ (rowAt τ i)) (rows-snoc τ (suc i) n ∙ ap (λ z. rowsFrom τ (suc i) n ++ rowAt τ z ∷ []) q)
-
-meanings-append : (T : List Arg) (xs ys : List Row) → meanings T (xs ++ ys) ≡ meanings (meanings T xs) ys
-unfolding meanings
-meanings-append T [] ys = refl
-meanings-append T (x ∷ xs) ys = meanings-append (T ++ meaning T x ∷ []) xs ys
 
 -- ---- a kind above 8 is read as a join
 pub row-nine : (ps : List ℕ) (k a b : ℕ) → 9 ≤ k → rowFrom ps k a b ≡ rowA a b
@@ -57,11 +53,10 @@ module _ (τ : RowTable) where
   typesIn n = typesOf (rowsIn τ n)
 
   types-snoc : (n : ℕ) → typesIn (suc n) ≡ typesIn n ++ meaning (typesIn n) (rowAt τ n) ∷ []
-  unfolding typesOf meanings
-  types-snoc n = ap (meanings []) (rows-snoc τ 0 n ∙ ap (λ z. rowsFrom τ 0 n ++ rowAt τ z ∷ []) (zero-add n)) ∙ meanings-append [] (rowsFrom τ 0 n) (rowAt τ n ∷ [])
+  types-snoc n = ap typesOf (rows-snoc τ 0 n ∙ ap (λ z. rowsFrom τ 0 n ++ rowAt τ z ∷ []) (zero-add n)) ∙ more-types (rowsFrom τ 0 n) (rowAt τ n)
 
   pub length-types : (n : ℕ) → length (typesIn n) ≡ n
-  unfolding typesOf meanings rowsFrom
+  unfolding typesOf inTurn rowsFrom
   length-types zero = refl
   length-types (suc n) =
       let h = length-types n in

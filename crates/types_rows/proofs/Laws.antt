@@ -9,8 +9,8 @@ use lib.Dec.{eqb, leb, ltb, leb·suc-suc}
 use lib.ListN.{length, getD}
 use borrow.Author.Tests.{ne-eqb, leb-false, leb-true, ltb-true, eqb-false, le-leb, lt-leb, lt-ltb, le-ltb}
 use Rattle.syntax.specs.Syntax.{Kind, value, stack}
-use Rattle.types.specs.Types.{Ty, int, junk, var, tuple, pointer, code, nil, push, svar, gap, join, items, variable, walk, raise, Arg, arg, ofKind}
-use Rattle.types.proofs.Filling.{join-nil, items-join, walk-join, Side, lo, hi, side, below-lt, below-ge}
+use Rattle.types.specs.Types.{Ty, int, junk, var, tuple, pointer, code, nil, push, svar, gap, join, items, variable, below, walk, raise, Arg, arg, ofKind}
+use Rattle.types.proofs.Filling.{join-nil, items-join, walk-join}
 use Rattle.tables.specs.Tables.{RowTable, cell, lettersAt}
 use Rattle.types_rows.specs.declared.Val.{Val}
 use Rattle.types_rows.specs.declared.Val.the-variants.{Int, Junk, ValVar, ValFill, Tuple, Pointer, Code}
@@ -421,14 +421,8 @@ module _ (κ : Kind) (by d : ℕ) where
       rw (q, leb·suc-suc (suc j) (length A)) (placed-is A j)
 
   pub acting-is : (A : List Arg) (k : ℕ) → acting A by d κ k ≡ cond (ltb k d) (variable κ k) (placed κ by d A (k - d))
-  unfolding acting
-  acting-is A k = go (side d k)
-    where
-      go : Side d k → acting A by d κ k ≡ cond (ltb k d) (variable κ k) (placed κ by d A (k - d))
-      go (lo h) = below-lt d k (variable κ k) _ h ∙ rw (lt-ltb k d h)
-      go (hi j e) =
-          let q : k - d ≡ j = omega arith in
-          rw (le-ltb k d (omega arith), q, e) (below-ge d j (variable κ (j + d)) _)
+  unfolding acting below
+  acting-is A k = refl
 
 -- ---- a row in a context, by its form with the variable placed
 module _ (τ : RowTable) (A : List Arg) (by d : ℕ) where

@@ -7,13 +7,13 @@ use mathlib.Core.Option.{Option, none, some}
 use mathlib.Core.List.{List, [], _∷_, _++_, map}
 use Rattle.syntax.specs.Syntax.{Entry, row, block, instr, Row, Kind, value, stack, Base, reg, lit, lab, Operand, plain, inst, Instr, aop, bop, mov, ld, st, malloc, getsp, setsp, salloc, sfree, sld, sst, slp, ssp, jmp, halt}
 use lib.Dec.{ltb}
-use lib.ListN.{length, replicate}
+use lib.ListN.{length, replicate, take}
 use Rattle.syntax.specs.Fault.{Fault, fault, unfit, numberOf, given, Pass, Refusal, refuse, lowest, lowestLine}
 use Rattle.text.specs.Bytes.{linesOf}
 use Rattle.text.specs.Grammar.{parse}
 use Rattle.text.specs.PassOne.{Place, atRows, inOrder, mayEnd, Counts, none-yet, tooMany, lineFaults, after, with-one, linesFaults, passOne, entriesOf, rowsOf, listingsOf}
 use Rattle.types.specs.Types.{Ty, code, nil, push, svar, gap, items, Arg, aStack}
-use Rattle.types.specs.Rows.{codeRow, valueRow, Ref, ref, rowsIn, rowRefs, operandsRefs, names, labels, allBelow, allOfSort, sizeOf, rowFaults, rowsFaults, refsFaults, entryFaults, entriesFaults, passTwo}
+use Rattle.types.specs.Rows.{codeRow, valueRow, Ref, ref, rowsIn, rowRefs, operandsRefs, names, labels, allBelow, allOfSort, refsFaults, rowFaults, rowsFaults, instrFaults, entriesFaults, passTwo}
 use Rattle.types.specs.Equal.{same}
 use Rattle.valid.specs.Program.{Block, Program}
 use Rattle.valid.specs.Verdict.{passTwoOf}
@@ -274,21 +274,18 @@ refs-mid rows rs =
     (given-in 4 6 (not (allBelow (length rows) (rowsIn rs))) 4 (omega arith) (omega arith))
     (given-in 4 6 (not (allOfSort rows rs)) 5 (omega arith) (omega arith))
 
-row-mid : (before : List Row) (sizes : List ℕ) (r : Row) → AllIn 4 6 (rowFaults before sizes r)
-unfolding rowFaults refsFaults
-row-mid before sizes r =
-    all-append 4 6 (refsFaults before (rowRefs r)) (given (ltb 4096 (sizeOf sizes r)) 6) (refs-mid before (rowRefs r)) (given-in 4 6 (ltb 4096 (sizeOf sizes r)) 6 (omega arith) (omega arith))
+row-mid : (rows : List Row) (n : ℕ) (r : Row) → AllIn 4 6 (rowFaults rows n r)
+unfolding rowFaults
+row-mid rows n r = all-append 4 6 (refsFaults (take n rows) (rowRefs r)) _ (refs-mid (take n rows) (rowRefs r)) (given-in 4 6 _ 6 (omega arith) (omega arith))
 
-rows-mid : (before : List Row) (sizes : List ℕ) (rs : List Row) → LinesIn 4 6 (rowsFaults before sizes rs)
+rows-mid : (rows : List Row) (n : ℕ) (rs : List Row) → LinesIn 4 6 (rowsFaults rows n rs)
 unfolding rowsFaults
-rows-mid before sizes [] = tt
-rows-mid before sizes (r ∷ rs) = (row-mid before sizes r, rows-mid (before ++ r ∷ []) (sizes ++ sizeOf sizes r ∷ []) rs)
+rows-mid rows n [] = tt
+rows-mid rows n (r ∷ rs) = (row-mid rows n r, rows-mid rows (suc n) rs)
 
-entry-mid : (rows : List Row) (n : ℕ) (e : Entry) → AllIn 4 6 (entryFaults rows n e)
-unfolding entryFaults
-entry-mid rows n (row r) = tt
-entry-mid rows n (block c) = refs-mid rows (ref codeRow c ∷ [])
-entry-mid rows n (instr x) =
+instr-mid : (rows : List Row) (n : ℕ) (x : Instr) → AllIn 4 6 (instrFaults rows n x)
+unfolding instrFaults
+instr-mid rows n x =
     all-append 4 6 (given (not (allBelow n (labels (names x .operands)))) 4) (refsFaults rows (map (ref valueRow) (names x .valueRows) ++ operandsRefs (names x .operands)))
     (given-in 4 6 (not (allBelow n (labels (names x .operands)))) 4 (omega arith) (omega arith))
     (refs-mid rows (map (ref valueRow) (names x .valueRows) ++ operandsRefs (names x .operands)))
@@ -297,12 +294,12 @@ entries-mid : (rows : List Row) (n : ℕ) (es : List Entry) → LinesIn 4 6 (ent
 unfolding entriesFaults
 entries-mid rows n [] = tt
 entries-mid rows n (row r ∷ es) = entries-mid rows n es
-entries-mid rows n (block c ∷ es) = (entry-mid rows n (block c), entries-mid rows n es)
-entries-mid rows n (instr x ∷ es) = (entry-mid rows n (instr x), entries-mid rows n es)
+entries-mid rows n (block c ∷ es) = (refs-mid rows (ref codeRow c ∷ []), entries-mid rows n es)
+entries-mid rows n (instr x ∷ es) = (instr-mid rows n x, entries-mid rows n es)
 
 pub two-in : (rows : List Row) (n : ℕ) (es : List Entry) → LinesIn 4 6 (passTwo rows n es)
 unfolding passTwo
-two-in rows n es = (tt, lines-append 4 6 (rowsFaults [] [] rows) (entriesFaults rows n es) (rows-mid [] [] rows) (entries-mid rows n es))
+two-in rows n es = (tt, lines-append 4 6 (rowsFaults rows 0 rows) (entriesFaults rows n es) (rows-mid rows 0 rows) (entries-mid rows n es))
 
 -- the lines behind block 0's
 pub rest-in : (P : Program) (B : Block) (Bs : List Block) → LinesIn 7 14 ((bodyFaults P (B .letters) (holds (atStart B)) (B .body) ++ blocksFaults P false Bs) ++ [] ∷ [])

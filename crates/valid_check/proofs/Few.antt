@@ -3,13 +3,12 @@ use Prim.Native.Nat.{ℕ, zero, suc, _+_, _≤_}
 use native.Mathlib.Omega.{arith}
 use mathlib.Core.Path.{_≡_, refl, ap}
 use mathlib.Core.Bool.{Bool, true, false}
-use mathlib.Core.List.{List, []}
+use mathlib.Core.List.{List}
 use lib.Dec.{ltb}
 use borrow.Author.Tests.{ltb-true, ltb-false}
-use Rattle.syntax.specs.Fault.{Clear}
 use Rattle.types.specs.Types.{items}
-use Rattle.types.specs.Rows.{rowsFaults}
-use Rattle.tables.specs.Tables.{RowTable, cell, rowsIn}
+use Rattle.tables.specs.Tables.{RowTable, cell}
+use Rattle.types_rows.specs.Clear.{RowsClear}
 use Rattle.types_rows.specs.Read.{tab, meanS}
 use Rattle.types_rows.proofs.Laws.{stack-is}
 use Rattle.types_rows.proofs.item_counts.Counts.{items-size}
@@ -21,7 +20,7 @@ module _ (rows parts : List ℕ) (n : ℕ) (int-row : cell 4 rows n 0 ≡ 0) (ju
   abbrev τ : RowTable
   τ = tab rows parts
 
-  pub few-items : Clear (rowsFaults [] [] (rowsIn τ n)) → (x : ℕ) → x ≤ n + 2 → items (meanS τ x) ≤ 4096
+  pub few-items : RowsClear τ n → (x : ℕ) → x ≤ n + 2 → items (meanS τ x) ≤ 4096
   unfolding items
   few-items c x h = go x (ltb n x) refl
     where

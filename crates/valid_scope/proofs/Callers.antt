@@ -1,18 +1,16 @@
 -- A law for callers: where the premises of `find_all` come from.
 use Prim.Native.Nat.{ℕ, _<_}
 use native.Mathlib.Omega.{arith}
-use mathlib.Core.List.{[]}
 use Rattle.syntax.specs.Syntax.{rowI}
-use Rattle.syntax.specs.Fault.{Clear}
-use Rattle.types.specs.Rows.{rowsFaults}
 use Rattle.types.proofs.Meaning.{rows-clear}
 use Rattle.tables.specs.Tables.{RowTable, rowAt, rowsIn}
+use Rattle.types_rows.specs.Clear.{RowsClear}
 use Rattle.tables.proofs.Steps.{length-rows}
 use Rattle.valid_scope.specs.Scoped.{SmallVariable, Checked}
 use Rattle.valid_scope.proofs.Rows.{row-getD, rows-take}
 
 -- what pass one (variables at most 63) and pass two (no fault) have seen
-pub checked : (τ : RowTable) (n : ℕ) → Clear (rowsFaults [] [] (rowsIn τ n)) → ((r : ℕ) → r < n → SmallVariable (rowAt τ r)) → (r : ℕ) → r < n → Checked τ r
+pub checked : (τ : RowTable) (n : ℕ) → RowsClear τ n → ((r : ℕ) → r < n → SmallVariable (rowAt τ r)) → (r : ℕ) → r < n → Checked τ r
 checked τ n c v r h =
     let l = length-rows τ n in
     let s = rows-clear (rowsIn τ n) c r rowI (omega arith) in

@@ -12,7 +12,7 @@ use lib.ListN.{length, getD, getElem?, take, length-reverse}
 use borrow.Author.Tests.{not-true, eqb-true, eq-eqb, ne-eqb, ltb-true, lt-ltb, le-ltb}
 use Rattle.syntax.specs.Syntax.{Kind, value, stack, Row, rowI, rowN, rowE, rowV, rowX, rowP, rowU, rowK, rowA, rowC}
 use Rattle.types.specs.Types.{Ty, int, junk, var, tuple, pointer, code, nil, push, svar, gap, join, items, Arg, arg, ofKind, Use, aStack, aTuple, aFile}
-use Rattle.types.specs.Rows.{typeAt, components, registers, meaning, meanings, typesOf, isValue, isOf, isSort, valueRow, stackRow, Ref, knownRefs, rowRefs, allBelow, allOfSort}
+use Rattle.types.specs.Rows.{inTurn, typeAt, components, registers, meaning, typesOf, isValue, isOf, isSort, valueRow, stackRow, Ref, knownRefs, rowRefs, allBelow, allOfSort}
 use Rattle.types.proofs.Equal.{and-inv}
 use Rattle.types.proofs.Meaning.{typeIn, types-snoc, type-before, type-at}
 use Rattle.valid.specs.Tests.{isStack, isFile}
@@ -420,7 +420,7 @@ unfolding rowAt
 eight-at τ r = eight-from (τ .parts) (cell 4 (τ .rows) r 0) (cell 4 (τ .rows) r 1) (cell 4 (τ .rows) r 2)
 
 proper-rows : (τ : RowTable) (n : ℕ) → Proper (typesOf (rowsIn τ n))
-unfolding rowsFrom typesOf meanings properIn proper
+unfolding rowsFrom typesOf inTurn properIn proper
 proper-rows τ zero = λ t. refl
 proper-rows τ (suc n) =
     let A : List Arg = typesOf (rowsIn τ n) in

@@ -11,14 +11,14 @@ use lib.Dec.{leb}
 use lib.ListN.{length, getD, length-map, length-reverse}
 use borrow.Author.Tests.{ltb-true, leb-true, ne-eqb, lt-ltb, le-ltb}
 use Rattle.syntax.specs.Syntax.{Kind, value, stack, Row, rowI, rowN, rowE, rowV, rowX, rowP, rowU, rowK, rowA, rowC}
-use Rattle.syntax.specs.Fault.{Clear}
 use Rattle.types.specs.Types.{tuple, pointer, code, push, gap, join, items, Arg, arg, ofKind}
-use Rattle.types.specs.Rows.{typeAt, components, registers, meaning, typesOf, isValue, isCode, Ref, knownRefs, rowRefs, allBelow, rowsFaults}
+use Rattle.types.specs.Rows.{typeAt, components, registers, meaning, typesOf, isValue, isCode, Ref, knownRefs, rowRefs, allBelow}
 use Rattle.types.proofs.Equal.{and-inv}
 use Rattle.types.proofs.Meaning.{named, typeIn, types-snoc, type-is, rows-clear}
 use Rattle.tables.specs.Tables.{RowTable, cell, span, letterOf, knownOf, lettersAt, codeRowAt, rowFrom, rowAt, rowsFrom, rowsIn}
 use Rattle.tables.proofs.Spans.{span-length}
 use Rattle.tables.proofs.Steps.{length-rows}
+use Rattle.types_rows.specs.Clear.{RowsClear}
 use Rattle.types_rows.specs.Read.{tab, mean, Counted}
 use Rattle.types_rows.proofs.Laws.{value-is, stack-is}
 use Rattle.types_rows.proofs.Bridge.{rows-snoc, row-nine, type-in}
@@ -333,7 +333,7 @@ module _ (τ : RowTable) (m : ℕ) (first : List ℕ) (c r : ℕ) (h : c ≤ r) 
   alike-types j p q s t ec er ep eq es et a = type-of c h ∙ ap (meaning (typesOf (rowsIn τ m))) (ap (renamed (firstOf first)) (row-is j c p q ec ep eq) ∙ a ∙ sym (ap (renamed (firstOf first)) (row-is j r s t er es et))) ∙ sym (type-of r (omega arith))
 
 -- rows that pass two has found no fault in name lower rows only
-pub lower-rows : (τ : RowTable) (n : ℕ) → Clear (rowsFaults [] [] (rowsIn τ n)) → Lower τ n
+pub lower-rows : (τ : RowTable) (n : ℕ) → RowsClear τ n → Lower τ n
 lower-rows τ n c r h =
     let g = length-rows τ n in
     let q = rows-clear (rowsIn τ n) c r rowI (omega arith) in
@@ -365,7 +365,7 @@ module _ (rows parts first l p : List ℕ) (n : ℕ) (hr : FilledRows first rows
   kind-shared : (r : ℕ) → r < n + 2 → cell 4 l r 0 ≡ cell 4 rows r 0
   kind-shared r h = hr r 0 h (omega arith) ∙ unfold entryAt in refl
 
-  module _ (s : (r : ℕ) → r < n → SmallRow (rowAt τ r)) (c : Clear (rowsFaults [] [] (rowsIn τ n))) (hf : Firsts τ (n + 2) first n) where
+  module _ (s : (r : ℕ) → r < n → SmallRow (rowAt τ r)) (c : RowsClear τ n) (hf : Firsts τ (n + 2) first n) where
     first-type : (m x : ℕ) → m ≤ n → x < m → typeIn (typesOf (rowsIn τ m)) (firstOf first x) ≡ typeIn (typesOf (rowsIn τ m)) x
     unfolding firstOf
     first-type m x h k = go (leb (getD first x 0) x) refl

@@ -9,14 +9,13 @@ pub mod row_hash;
 
 ghost use mathlib.Core.Path.{_≡_};
 ghost use mathlib.Core.Bool.{true};
-ghost use mathlib.Core.List.{[]};
 ghost use Prim.Native.Nat.{ℕ, _+_, _≤_, _<_};
 ghost use lib.ListN.{length, getD};
 ghost use Rattle.syntax.specs.Syntax.{value};
-ghost use Rattle.syntax.specs.Fault.{Clear};
 ghost use Rattle.types.specs.Types.{junk, arg};
-ghost use Rattle.types.specs.Rows.{typesOf, rowsFaults};
+ghost use Rattle.types.specs.Rows.{typesOf};
 ghost use Rattle.tables.specs.Tables.{cell, rowAt, rowsIn};
+ghost use Rattle.types_rows.specs.Clear.{RowsClear};
 ghost use Rattle.types_rows.specs.Read.{tab, Counted};
 ghost use Rattle.image.specs.Sections.{rowSection, partSection, sharedSection, slotSection, Ordered, Outside};
 ghost use Rattle.valid_context.specs.premises.Bounds.{SmallRow};
@@ -206,7 +205,7 @@ fn find_first(
 pub fn share(image: &mut [u16], p: Places, n: usize, first: &mut [u16], work: &mut [u32])
     requires { ⌜ Ordered p (length (now image)) × (n ≤ 512) × SharedFor n p × WorkFor n (now first) (now work) ⌝ }
     requires { ⌜ Counted (tab (rowSection p (now image)) (partSection p (now image))) (n + 2) × (cell 4 (rowSection p (now image)) n 0 ≡ 0) × (cell 4 (rowSection p (now image)) (n + 1) 0 ≡ 1) ⌝ }
-    requires { ⌜ Clear (rowsFaults [] [] (rowsIn (tab (rowSection p (now image)) (partSection p (now image))) n)) × ((r : ℕ) → r < n → SmallRow (rowAt (tab (rowSection p (now image)) (partSection p (now image))) r)) ⌝ }
+    requires { ⌜ RowsClear (tab (rowSection p (now image)) (partSection p (now image))) n × ((r : ℕ) → r < n → SmallRow (rowAt (tab (rowSection p (now image)) (partSection p (now image))) r)) ⌝ }
     ensures { λ _. ⌜ Shared (tab (rowSection p (now (image .entry))) (partSection p (now (image .entry)))) (tab (sharedSection p (now (image .exit))) (slotSection p (now (image .exit)))) n × Outside (p .shared) (p .end) (now (image .entry)) (now (image .exit)) ⌝ }
 {
     let rows = p.rows;

@@ -13,6 +13,7 @@ use Rattle.syntax.specs.Syntax.{Row, rowI, rowN, rowE, rowV, rowX, rowP, rowU, 
 use Rattle.syntax.specs.Fault.{Clear}
 use Rattle.types.specs.Rows.{rowRefs, total, sizeOf, sizesOf, rowsFaults}
 use Rattle.tables.specs.Tables.{RowTable, cell, rowFrom, rowAt, rowsFrom, rowsIn}
+use Rattle.types_rows.specs.Clear.{RowsClear}
 use Rattle.types_rows.specs.Read.{tab}
 use Rattle.types_rows.specs.item_counts.Counts.{SizesFit, CountsFilled}
 use Rattle.image.specs.declared.Places.{Places}
@@ -97,7 +98,7 @@ module _ (rows parts : List ℕ) (n : ℕ) (room : 4 * n + 8 ≤ length rows) wh
   abbrev fits : ℕ → Type 0
   fits x = sizeOf (sizesOf (rowsIn (tab withTwo parts) x)) (rowAt (tab withTwo parts) x) ≤ 4096
 
-  pub two-small : Clear (rowsFaults [] [] (rowsIn (tab rows parts) n)) → (x : ℕ) → x < n + 2 → fits x
+  pub two-small : RowsClear (tab rows parts) n → (x : ℕ) → x < n + 2 → fits x
   two-small c x h = go (eqb x n) refl (eqb x (n + 1)) refl
     where
       low : x < n → fits x
@@ -122,8 +123,8 @@ module _ (rows parts : List ℕ) (n : ℕ) (room : 4 * n + 8 ≤ length rows) wh
     rows-kept : rowsIn (tab after parts) n ≡ rowsIn (tab rows parts) n
     rows-kept = rows-agree (tab after parts) (tab rows parts) 0 n (λ r l. row-kept r (omega arith))
 
-    pub all-checked : Clear (rowsFaults [] [] (rowsIn (tab rows parts) n)) → ((r : ℕ) → r < n → SmallRow (rowAt (tab rows parts) r)) → (r : ℕ) → r < n → Checked (tab after parts) r
-    all-checked c s = checked (tab after parts) n (subst (λ l. Clear (rowsFaults [] [] l)) (sym rows-kept) c) (λ r h. small-variable (rowAt (tab after parts) r) (subst SmallRow (sym (row-kept r h)) (s r h)))
+    pub all-checked : RowsClear (tab rows parts) n → ((r : ℕ) → r < n → SmallRow (rowAt (tab rows parts) r)) → (r : ℕ) → r < n → Checked (tab after parts) r
+    all-checked c s = checked (tab after parts) n (subst (λ l. Clear (rowsFaults l 0 l)) (sym rows-kept) c) (λ r h. small-variable (rowAt (tab after parts) r) (subst SmallRow (sym (row-kept r h)) (s r h)))
 
     pub all-prepared : (uses tops : List ℕ) → n ≤ 512 → Scoped (tab after parts) n uses tops → Prepared rows after parts n uses tops
     all-prepared uses tops few s = record {
@@ -138,7 +139,7 @@ module _ (rows parts : List ℕ) (n : ℕ) (room : 4 * n + 8 ≤ length rows) wh
 
 -- ---- the same of a list that is known to be the rows with the two made
 module _ (rows parts : List ℕ) (n : ℕ) (room : 4 * n + 8 ≤ length rows) (two : List ℕ) (e : two ≡ set (set rows (4 * n) 0) (4 * n + 4) 1) where
-  pub small-two : Clear (rowsFaults [] [] (rowsIn (tab rows parts) n)) → (x : ℕ) → x < n + 2 → sizeOf (sizesOf (rowsIn (tab two parts) x)) (rowAt (tab two parts) x) ≤ 4096
+  pub small-two : RowsClear (tab rows parts) n → (x : ℕ) → x < n + 2 → sizeOf (sizesOf (rowsIn (tab two parts) x)) (rowAt (tab two parts) x) ≤ 4096
   small-two c = subst (λ l. (x : ℕ) → x < n + 2 → sizeOf (sizesOf (rowsIn (tab l parts) x)) (rowAt (tab l parts) x) ≤ 4096) (sym e) (two-small rows parts n room c)
 
   pub room-two : 4 * (n + 2) ≤ length two
@@ -147,7 +148,7 @@ module _ (rows parts : List ℕ) (n : ℕ) (room : 4 * n + 8 ≤ length rows) (t
   counts : (after : List ℕ) → CountsFilled two after parts (n + 2) → CountsFilled (set (set rows (4 * n) 0) (4 * n + 4) 1) after parts (n + 2)
   counts after f = subst (λ l. CountsFilled l after parts (n + 2)) e f
 
-  pub checked-two : (after : List ℕ) → CountsFilled two after parts (n + 2) → Clear (rowsFaults [] [] (rowsIn (tab rows parts) n)) → ((r : ℕ) → r < n → SmallRow (rowAt (tab rows parts) r)) → (r : ℕ) → r < n → Checked (tab after parts) r
+  pub checked-two : (after : List ℕ) → CountsFilled two after parts (n + 2) → RowsClear (tab rows parts) n → ((r : ℕ) → r < n → SmallRow (rowAt (tab rows parts) r)) → (r : ℕ) → r < n → Checked (tab after parts) r
   checked-two after f = all-checked rows parts n room after (counts after f)
 
   pub prepared-two : (after : List ℕ) → CountsFilled two after parts (n + 2) → (uses tops : List ℕ) → n ≤ 512 → Scoped (tab after parts) n uses tops → Prepared rows after parts n uses tops
@@ -170,7 +171,7 @@ module _ (p : Places) (l : List ℕ) (n : ℕ) (o : Ordered p (length l)) (room 
   pub image-room : 4 * (n + 2) ≤ length (rowSection p (putMid (p .rows) (p .blocks - p .rows) l y))
   image-room = rw two-is (room-two (rowSection p l) [] n row-room y e)
 
-  pub image-sizes : Clear (rowsFaults [] [] (rowsIn (tab (rowSection p l) (partSection p l)) n)) → SizesFit (rowSection p (putMid (p .rows) (p .blocks - p .rows) l y)) (partSection p l) (n + 2)
+  pub image-sizes : RowsClear (tab (rowSection p l) (partSection p l)) n → SizesFit (rowSection p (putMid (p .rows) (p .blocks - p .rows) l y)) (partSection p l) (n + 2)
   image-sizes c = rw two-is (small-two (rowSection p l) (partSection p l) n row-room y e c)
 
   module _ (z : List ℕ) (g : length z ≡ length (rowSection p (putMid (p .rows) (p .blocks - p .rows) l y))) (f : CountsFilled (rowSection p (putMid (p .rows) (p .blocks - p .rows) l y)) z (partSection p l) (n + 2)) where
@@ -201,7 +202,7 @@ module _ (p : Places) (l : List ℕ) (n : ℕ) (o : Ordered p (length l)) (room 
     pub image-ordered : Ordered p (length l₂)
     image-ordered = rw (counts-out .size) o
 
-    pub image-checked : Clear (rowsFaults [] [] (rowsIn (tab (rowSection p l) (partSection p l)) n)) → ((r : ℕ) → r < n → SmallRow (rowAt (tab (rowSection p l) (partSection p l)) r)) → (r : ℕ) → r < n → Checked (tab (rowSection p l₂) (partSection p l₂)) r
+    pub image-checked : RowsClear (tab (rowSection p l) (partSection p l)) n → ((r : ℕ) → r < n → SmallRow (rowAt (tab (rowSection p l) (partSection p l)) r)) → (r : ℕ) → r < n → Checked (tab (rowSection p l₂) (partSection p l₂)) r
     image-checked c s = rw (counts-is, parts-kept) (checked-two (rowSection p l) (partSection p l) n row-room y e z filled c s)
 
     module _ (l₃ : List ℕ) (q : Outside (p .uses) (p .shared) l₂ l₃) where

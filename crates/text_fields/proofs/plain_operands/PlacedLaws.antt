@@ -15,7 +15,7 @@ use Rattle.syntax.specs.Bits.{modulus, half}
 use Rattle.syntax.specs.Partial.{guarded}
 use Rattle.syntax.specs.Syntax.{Base, reg, lit, lab, Operand, plain}
 use Rattle.text.specs.Bytes.{part, split, isDecimal, spelled, number, literal}
-use Rattle.text.specs.Grammar.{register, carrier, fromParts, operand}
+use Rattle.text.specs.Grammar.{labelNumber, register, carrier, fromParts, operand}
 use Rattle.text_lines.specs.Parts.{fieldIn, InLine}
 use Rattle.text_lines.proofs.InLine.{next-place, field-on, field-first}
 use Rattle.text_fields.specs.numbers.Numbers.{ScanIs}
@@ -189,7 +189,7 @@ register-operand t v e =
     ap (λ (ps : List (List ℕ)). fromParts (part false 114 ps)) (digits-whole t (number-digits 1 8 t v e)) ∙ simp e
 
 label-operand : (t : List ℕ) (v : ℕ) → number 0 63 t ≡ some v → operand (35 ∷ t) ≡ some (plain (lab v))
-unfolding operand split carrier
+unfolding operand split carrier labelNumber
 label-operand t v e =
     ap (λ (ps : List (List ℕ)). fromParts (part false 35 ps)) (digits-whole t (number-digits 0 63 t v e)) ∙ simp e
 

@@ -10,10 +10,10 @@ use lib.ListN.{length, getD, getElem?}
 use borrow.Author.Count.{below-more}
 use borrow.Author.Tests.{lt-ltb, eqb-true, not-false}
 use Rattle.syntax.specs.Syntax.{Kind, value, stack}
-use Rattle.types.specs.Types.{Ty, int, junk, var, tuple, pointer, code, nil, push, svar, gap, join, variable, below, walk, raising, raise, Arg, fitsKind, meets, Use, aStack, aTuple, aFile, Wf}
+use Rattle.types.specs.Types.{Ty, int, junk, var, tuple, pointer, code, nil, push, svar, gap, join, variable, below, walk, raise, Arg, fitsKind, meets, Use, aStack, aTuple, aFile, Wf}
 use Rattle.types.specs.Equal.{same}
 use Rattle.types.proofs.Equal.{same-refl}
-use Rattle.types.proofs.Filling.{walk-variable, Side, lo, hi, side, below-lt, below-ge, get-lt, get-high}
+use Rattle.types.proofs.Filling.{raise-variable, Side, lo, hi, side, below-lt, below-ge, get-lt, get-high}
 use Rattle.tables.specs.Tables.{RowTable, cell, span, letterOf, lettersAt}
 use Rattle.types_rows.specs.Read.{valueWith, stackWith, isStackAt, meanV, meanS, mean, placed, acting, stackUnder, codeOf, argsOf}
 use Rattle.types_rows.proofs.Laws.{value-is, stack-is, placed-is}
@@ -82,10 +82,6 @@ pub themselves-next : (rows ps args : List ℕ) (p j : ℕ) {x a : ℕ} {b : Boo
 themselves-next rows ps args p j {x} {a} {b} h e f g n = below-more _ _ h (rw (← e, ← f) (g (not-false b n)))
 
 -- ---- rows
-raise-variable : (e : ℕ) (κ : Kind) (j : ℕ) → raise e (variable κ j) ≡ variable κ (j + e)
-unfolding raise raising below
-raise-variable e κ j = walk-variable (raising e) 0 κ j ∙ ap (variable κ) (omega arith)
-
 module _ (τ : RowTable) (a j : ℕ) where
   value-itself : Itself (τ .rows) 0 a j → (meanV τ (suc a) ≡ var j) × (isStackAt (τ .rows) a ≡ false)
   unfolding valueWith variableKind

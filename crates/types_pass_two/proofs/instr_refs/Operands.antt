@@ -7,13 +7,13 @@ use mathlib.Core.List.{List, [], _∷_, _++_, map, append-nil}
 use lib.Dec.{eqb, ltb, lit≤}
 use lib.ListN.{getD}
 use borrow.Author.Tests.{le-ltb, eq-eqb, ne-eqb}
-use Rattle.syntax.specs.Syntax.{Operand, plain, inst, Instr, instr}
+use Rattle.syntax.specs.Syntax.{Operand, plain, inst, Instr}
 use Rattle.syntax.specs.Fault.{given}
 use Rattle.syntax.proofs.Least.{least, leastOf, least-none, least-assoc, least-comm, least-swap, least-turn, least-given, numbered-given, least-append}
 use Rattle.tables.specs.Tables.{cell, span, rowsIn, baseOf, operandOf, OperandTable, operandAt, operandsAt, instrAt}
 use Rattle.tables.proofs.Cases.{_&_, each, instr-cases}
 use Rattle.tables.proofs.Steps.{operands-step}
-use Rattle.types.specs.Rows.{valueRow, codeRow, anyRow, Ref, ref, operandRefs, operandsRefs, names, baseLabels, labels, allBelow, refsFaults, entryFaults}
+use Rattle.types.specs.Rows.{valueRow, codeRow, anyRow, Ref, ref, operandRefs, operandsRefs, names, baseLabels, labels, allBelow, refsFaults, instrFaults}
 use Rattle.types_rows.specs.Read.{tab}
 use Rattle.types_pass_two.specs.instr_refs.Instrs.{operandTable, labelLeast, operandsLeast, givenPlace, operandCount, countOf}
 use Rattle.types_pass_two.specs.row_refs.Least.{refLeast, refsLeast, listRefs}
@@ -189,8 +189,8 @@ module _ (ι : List ℕ) (ω : OperandTable) (j : ℕ) where
 
 -- the least fault of an instruction is that of its row t and of its operands
 module _ (rs ps : List ℕ) (n nb : ℕ) where
-  instr-least : (x : Instr) → leastOf (entryFaults (rowsIn (tab rs ps) n) nb (instr x)) ≡ least (refsLeast rs n (map (ref valueRow) (names x .valueRows))) (operandsLeast rs n nb (names x .operands))
-  unfolding entryFaults operandsLeast
+  instr-least : (x : Instr) → leastOf (instrFaults (rowsIn (tab rs ps) n) nb x) ≡ least (refsLeast rs n (map (ref valueRow) (names x .valueRows))) (operandsLeast rs n nb (names x .operands))
+  unfolding instrFaults operandsLeast
   instr-least x =
       let a = allBelow nb (labels (names x .operands)) in
       let gs = map (ref valueRow) (names x .valueRows) in
@@ -207,7 +207,7 @@ module _ (rs ps : List ℕ) (n nb : ℕ) where
       turn a b c = sym (least-assoc a b c) ∙ (ap (λ (y : ℕ). least y c) (least-comm a b) ∙ least-assoc b a c)
 
   module _ (ι : List ℕ) (ω : OperandTable) (j : ℕ) where
-    pub instr-bare : (k c v m g f : ℕ) → k ≡ min (cell 8 ι j 0) 22 → c ≡ cell 8 ι j 6 → v ≡ cell 8 ι j 5 → m ≡ countOf k c → g ≡ givenPlace k → g ≡ 0 → f ≡ operandsLeast rs n nb (operandsAt ω v m) → f ≡ leastOf (entryFaults (rowsIn (tab rs ps) n) nb (instr (instrAt ι ω j)))
+    pub instr-bare : (k c v m g f : ℕ) → k ≡ min (cell 8 ι j 0) 22 → c ≡ cell 8 ι j 6 → v ≡ cell 8 ι j 5 → m ≡ countOf k c → g ≡ givenPlace k → g ≡ 0 → f ≡ operandsLeast rs n nb (operandsAt ω v m) → f ≡ leastOf (instrFaults (rowsIn (tab rs ps) n) nb (instrAt ι ω j))
     unfolding refsLeast least
     instr-bare k c v m g f ek ec ev em eg z ef =
         ef ∙ (ap (operandsLeast rs n nb) (operands-by ι ω j k c v m ek ec ev em)
@@ -216,7 +216,7 @@ module _ (rs ps : List ℕ) (n nb : ℕ) where
 
     pub instr-given : (k c v m g f t y out : ℕ) → k ≡ min (cell 8 ι j 0) 22 → c ≡ cell 8 ι j 6 → v ≡ cell 8 ι j 5 → m ≡ countOf k c
         → g ≡ givenPlace k → (g ≡ 0 → ⊥) → f ≡ operandsLeast rs n nb (operandsAt ω v m) → t ≡ cell 8 ι j g → y ≡ refLeast rs n valueRow t
-        → out ≡ least y f → out ≡ leastOf (entryFaults (rowsIn (tab rs ps) n) nb (instr (instrAt ι ω j)))
+        → out ≡ least y f → out ≡ leastOf (instrFaults (rowsIn (tab rs ps) n) nb (instrAt ι ω j))
     instr-given k c v m g f t y out ek ec ev em eg z ef et ey o =
         o ∙ (ap₂ least
         (ey ∙ (sym (one-ref rs n valueRow t) ∙ ap (λ (l : List ℕ). refsLeast rs n (map (ref valueRow) l)) (sym (given-some ι ω j k g t ek eg z et))))

@@ -11,11 +11,10 @@ use borrow.Author.Tests.{ltb-true, ltb-false, ne-eqb}
 use Rattle.syntax.specs.Syntax.{Row, Instr, Entry, row, block, instr}
 use Rattle.syntax.specs.Fault.{Fault, given, Pass, Refusal, itemsOf, lowestLine, orElse}
 use Rattle.syntax.proofs.Least.{leastOf, Numbered, numbered-given, numbered-append, items-given, items-append, line-next, line-here, line-append}
-use Rattle.text.specs.PassOne.{Listing}
-use Rattle.text.proofs.Entries.{blocksEntries, entriesIn}
+use Rattle.text.specs.PassOne.{Listing, blocksEntries, entriesIn}
 use Rattle.tables.specs.Tables.{cell, RowTable, rowsIn, OperandTable, instrAt, instrsFrom, blocksFrom}
 use Rattle.tables.proofs.Steps.{length-instrs, length-rows, instrs-step, endOf, end-inner, blocks-step}
-use Rattle.types.specs.Rows.{Ref, ref, valueRow, operandsRefs, labels, names, allBelow, refsFaults, sizeOf, rowsFaults, entryFaults, entriesFaults, passTwo}
+use Rattle.types.specs.Rows.{Ref, ref, valueRow, codeRow, operandsRefs, labels, names, allBelow, refsFaults, rowsFaults, instrFaults, entriesFaults, passTwo}
 use Rattle.types_pass_two.specs.refs.Refs.{foundOf, refusalOf, Rising}
 use Rattle.types_pass_two.specs.declared.refs.Found.{Found}
 use Rattle.types_pass_two.proofs.row_refs.References.{numbered-refs, items-refs}
@@ -29,11 +28,9 @@ pub record Plain (fs : List Fault) : Type 0 where
 plain-refs : (rows : List Row) (refs : List Ref) → Plain (refsFaults rows refs)
 plain-refs rows refs = record { numbered = numbered-refs rows refs; no-items = items-refs rows refs }
 
-plain-entry : (rows : List Row) (nb : ℕ) (e : Entry) → Plain (entryFaults rows nb e)
-unfolding entryFaults itemsOf
-plain-entry rows nb (row r) = record { numbered = λ e. refl; no-items = refl }
-plain-entry rows nb (block c) = plain-refs rows _
-plain-entry rows nb (instr x) =
+plain-instr : (rows : List Row) (nb : ℕ) (x : Instr) → Plain (instrFaults rows nb x)
+unfolding instrFaults
+plain-instr rows nb x =
     let a = given (not (allBelow nb (labels (names x .operands)))) 4 in
     let b = refsFaults rows (map (ref valueRow) (names x .valueRows) ++ operandsRefs (names x .operands)) in
     record { numbered = numbered-append a b (numbered-given _ 3) (numbered-refs rows _); no-items = items-append a b ∙ rw (items-given, items-refs) refl }
@@ -46,8 +43,8 @@ plain-entries : (rows : List Row) (nb : ℕ) (es : List Entry) → AllPlain (ent
 unfolding entriesFaults
 plain-entries rows nb [] = tt
 plain-entries rows nb (row r ∷ es) = plain-entries rows nb es
-plain-entries rows nb (block c ∷ es) = (plain-entry rows nb (block c), plain-entries rows nb es)
-plain-entries rows nb (instr x ∷ es) = (plain-entry rows nb (instr x), plain-entries rows nb es)
+plain-entries rows nb (block c ∷ es) = (plain-refs rows _, plain-entries rows nb es)
+plain-entries rows nb (instr x ∷ es) = (plain-instr rows nb x, plain-entries rows nb es)
 
 -- an answer with the number 0 says that there is no fault
 found-none : (n : ℕ) (p : Pass) → AllPlain p → foundOf (lowestLine n p) .number ≡ 0 → lowestLine n p ≡ none
@@ -61,8 +58,8 @@ entries-append : (rows : List Row) (nb : ℕ) (es fs : List Entry) → entriesFa
 unfolding entriesFaults
 entries-append rows nb [] fs = refl
 entries-append rows nb (row r ∷ es) fs = entries-append rows nb es fs
-entries-append rows nb (block c ∷ es) fs = ap (_∷_ (entryFaults rows nb (block c))) (entries-append rows nb es fs)
-entries-append rows nb (instr x ∷ es) fs = ap (_∷_ (entryFaults rows nb (instr x))) (entries-append rows nb es fs)
+entries-append rows nb (block c ∷ es) fs = ap (_∷_ (refsFaults rows (ref codeRow c ∷ []))) (entries-append rows nb es fs)
+entries-append rows nb (instr x ∷ es) fs = ap (_∷_ (instrFaults rows nb x)) (entries-append rows nb es fs)
 
 -- type lines have no fault among these
 pub entries-rows : (rows rs : List Row) (nb : ℕ) (bs : List Listing) → entriesFaults rows nb (entriesIn rs bs) ≡ entriesFaults rows nb (entriesIn [] bs)
@@ -80,22 +77,22 @@ module _ (rows : List Row) (nb : ℕ) (ι : List ℕ) (ω : OperandTable) (e bas
   abbrev pub instrsLeft : ℕ → Found
   instrsLeft i = foundOf (lowestLine (base + i) (entriesFaults rows nb (map instr (instrsFrom ι ω i (e - i)))))
 
-  instrs-cons : (i : ℕ) → i < e → instrsLeft i ≡ foundOf (lowestLine (base + i) (entryFaults rows nb (instr (instrAt ι ω i)) ∷ entriesFaults rows nb (map instr (instrsFrom ι ω (i + 1) (e - (i + 1))))))
+  instrs-cons : (i : ℕ) → i < e → instrsLeft i ≡ foundOf (lowestLine (base + i) (instrFaults rows nb (instrAt ι ω i) ∷ entriesFaults rows nb (map instr (instrsFrom ι ω (i + 1) (e - (i + 1))))))
   unfolding entriesFaults
   instrs-cons i h = ap (λ (xs : List Instr). foundOf (lowestLine (base + i) (entriesFaults rows nb (map instr xs)))) (instrs-step ι ω i e h)
 
-  pub instrs-found : (i f : ℕ) → i < e → f ≡ leastOf (entryFaults rows nb (instr (instrAt ι ω i))) → (f ≡ 0 → ⊥) → instrsLeft i ≡ record { number = f; line = base + i }
+  pub instrs-found : (i f : ℕ) → i < e → f ≡ leastOf (instrFaults rows nb (instrAt ι ω i)) → (f ≡ 0 → ⊥) → instrsLeft i ≡ record { number = f; line = base + i }
   unfolding foundOf
   instrs-found i f h ef z =
-      instrs-cons i h ∙ (ap foundOf (line-here (base + i) (entryFaults rows nb (instr (instrAt ι ω i))) _ (λ q. z (ef ∙ q)))
+      instrs-cons i h ∙ (ap foundOf (line-here (base + i) (instrFaults rows nb (instrAt ι ω i)) _ (λ q. z (ef ∙ q)))
       ∙ ap (λ (k : ℕ). record { number = k; line = base + i }) (sym ef))
 
-  pub instrs-next : (i f : ℕ) → i < e → f ≡ leastOf (entryFaults rows nb (instr (instrAt ι ω i))) → f ≡ 0 → instrsLeft i ≡ instrsLeft (i + 1)
+  pub instrs-next : (i f : ℕ) → i < e → f ≡ leastOf (instrFaults rows nb (instrAt ι ω i)) → f ≡ 0 → instrsLeft i ≡ instrsLeft (i + 1)
   instrs-next i f h ef z =
       let q : suc (base + i) ≡ base + (i + 1) = omega arith in
       let p : Pass = entriesFaults rows nb (map instr (instrsFrom ι ω (i + 1) (e - (i + 1)))) in
       instrs-cons i h
-      ∙ ap foundOf (line-next (base + i) (entryFaults rows nb (instr (instrAt ι ω i))) p (plain-entry rows nb (instr (instrAt ι ω i)) .numbered (sym ef ∙ z)) ∙ ap (λ (l : ℕ). lowestLine l p) q)
+      ∙ ap foundOf (line-next (base + i) (instrFaults rows nb (instrAt ι ω i)) p (plain-instr rows nb (instrAt ι ω i) .numbered (sym ef ∙ z)) ∙ ap (λ (l : ℕ). lowestLine l p) q)
 
   pub instrs-end : (i : ℕ) → e ≤ i → instrsLeft i ≡ record { number = 0; line = 0 }
   unfolding instrsFrom entriesFaults lowestLine foundOf
@@ -138,28 +135,28 @@ module _ (rows : List Row) (nb : ℕ) (β ι : List ℕ) (ω : OperandTable) (ni
 
   -- block b, with its code row c and its instructions s to e - 1
   module _ (b s c e : ℕ) (h : b < nb) (es : s ≡ cell 2 β b 1) (ec : c ≡ cell 2 β b 0) (ee : e ≡ endOf β ni nb b) where
-    pass-cons : passFrom b ≡ entryFaults rows nb (block c) ∷ (bodyPass s e ++ passFrom (b + 1))
+    pass-cons : passFrom b ≡ refsFaults rows (ref codeRow c ∷ []) ∷ (bodyPass s e ++ passFrom (b + 1))
     unfolding entriesIn blocksEntries entriesFaults
     pass-cons =
         ap (λ (bs : List Listing). entriesFaults rows nb (entriesIn [] bs)) (blocks-step β ι ω ni nb b h)
-        ∙ rw (← ec, ← es, ← ee) (ap (_∷_ (entryFaults rows nb (block c))) (entries-append rows nb (map instr (instrsFrom ι ω s (e - s))) (blocksEntries (blocksFrom β ι ω ni (b + 1) (nb - (b + 1))))))
+        ∙ rw (← ec, ← es, ← ee) (ap (_∷_ (refsFaults rows (ref codeRow c ∷ []))) (entries-append rows nb (map instr (instrsFrom ι ω s (e - s))) (blocksEntries (blocksFrom β ι ω ni (b + 1) (nb - (b + 1))))))
 
-    pub block-found : (f : ℕ) → f ≡ leastOf (entryFaults rows nb (block c)) → (f ≡ 0 → ⊥) → blocksLeft b ≡ record { number = f; line = n + b + s + 1 }
+    pub block-found : (f : ℕ) → f ≡ leastOf (refsFaults rows (ref codeRow c ∷ [])) → (f ≡ 0 → ⊥) → blocksLeft b ≡ record { number = f; line = n + b + s + 1 }
     unfolding foundOf
     block-found f ef z =
         ap (λ (p : Pass). foundOf (lowestLine (n + b + cell 2 β b 1 + 1) p)) pass-cons
-        ∙ (ap foundOf (line-here (n + b + cell 2 β b 1 + 1) (entryFaults rows nb (block c)) _ (λ q. z (ef ∙ q)))
+        ∙ (ap foundOf (line-here (n + b + cell 2 β b 1 + 1) (refsFaults rows (ref codeRow c ∷ [])) _ (λ q. z (ef ∙ q)))
         ∙ rw (es, ef) refl)
 
     -- the block's line has no fault
-    body : leastOf (entryFaults rows nb (block c)) ≡ 0 → lowestLine (n + b + cell 2 β b 1 + 1) (passFrom b) ≡ orElse (lowestLine (n + b + 2 + s) (bodyPass s e)) (lowestLine (n + b + 2 + s + length (bodyPass s e)) (passFrom (b + 1)))
+    body : leastOf (refsFaults rows (ref codeRow c ∷ [])) ≡ 0 → lowestLine (n + b + cell 2 β b 1 + 1) (passFrom b) ≡ orElse (lowestLine (n + b + 2 + s) (bodyPass s e)) (lowestLine (n + b + 2 + s + length (bodyPass s e)) (passFrom (b + 1)))
     body z =
         let q : suc (n + b + cell 2 β b 1 + 1) ≡ n + b + 2 + s = omega arith in
         ap (lowestLine (n + b + cell 2 β b 1 + 1)) pass-cons
-        ∙ (line-next (n + b + cell 2 β b 1 + 1) (entryFaults rows nb (block c)) (bodyPass s e ++ passFrom (b + 1)) (plain-entry rows nb (block c) .numbered z)
+        ∙ (line-next (n + b + cell 2 β b 1 + 1) (refsFaults rows (ref codeRow c ∷ [])) (bodyPass s e ++ passFrom (b + 1)) (plain-refs rows (ref codeRow c ∷ []) .numbered z)
         ∙ (ap (λ (l : ℕ). lowestLine l (bodyPass s e ++ passFrom (b + 1))) q ∙ line-append (n + b + 2 + s) (bodyPass s e) (passFrom (b + 1))))
 
-    pub body-found : (f : ℕ) (g : Found) → f ≡ leastOf (entryFaults rows nb (block c)) → f ≡ 0 → g ≡ foundOf (lowestLine (n + b + 2 + s) (bodyPass s e)) → (g .number ≡ 0 → ⊥) → blocksLeft b ≡ g
+    pub body-found : (f : ℕ) (g : Found) → f ≡ leastOf (refsFaults rows (ref codeRow c ∷ [])) → f ≡ 0 → g ≡ foundOf (lowestLine (n + b + 2 + s) (bodyPass s e)) → (g .number ≡ 0 → ⊥) → blocksLeft b ≡ g
     body-found f g ef z eg w =
         ap foundOf (body (sym ef ∙ z)) ∙ (or-found (lowestLine (n + b + 2 + s) (bodyPass s e)) _ (λ q. w (ap (λ (x : Found). x .number) eg ∙ q)) ∙ sym eg)
 
@@ -167,7 +164,7 @@ module _ (rows : List Row) (nb : ℕ) (β ι : List ℕ) (ω : OperandTable) (ni
     body-none g eg w =
         found-none (n + b + 2 + s) (bodyPass s e) (plain-entries rows nb (map instr (instrsFrom ι ω s (e - s)))) (ap (λ (x : Found). x .number) (sym eg) ∙ w)
 
-    pub block-next : Rising β nb → (f : ℕ) (g : Found) → f ≡ leastOf (entryFaults rows nb (block c)) → f ≡ 0 → g ≡ foundOf (lowestLine (n + b + 2 + s) (bodyPass s e)) → g .number ≡ 0 → blocksLeft b ≡ blocksLeft (b + 1)
+    pub block-next : Rising β nb → (f : ℕ) (g : Found) → f ≡ leastOf (refsFaults rows (ref codeRow c ∷ [])) → f ≡ 0 → g ≡ foundOf (lowestLine (n + b + 2 + s) (bodyPass s e)) → g .number ≡ 0 → blocksLeft b ≡ blocksLeft (b + 1)
     block-next up f g ef z eg w =
         let len : length (bodyPass s e) ≡ e - s = instrs-length rows nb (instrsFrom ι ω s (e - s)) ∙ length-instrs ι ω s (e - s) in
         ap foundOf (body (sym ef ∙ z) ∙ (ap (λ (o : Option Refusal). orElse o (lowestLine (n + b + 2 + s + length (bodyPass s e)) (passFrom (b + 1)))) (body-none g eg w)
@@ -208,16 +205,16 @@ refusal-found n ((f ∷ fs) ∷ p) h =
     cons-nil e = let z : _≡_ {A = ℕ} 0 1 = cc in omega arith
 
 -- the lowest line of pass two: that of the type lines, or else that of the lines behind them
-pub pass-two : (τ : RowTable) (n nb : ℕ) (bs : List Listing) → lowestLine 0 (passTwo (rowsIn τ n) nb (entriesIn (rowsIn τ n) bs)) ≡ orElse (lowestLine 1 (rowsFaults [] [] (rowsIn τ n))) (lowestLine (n + 1) (entriesFaults (rowsIn τ n) nb (entriesIn [] bs)))
+pub pass-two : (τ : RowTable) (n nb : ℕ) (bs : List Listing) → lowestLine 0 (passTwo (rowsIn τ n) nb (entriesIn (rowsIn τ n) bs)) ≡ orElse (lowestLine 1 (rowsFaults (rowsIn τ n) 0 (rowsIn τ n))) (lowestLine (n + 1) (entriesFaults (rowsIn τ n) nb (entriesIn [] bs)))
 unfolding passTwo lowestLine rowsFaults
 pass-two τ n nb bs =
-    let q : 1 + length (rowsFaults [] [] (rowsIn τ n)) ≡ n + 1 = omega (arith, length-faults [] [] (rowsIn τ n), length-rows τ n) in
-    line-append 1 (rowsFaults [] [] (rowsIn τ n)) (entriesFaults (rowsIn τ n) nb (entriesIn (rowsIn τ n) bs))
-    ∙ ap (orElse (lowestLine 1 (rowsFaults [] [] (rowsIn τ n)))) (ap₂ lowestLine q (entries-rows (rowsIn τ n) (rowsIn τ n) nb bs))
+    let q : 1 + length (rowsFaults (rowsIn τ n) 0 (rowsIn τ n)) ≡ n + 1 = omega (arith, length-faults (rowsIn τ n) 0 (rowsIn τ n), length-rows τ n) in
+    line-append 1 (rowsFaults (rowsIn τ n) 0 (rowsIn τ n)) (entriesFaults (rowsIn τ n) nb (entriesIn (rowsIn τ n) bs))
+    ∙ ap (orElse (lowestLine 1 (rowsFaults (rowsIn τ n) 0 (rowsIn τ n)))) (ap₂ lowestLine q (entries-rows (rowsIn τ n) (rowsIn τ n) nb bs))
   where
-    length-faults : (before : List Row) (sizes : List ℕ) (rs : List Row) → length (rowsFaults before sizes rs) ≡ length rs
-    length-faults before sizes [] = refl
-    length-faults before sizes (r ∷ rs) = ap suc (length-faults (before ++ r ∷ []) (sizes ++ sizeOf sizes r ∷ []) rs)
+    length-faults : (rows : List Row) (k : ℕ) (rs : List Row) → length (rowsFaults rows k rs) ≡ length rs
+    length-faults rows k [] = refl
+    length-faults rows k (r ∷ rs) = ap suc (length-faults rows (suc k) rs)
 
 -- a refusal by what `code_fault` answers
 pub whole-refusal : (n : ℕ) (rows : List Row) (nb : ℕ) (es : List Entry) → lowestLine n (entriesFaults rows nb es) ≡ refusalOf (foundOf (lowestLine n (entriesFaults rows nb es)))

@@ -8,13 +8,14 @@ use mathlib.Core.List.{List, [], _∷_, _++_, map}
 use lib.Dec.{eqb, ltb}
 use lib.ListN.{length, getD, List·getD-eq-default}
 use borrow.Author.Tests.{le-ltb, ne-eqb}
-use Rattle.syntax.specs.Syntax.{Row, block}
+use Rattle.syntax.specs.Syntax.{Row}
 use Rattle.syntax.specs.Fault.{given, numberOf, itemsOf, lowest}
 use Rattle.syntax.proofs.Least.{least, leastOf, least-none, least-assoc, least-turn, Numbered, least-given, least-append, numbered-given, numbered-append, items-given, items-append}
 use Rattle.tables.specs.Tables.{cell, span, knownOf, RowTable, codeRowAt, rowFrom, rowAt, rowsIn}
 use Rattle.tables.proofs.Cases.{_&_, row-last, row-cases}
 use Rattle.tables.proofs.Steps.{length-rows, row-in, span-step}
-use Rattle.types.specs.Rows.{Sort, valueRow, stackRow, codeRow, anyRow, isValue, isCode, isOf, Ref, ref, rowsIn as rowsNamed, knownRefs, rowRefs, isSort, allBelow, allOfSort, sizeOf, rowFaults, refsFaults, entryFaults}
+use Rattle.types.specs.Rows.{Sort, valueRow, stackRow, codeRow, anyRow, isValue, isCode, isOf, Ref, ref, rowsIn as rowsNamed, knownRefs, rowRefs, isSort, allBelow, allOfSort, sizeOf, refsFaults}
+use Rattle.types.proofs.PassTwo.{rowFaultsBy}
 use Rattle.types_rows.specs.Read.{tab}
 use Rattle.types_pass_two.specs.row_refs.Rows.{rowRefsFaults}
 use Rattle.types_pass_two.specs.row_refs.Least.{kindFits, refLeast, refsLeast, partRefs, listRefs}
@@ -218,25 +219,24 @@ module _ (rs ps : List ℕ) (r : ℕ) where
 
 -- all faults of row r: 4 and 5 from its references, and its size
 module _ (τ : RowTable) (sizes : List ℕ) (r : ℕ) where
-  pub row-least : leastOf (rowFaults (rowsIn τ r) sizes (rowAt τ r)) ≡ least (leastOf (rowRefsFaults τ r)) (cond (ltb 4096 (sizeOf sizes (rowAt τ r))) 6 0)
-  unfolding rowFaults refsFaults
+  pub row-least : leastOf (rowFaultsBy (rowsIn τ r) sizes (rowAt τ r)) ≡ least (leastOf (rowRefsFaults τ r)) (cond (ltb 4096 (sizeOf sizes (rowAt τ r))) 6 0)
+  unfolding rowFaultsBy refsFaults
   row-least =
       let large : Bool = ltb 4096 (sizeOf sizes (rowAt τ r)) in
       least-append (rowRefsFaults τ r) (given large 6) (numbered-refs (rowsIn τ r) (rowRefs (rowAt τ r))) (numbered-given large 5)
       ∙ ap (least (leastOf (rowRefsFaults τ r))) (least-given large 6)
 
-  pub numbered-row : Numbered (rowFaults (rowsIn τ r) sizes (rowAt τ r))
-  unfolding rowFaults refsFaults
+  pub numbered-row : Numbered (rowFaultsBy (rowsIn τ r) sizes (rowAt τ r))
+  unfolding rowFaultsBy refsFaults
   numbered-row = numbered-append (rowRefsFaults τ r) (given _ 6) (numbered-refs (rowsIn τ r) (rowRefs (rowAt τ r))) (numbered-given _ 5)
 
-  pub items-row : itemsOf (rowFaults (rowsIn τ r) sizes (rowAt τ r)) ≡ []
-  unfolding rowFaults refsFaults
+  pub items-row : itemsOf (rowFaultsBy (rowsIn τ r) sizes (rowAt τ r)) ≡ []
+  unfolding rowFaultsBy refsFaults
   items-row = items-append (rowRefsFaults τ r) (given _ 6) ∙ ap₂ _++_ (items-refs (rowsIn τ r) (rowRefs (rowAt τ r))) (items-given _ 6)
 
 -- ---- blocks
-pub block-least : (rs ps : List ℕ) (n nb c out : ℕ) → out ≡ refLeast rs n codeRow c → out ≡ leastOf (entryFaults (rowsIn (tab rs ps) n) nb (block c))
-unfolding entryFaults
-block-least rs ps n nb c out o = o ∙ (sym (one-ref rs n codeRow c) ∙ sym (refs-least (tab rs ps) n (ref codeRow c ∷ [])))
+pub block-least : (rs ps : List ℕ) (n c out : ℕ) → out ≡ refLeast rs n codeRow c → out ≡ leastOf (refsFaults (rowsIn (tab rs ps) n) (ref codeRow c ∷ []))
+block-least rs ps n c out o = o ∙ (sym (one-ref rs n codeRow c) ∙ sym (refs-least (tab rs ps) n (ref codeRow c ∷ [])))
 
 -- ---- numbers
 -- past a table's end

@@ -1,7 +1,6 @@
 -- `types_pass_two::rows_fault` meets its contract. The invariant: the type lines from here on have the answer of all. The measure is how many are left.
 use Prim.Native.Nat.{_-_}
 use mathlib.Core.Path.{_≡_, refl, _∙_}
-use mathlib.Core.List.{[]}
 use lib.ListN.{length}
 use Rattle.syntax.specs.Fault.{lowestLine}
 use Rattle.types.specs.Rows.{rowsFaults}
@@ -15,7 +14,7 @@ use Rattle.types_pass_two.proofs.rows_fault.Statement.{statement}
 use Rattle.types_pass_two.proofs.rows_fault.Tie as tie
 
 abbrev Inv-loop : tie.InvT-loop
-Inv-loop rows parts sizes₀ n r₀ sizes r = (rowsLeft (tab rows parts) n r ≡ lowestLine 1 (rowsFaults [] [] (rowsIn (tab rows parts) n))) × Measured (tab rows parts) sizes × (length sizes ≡ length sizes₀)
+Inv-loop rows parts sizes₀ n r₀ sizes r = (rowsLeft (tab rows parts) n r ≡ lowestLine 1 (rowsFaults (rowsIn (tab rows parts) n) 0 (rowsIn (tab rows parts) n))) × Measured (tab rows parts) sizes × (length sizes ≡ length sizes₀)
 
 abbrev μ-loop : tie.MeasureT-loop
 μ-loop rows parts sizes₀ n r₀ sizes r = n - r

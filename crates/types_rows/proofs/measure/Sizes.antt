@@ -9,8 +9,8 @@ use lib.Dec.{eqb, leb, ltb}
 use lib.ListN.{length, length-append, getD, set, List·getD-eq-default, List·getD-append}
 use lib.Seq.{getD-at, getD-set-same, getD-set-other, set-out}
 use borrow.Author.Tests.{eqb-true, eqb-false, eq-eqb, ne-eqb, leb-true, leb-false, ltb-true, ltb-false, le-leb}
-use Rattle.syntax.specs.Syntax.{Row}
-use Rattle.types.specs.Rows.{valueRow, knownRefs, rowRefs, total, sizeOf, sizesFrom, sizesOf}
+use Rattle.types.specs.Rows.{inTurn, valueRow, knownRefs, rowRefs, total, sizeOf, sizesOf}
+use Rattle.types.proofs.InTurn.{in-turn-snoc}
 use Rattle.tables.specs.Tables.{RowTable, cell, span, knownOf, codeRowAt, rowFrom, rowAt, rowsFrom, rowsIn}
 use Rattle.types_rows.specs.declared.Val.the-variants.{ValVar}
 use Rattle.types_rows.specs.declared.Stk.the-variants.{StkVar}
@@ -19,21 +19,16 @@ use Rattle.types_rows.proofs.Bridge.{row-nine, stack-nine, rows-snoc}
 use Rattle.types_rows.specs.size.Size.{slotSize, partsSize, underV, underS, sizeAt, Measured}
 use Rattle.types_rows.proofs.size.Laws.{size-none, size-is}
 
-sizes-append : (S : List ℕ) (xs ys : List Row) → sizesFrom S (xs ++ ys) ≡ sizesFrom (sizesFrom S xs) ys
-unfolding sizesFrom
-sizes-append S [] ys = refl
-sizes-append S (x ∷ xs) ys = sizes-append (S ++ sizeOf S x ∷ []) xs ys
-
 module _ (τ : RowTable) where
   abbrev sizesIn : ℕ → List ℕ
   sizesIn n = sizesOf (rowsIn τ n)
 
   sizes-snoc : (n : ℕ) → sizesIn (suc n) ≡ sizesIn n ++ sizeOf (sizesIn n) (rowAt τ n) ∷ []
-  unfolding sizesOf sizesFrom
-  sizes-snoc n = ap (sizesFrom []) (rows-snoc τ 0 n ∙ ap (λ z. rowsFrom τ 0 n ++ rowAt τ z ∷ []) (zero-add n)) ∙ sizes-append [] (rowsFrom τ 0 n) (rowAt τ n ∷ [])
+  unfolding sizesOf
+  sizes-snoc n = ap sizesOf (rows-snoc τ 0 n ∙ ap (λ z. rowsFrom τ 0 n ++ rowAt τ z ∷ []) (zero-add n)) ∙ in-turn-snoc sizeOf (rowsFrom τ 0 n) (rowAt τ n)
 
   length-sizes : (n : ℕ) → length (sizesIn n) ≡ n
-  unfolding sizesOf sizesFrom rowsFrom
+  unfolding sizesOf inTurn rowsFrom
   length-sizes zero = refl
   length-sizes (suc n) =
       let h = length-sizes n in

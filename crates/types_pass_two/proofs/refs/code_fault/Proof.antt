@@ -4,7 +4,7 @@ use Prim.Native.Nat.{ℕ, _+_, _-_}
 use mathlib.Core.Path.{_≡_, refl, sym, _∙_}
 use mathlib.Core.List.{List, []}
 use Rattle.syntax.specs.Fault.{lowestLine}
-use Rattle.text.proofs.Entries.{entriesIn}
+use Rattle.text.specs.PassOne.{entriesIn}
 use Rattle.tables.specs.Tables.{rowsIn, blocksFrom}
 use Rattle.types.specs.Rows.{entriesFaults}
 use Rattle.types_rows.specs.Read.{tab}
@@ -40,7 +40,7 @@ returns c =
     λ ps. sym (block-found (rowsIn (tab (s .args .rows .now) ps) (s .args .n)) (s .args .nb) (s .args .blocks .now) (s .args .instrs .now)
     (operandTable (s .args .operands .now) (s .args .numbers .now) (s .args .args .now)) (s .args .ni) (s .args .n) (l .loop .b)
     (c2 .cell2 .result) (c3 .cell22 .result) _ (i .loop-test .taken) (c2 .cell2 .ensures .0) (c3 .cell22 .ensures .0) refl
-    (b2 .block-fault .result) (b2 .block-fault .ensures ps (s .args .nb)) (c .if1 .taken)) ∙ l .loop .inv ps
+    (b2 .block-fault .result) (b2 .block-fault .ensures ps) (c .if1 .taken)) ∙ l .loop .inv ps
 
 returns-2 : tie.Need-returns-2 Inv-loop μ-loop
 returns-2 c =
@@ -50,7 +50,7 @@ returns-2 c =
     let c3 : tie.After-cell22 Inv-loop μ-loop = search in
     let c2 : tie.After-cell2 Inv-loop μ-loop = search in
     let l : tie.At-loop Inv-loop μ-loop = search in
-    λ ps. sym (body-found (rowsIn (tab _ ps) _) _ _ _ _ _ _ _ _ _ _ (search) (c2 .cell2 .ensures .0) (c3 .cell22 .ensures .0) (b2 .block-end .ensures .0) _ _ (b3 .block-fault .ensures ps _) (search) (i2 .instrs-fault .ensures ps) (search)) ∙ l .loop .inv ps
+    λ ps. sym (body-found (rowsIn (tab _ ps) _) _ _ _ _ _ _ _ _ _ _ (search) (c2 .cell2 .ensures .0) (c3 .cell22 .ensures .0) (b2 .block-end .ensures .0) _ _ (b3 .block-fault .ensures ps) (search) (i2 .instrs-fault .ensures ps) (search)) ∙ l .loop .inv ps
 
 loop-again : tie.Need-loop-again Inv-loop μ-loop
 loop-again c =
@@ -67,7 +67,7 @@ loop-again c =
     (operandTable (s .args .operands .now) (s .args .numbers .now) (s .args .args .now)) (s .args .ni) (s .args .n) (l .loop .b)
     (c2 .cell2 .result) (c3 .cell22 .result) (b2 .block-end .result) (i .loop-test .taken) (c2 .cell2 .ensures .0)
     (c3 .cell22 .ensures .0) (b2 .block-end .ensures .0) (s .pre .1) (b3 .block-fault .result) (i2 .instrs-fault .result)
-    (b3 .block-fault .ensures ps (s .args .nb)) (n2 .if1 .left) (i2 .instrs-fault .ensures ps) (c .if2 .left)) ∙ l .loop .inv ps
+    (b3 .block-fault .ensures ps) (n2 .if1 .left) (i2 .instrs-fault .ensures ps) (c .if2 .left)) ∙ l .loop .inv ps
 
 returns-3 : tie.Need-returns-3 Inv-loop μ-loop
 returns-3 c =

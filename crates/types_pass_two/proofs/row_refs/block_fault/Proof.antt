@@ -4,7 +4,7 @@ use Rattle.types_pass_two.proofs.row_refs.block_fault.Statement.{statem
 use Rattle.types_pass_two.proofs.row_refs.block_fault.Tie as tie
 
 returns : tie.Need-returns
-returns c = λ ps nb. block-least _ ps _ nb _ _ (search)
+returns c = λ ps. block-least _ ps _ _ _ (search)
 
 pub block-fault-spec : {M : Type 1} → statement M
 block-fault-spec = tie.close (tie.spec (λ c κs. search) returns)
