@@ -2,13 +2,12 @@
 use Prim.Native.Nat.{ℕ, zero, suc, _+_}
 use Prim.Native.String.{String}
 use mathlib.Core.Path.{_≡_, refl}
-use mathlib.Core.Option.{none, some}
 use mathlib.Core.List.{List, [], _∷_, _++_}
 use lib.IntN.{negsuc}
 use lib.ListN.{getD, replicate}
 use Rattle.syntax.specs.Bits.{signed}
-use Rattle.syntax.specs.Syntax.{Kind, value, stack, Row, rowI, rowE, rowX, rowK, rowA, add, Instr, salloc}
-use Rattle.syntax.specs.Fault.{given, numberOf, itemsOf, lowest, lowestLine, earliest, Refusal}
+use Rattle.syntax.specs.Syntax.{stack, Row, rowI, rowE, rowX, rowK, rowA, add, salloc}
+use Rattle.syntax.specs.Fault.{given, numberOf, itemsOf, lowest, lowestLine, earliest}
 use Rattle.text.specs.Bytes.{bytes, sameBytes, split, linesFrom, linesOf, fieldsOf, isDigit, allDigits, isDecimal, spelled, number, literal}
 use Rattle.text.specs.Grammar.{_>>=_, end, each, rest, rowNumber, index, amount, labelNumber, register, letter, eachLetter, letters, known, carrier, carried, operand, forms, formNamed, entryOf, parse}
 use Rattle.text.specs.PassOne.{isLast, placeAfter, inOrder, mayEnd, counted, tooMany, lineFaults, linesFaults, passOne, said, entriesOf, rowsOf, grouped, listingsOf}
@@ -22,8 +21,8 @@ use Rattle.valid.specs.Tests.{itemAt, replaced, under, above, asInt, asTuple, a
 use Rattle.valid.specs.PassThree.{faultsOf, _▹_, _&_, orFault, need, noneOf, formed, integerAt, tupleAt, pointerAt, assign, labelType, base, lettersLeft, isFilled, applied, operands, unfits, noneLeft, targetOf, newTail, judge, bodyFaults, blockFaults, blocksFaults, hasNone, passThree}
 use Rattle.valid.specs.PassThree as three
 use Rattle.valid.specs.Verdict.{passTwoOf, passes, instrCount, check, Verdict, accepted, refused}
-use Rattle.exec.specs.Machine.{Memory, State, Bodies, Result, go, stop, stackFull, junkWord, puts, at, put, flat, startOf, fetch, compute, signOf, taken, baseWord, wordOf, only, unless, jump, exec, step}
-use Rattle.exec.specs.Run.{after, runs, budget, wordsFrom, tupleLength, endToEnd, startsAt, goodWord, goodWords, goodForm, longEnough, Answer, haltedAfter, pausedAfter, answerOf, outcome, bodies, wanted, barred, initial, starting, continuing}
+use Rattle.exec.specs.Machine.{Memory, State, Bodies, go, stop, stackFull, junkWord, puts, at, put, flat, startOf, fetch, compute, signOf, taken, baseWord, wordOf, only, unless, jump, exec, step}
+use Rattle.exec.specs.Run.{after, runs, budget, wordsFrom, tupleLength, endToEnd, startsAt, goodWord, goodWords, goodForm, longEnough, haltedAfter, pausedAfter, answerOf, outcome, bodies, wanted, barred, initial, starting, continuing}
 use Rattle.exec.specs.Run as run-of
 
 -- T, of nine lines, with its lines 7 to 9

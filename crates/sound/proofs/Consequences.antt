@@ -1,25 +1,25 @@
 -- What follows from demand 3, from the claim alone: `Demand3` is a premise here, and its proof is not looked at.
-use Prim.Native.Nat.{ℕ, zero, suc, _+_, _-_, _≤_, _<_}
+use Prim.Native.Nat.{ℕ, zero, suc, _-_, _≤_, _<_}
 use native.Mathlib.Omega.{arith}
-use mathlib.Core.Path.{_≡_, refl, ap, sym, _∙_}
-use mathlib.Core.Option.{Option, none, some}
+use mathlib.Core.Path.{_≡_, ap, sym, _∙_}
+use mathlib.Core.Option.{some}
 use mathlib.Core.List.{List, [], _∷_}
 use lib.ListN.{length, getD, getElem?}
-use Rattle.syntax.specs.Syntax.{Kind, value, stack, rowI, halt}
+use Rattle.syntax.specs.Syntax.{Kind, value, stack, rowI}
 use Rattle.text.specs.PassOne.{entriesOf, rowsOf}
 use Rattle.text.specs.Samples.{samplesOf}
-use Rattle.types.specs.Types.{Ty, int, tuple, pointer, code, items, ofKind, walk, filling, fill}
+use Rattle.types.specs.Types.{Ty, int, ofKind, walk, filling, fill}
 use Rattle.types.specs.Rows.{typeAt, meaning}
 use Rattle.types.proofs.Filling.{get-lt}
 use Rattle.types.proofs.Meaning.{type-before}
 use Rattle.valid.specs.Program.{Program, typeOf, programFrom, programOf}
 use Rattle.valid.specs.Rules.{At}
 use Rattle.valid.proofs.Reading.{none-some, some-inj}
-use Rattle.exec.specs.Machine.{Word, height, at, State, fetch, stuck, Result, go, stop, step}
-use Rattle.exec.specs.Run.{Answer, refused, haltedAfter, pausedAfter, stackFullAfter, heapFullAfter, stuckAfter, stepsOf, IsRefused, bodies, initial, starting, continuing}
+use Rattle.exec.specs.Machine.{height, at, State, fetch, stuck, Result, go, stop, step}
+use Rattle.exec.specs.Run.{Answer, refused, haltedAfter, pausedAfter, stackFullAfter, heapFullAfter, stuckAfter, stepsOf, bodies, initial, starting, continuing}
 use Rattle.exec.specs.Steps.{iterate}
 use Rattle.sound.specs.Values.{Label, Has}
-use Rattle.sound.specs.Claim.{Witness, TypedState, Walk, here, onward, Ends, Runs, Starts, Call, starts, continues, Story, ended, start-refused, started, continued, Demand3}
+use Rattle.sound.specs.Claim.{Witness, TypedState, Walk, here, onward, Ends, Starts, Call, starts, Story, ended, start-refused, started, continued, Demand3}
 use Rattle.sound.specs.Consequences.{outcomeOf, Each, Reached, in-start, in-continue, in-later, Lists, Sound, NeverStuck, HaltsWithIntegers, Weighs, AlwaysIntegers, AsTyped, ReachedAsTyped}
 use Rattle.sound.proofs.Memory.{use-length, use-at, top-length, top-at}
 use Rattle.sound.proofs.Words.{fits-at, walk-at}

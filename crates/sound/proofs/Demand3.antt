@@ -1,18 +1,16 @@
 -- Demand 3: every list of startings and continuings of an accepted text is as claimed.
 use Prim.Native.Nat.{ℕ}
 use native.Mathlib.Omega.{arith}
-use mathlib.Core.Path.{_≡_, refl, _∙_}
+use mathlib.Core.Path.{_≡_, _∙_}
 use mathlib.Core.Logic.{_⊎_, inl, inr}
-use mathlib.Core.Bool.{Bool, true, false}
-use mathlib.Core.Option.{Option, none, some}
+use mathlib.Core.Option.{none, some}
 use mathlib.Core.List.{List, [], _∷_}
-use lib.Dec.{eqb, eqb→eq}
+use lib.Dec.{eqb→eq}
 use lib.ListN.{length, getElem?}
 use Rattle.syntax.specs.Fault.{earliest}
-use Rattle.text.specs.Samples.{samplesOf}
 use Rattle.types.proofs.Equal.{to-so}
 use Rattle.valid.specs.Program.{Block, Program, programOf}
-use Rattle.valid.specs.Rules.{ints, Entry, Typed}
+use Rattle.valid.specs.Rules.{Entry, Typed}
 use Rattle.valid.specs.Verdict.{passes}
 use Rattle.valid.proofs.Reading.{none-some}
 use Rattle.valid.proofs.Accept.{entry-declared, accepted-earliest, accepted-typed}
@@ -20,7 +18,7 @@ use Rattle.exec.specs.Machine.{State}
 use Rattle.exec.proofs.Calls.{refused-or-not, continue-runs, start-runs}
 use Rattle.exec.proofs.Calls as calls
 use Rattle.exec.proofs.Numbers.{starting-unchanged}
-use Rattle.exec.specs.Run.{run, budget, goodForm, longEnough, Outcome, IsRefused, outcome, refuse, bodies, wanted, barred, initial, starting, continuing}
+use Rattle.exec.specs.Run.{run, budget, IsRefused, wanted, barred, initial, starting, continuing}
 use Rattle.sound.specs.Claim.{Witness, Runs, Starts, Call, starts, continues, Story, ended, start-refused, started, continued, Demand3}
 use Rattle.sound.specs.Consequences.{NeverStuck, AlwaysIntegers, ReachedAsTyped}
 use Rattle.sound.proofs.Consequences.{never-stuck-of, always-integers-of, reached-as-typed-of}

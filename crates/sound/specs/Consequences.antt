@@ -5,7 +5,7 @@ use mathlib.Core.Path.{_≡_}
 use mathlib.Core.Option.{some}
 use mathlib.Core.List.{List, [], _∷_}
 use lib.ListN.{length, getElem?}
-use Rattle.syntax.specs.Syntax.{Kind, value, stack, rowI, halt}
+use Rattle.syntax.specs.Syntax.{Kind, stack, rowI, halt}
 use Rattle.text.specs.PassOne.{entriesOf, rowsOf}
 use Rattle.text.specs.Samples.{samplesOf}
 use Rattle.types.specs.Types.{Ty, int, tuple, pointer, code}

@@ -1,7 +1,7 @@
 -- Which words have which closed types (document 01, "Machine": "which words have a closed type .. is read thus").
-use Prim.Native.Nat.{ℕ, zero, suc, _+_}
+use Prim.Native.Nat.{ℕ, suc, _+_}
 use mathlib.Core.Path.{_≡_}
-use mathlib.Core.Option.{Option, some}
+use mathlib.Core.Option.{some}
 use mathlib.Core.List.{List, [], _∷_, _++_}
 use lib.ListN.{length, getElem?}
 use Rattle.syntax.specs.Syntax.{Kind, value, stack}

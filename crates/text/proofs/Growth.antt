@@ -1,9 +1,8 @@
 -- What one entry more adds to what a text says: to its rows, and to its blocks.
 -- Assumes nothing.
-use mathlib.Core.Path.{_≡_, refl, ap, sym, _∙_}
-use mathlib.Core.List.{List, [], _∷_, _++_, append-nil, append-assoc}
-use mathlib.Core.Option.{Option, none, some}
-use Prim.Native.Nat.{ℕ, zero, suc}
+use mathlib.Core.Path.{_≡_, refl, ap, _∙_}
+use mathlib.Core.List.{List, [], _∷_, _++_}
+use Prim.Native.Nat.{ℕ}
 use Rattle.syntax.specs.Syntax.{Row, Instr, Entry, row, block, instr}
 use Rattle.text.specs.PassOne.{rowsOf, Listing, grouped, listingsOf}
 
