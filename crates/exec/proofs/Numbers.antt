@@ -1,4 +1,5 @@
--- Every refusal of a call has a number of document 01's table, 1 to 16: a fault of the program 1 to 14, the samples 15, the lent state 16.
+-- "each refuses by a number from document 01's table" (demand 1), of the calls: a fault of the program is 1 to 14, the samples are 15, the
+-- lent memory or state is 16.
 use Prim.Native.Nat.{ℕ, suc, _≤_}
 use native.Mathlib.Omega.{arith}
 use mathlib.Core.Path.{_≡_, refl}
