@@ -13,7 +13,8 @@ use Rattle.syntax.specs.Partial.{guarded}
 use Rattle.syntax.specs.Syntax.{Kind, value, Row, rowI, rowN, rowE, rowV, rowX, rowP, rowU, rowK, rowA, rowC, Instr, Entry, instr}
 use Rattle.syntax.specs.Fault.{Clear, given}
 use Rattle.syntax.proofs.Least.{given-none}
-use Rattle.text.specs.PassOne.{Listing, blocksEntries, entriesIn}
+use Rattle.text.specs.PassOne.{Listing}
+use Rattle.text.specs.Entries.{blocksEntries, entriesIn}
 use Rattle.types.specs.Types.{Arg, ofKind}
 use Rattle.types.specs.Rows.{ref, codeRow, typeAt, meaning, typesOf, isCode, isOf, isSort, allBelow, allOfSort, refsFaults, entriesFaults}
 use Rattle.types.proofs.Equal.{and-inv, none-true, not-false}
@@ -23,7 +24,7 @@ use Rattle.types_rows.specs.Clear.{RowsClear}
 use Rattle.tables.proofs.Steps.{length-rows, row-in}
 use Rattle.valid_scope.proofs.Rows.{row-getD}
 use Rattle.valid.specs.Program.{Block, Program, asCode, blockOf, blocksOf}
-use Rattle.valid.specs.PassThree.{labelType}
+use Rattle.valid.specs.Tests.{labelType}
 use Rattle.valid_context.specs.premises.Answers.{Holds}
 
 -- ---- a block's row
@@ -86,7 +87,7 @@ module _ (τ : RowTable) (n : ℕ) (β ι : List ℕ) (ω : OperandTable) (ni : 
 -- ---- the type of a label
 module _ (P : Program) (Δ : List Kind) (xs : List Instr) where
   -- a code row's type is a code type, which the label of its block has
-  label-of : (A : List Arg) (x : Row) → isCode x ≡ true → labelType P Δ (some (blockOf (ofKind value (meaning A x)) xs)) ≡ some (ofKind value (meaning A x))
+  label-of : (A : List Arg) (x : Row) → isCode x ≡ true → labelType (some (blockOf (ofKind value (meaning A x)) xs)) ≡ some (ofKind value (meaning A x))
   unfolding labelType blockOf asCode meaning isCode ofKind
   label-of A rowI e = none-true e
   label-of A rowN e = none-true e
@@ -99,21 +100,21 @@ module _ (P : Program) (Δ : List Kind) (xs : List Instr) where
   label-of A (rowK t s) e = none-true e
   label-of A (rowA s₁ s₂) e = none-true e
 
-  label-type : (τ : RowTable) (n c : ℕ) → RowsClear τ n → CodeOk τ n c → labelType P Δ (some (blockOf (typeAt value (typesOf (rowsIn τ n)) c) xs)) ≡ some (typeAt value (typesOf (rowsIn τ n)) c)
+  label-type : (τ : RowTable) (n c : ℕ) → RowsClear τ n → CodeOk τ n c → labelType (some (blockOf (typeAt value (typesOf (rowsIn τ n)) c) xs)) ≡ some (typeAt value (typesOf (rowsIn τ n)) c)
   unfolding typeAt
   label-type τ n c cl k =
       let e = length-rows τ n in
       let h = k .0 in
       let l : c < length (rowsIn τ n) = omega arith in
       let m : typeIn (typesOf (rowsIn τ n)) c ≡ meaning (typesOf (rowsIn τ n)) (rowAt τ c) = type-is (rowsIn τ n) c rowI l (rows-clear (rowsIn τ n) cl c rowI l .0) ∙ ap (meaning (typesOf (rowsIn τ n))) (row-getD τ n c rowI h) in
-      ap (λ (a : Arg). labelType P Δ (some (blockOf (ofKind value a) xs))) m ∙ label-of (typesOf (rowsIn τ n)) (rowAt τ c) (k .1) ∙ ap (λ (a : Arg). some (ofKind value a)) (sym m)
+      ap (λ (a : Arg). labelType (some (blockOf (ofKind value a) xs))) m ∙ label-of (typesOf (rowsIn τ n)) (rowAt τ c) (k .1) ∙ ap (λ (a : Arg). some (ofKind value a)) (sym m)
 
 -- ---- the program that the tables hold
 module _ (τ : RowTable) (n : ℕ) (β ι : List ℕ) (ω : OperandTable) (ni : ℕ) (P : Program) (Δ : List Kind) (cl : RowsClear τ n) where
   abbrev types : List Arg
   types = typesOf (rowsIn τ n)
 
-  labels-from : (b k : ℕ) → ((l : ℕ) → l < k → CodeOk τ n (cell 2 β (b + l) 0)) → (l : ℕ) → labelType P Δ (getElem? (blocksOf types (blocksFrom β ι ω ni b k)) l) ≡ guarded (ltb l k) (typeAt value types (cell 2 β (b + l) 0))
+  labels-from : (b k : ℕ) → ((l : ℕ) → l < k → CodeOk τ n (cell 2 β (b + l) 0)) → (l : ℕ) → labelType (getElem? (blocksOf types (blocksFrom β ι ω ni b k)) l) ≡ guarded (ltb l k) (typeAt value types (cell 2 β (b + l) 0))
   unfolding blocksFrom blocksOf
   labels-from b zero a l = rw (le-ltb l 0 (omega arith)) (unfold labelType in refl)
   labels-from b (suc zero) a zero = rw (add-zero b) (label-type P Δ _ τ n (cell 2 β b 0) cl (subst (λ (x : ℕ). CodeOk τ n (cell 2 β x 0)) (add-zero b) (a 0 (omega arith))))
@@ -130,7 +131,7 @@ pub holds-is : (τ : RowTable) (n : ℕ) (β ι : List ℕ) (ω : OperandTable) 
 holds-is τ n β ι ω ni nb P cl a e f = record {
   types = e;
   labels = λ Δ l.
-      ap (λ (B : List Block). labelType P Δ (getElem? B l)) f
+      ap (λ (B : List Block). labelType (getElem? B l)) f
       ∙ labels-from τ n β ι ω ni P Δ cl 0 nb (λ j h. subst (λ (x : ℕ). CodeOk τ n (cell 2 β x 0)) (omega arith) (a j h)) l
       ∙ ap₂ (λ (T : List Arg) (x : ℕ). guarded (ltb l nb) (typeAt value T (cell 2 β x 0))) (sym e) (omega arith);
 }

@@ -10,7 +10,8 @@ use lib.ListN.{length, replicate, length-replicate}
 use borrow.Author.Tests.{ne-eqb, ltb-true, ltb-false}
 use Rattle.syntax.specs.Syntax.{Row, Entry}
 use Rattle.syntax.specs.Fault.{Refusal, Pass, Clear, lowestLine, orElse, earliest}
-use Rattle.text.specs.PassOne.{Listing, passOne, entriesOf, rowsOf, listingsOf, entriesIn}
+use Rattle.text.specs.PassOne.{Listing, passOne, entriesOf, rowsOf, listingsOf}
+use Rattle.text.specs.Entries.{entriesIn}
 use Rattle.text.proofs.Entries.{entries-in}
 use Rattle.types.specs.Rows.{typesOf, rowsFaults, entriesFaults, passTwo}
 use Rattle.tables.specs.Tables.{RowTable, cell, rowAt, rowsIn, OperandTable, blocksFrom}

@@ -12,7 +12,7 @@ ghost use mathlib.Core.Bool.{true};
 ghost use Prim.Native.Nat.{ℕ, _-_, _≤_};
 ghost use lib.ListN.{length};
 ghost use Rattle.syntax.specs.Fault.{lowestLine};
-ghost use Rattle.text.specs.PassOne.{entriesIn};
+ghost use Rattle.text.specs.Entries.{entriesIn};
 ghost use Rattle.types.specs.Rows.{passTwo};
 ghost use Rattle.tables.specs.Tables.{rowsIn, blocksFrom};
 ghost use Rattle.image.specs.Sections.{Ordered, blockSection, instrSection};

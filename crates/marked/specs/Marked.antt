@@ -17,8 +17,8 @@ use Rattle.types.specs.Equal.{same, sameLetters}
 use Rattle.types.specs.Rows.{typeAt, components, registers, inTurn, meaning, typesOf, isValue, isCode, isOf, knownRefs, rowRefs, operandRefs, operandsRefs, names, baseLabels, labels, isSort, allBelow, allOfSort, total, sizeOf, sizesOf, rowFaults, rowsFaults, refsFaults, instrFaults, entriesFaults, passTwo}
 use Rattle.valid.specs.Program.{blockOf, blocksOf, programFrom, programOf, asCode}
 use Rattle.valid.specs.Rules.{junks, ints, entryRegs, declared}
-use Rattle.valid.specs.Tests.{itemAt, replaced, under, above, asInt, asTuple, asPointer, isKind, isStack, isFile, isFormed, formedArg, formedArgs, isEntry}
-use Rattle.valid.specs.PassThree.{faultsOf, _▹_, _&_, orFault, need, noneOf, formed, integerAt, tupleAt, pointerAt, assign, labelType, base, lettersLeft, isFilled, applied, operands, unfits, noneLeft, targetOf, newTail, judge, bodyFaults, blockFaults, blocksFaults, hasNone, passThree}
+use Rattle.valid.specs.Tests.{itemAt, replaced, under, above, asInt, asTuple, asPointer, isKind, isStack, isFile, isFormed, formedArg, formedArgs, isEntry, labelType, lettersLeft, isFilled, noneLeft}
+use Rattle.valid.specs.PassThree.{faultsOf, _▹_, _&_, orFault, need, noneOf, formed, integerAt, tupleAt, pointerAt, assign, base, applied, operands, unfits, targetOf, newTail, judge, bodyFaults, blockFaults, blocksFaults, hasNone, passThree}
 use Rattle.valid.specs.PassThree as three
 use Rattle.valid.specs.Verdict.{passTwoOf, passes, instrCount, check, Verdict, accepted, refused}
 use Rattle.exec.specs.Machine.{Memory, State, Bodies, go, stop, stackFull, junkWord, puts, at, put, flat, startOf, fetch, compute, signOf, taken, baseWord, wordOf, only, unless, jump, exec, step}

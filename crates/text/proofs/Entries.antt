@@ -10,7 +10,8 @@ use Rattle.syntax.specs.Fault.{Fault, Clear, given}
 use Rattle.syntax.proofs.Least.{given-none}
 use Rattle.text.specs.Bytes.{linesOf}
 use Rattle.text.specs.Grammar.{parse}
-use Rattle.text.specs.PassOne.{isLast, Place, atRows, inBlock, behindBlock, placeAfter, inOrder, mayEnd, Counts, none-yet, tooMany, lineFaults, linesFaults, passOne, said, entriesOf, rowsOf, grouped, listingsOf, blocksEntries, entriesIn}
+use Rattle.text.specs.PassOne.{isLast, Place, atRows, inBlock, behindBlock, placeAfter, inOrder, mayEnd, Counts, none-yet, tooMany, lineFaults, linesFaults, passOne, said, entriesOf, rowsOf, grouped, listingsOf}
+use Rattle.text.specs.Entries.{blocksEntries, entriesIn}
 
 -- ---- what follows a place
 -- behind the type lines: no rows, the instructions up to the first block line, and the blocks

@@ -117,18 +117,11 @@ named s f = record { name = s; fields = f }
 
 -- `add,d,s,v` and its like
 abbrev pub arith : Arith → Form
-arith o = do
-  d ← register
-  s ← register
-  v ← operand
-  end (instr (aop o d s v))
+arith o = do d ← register; s ← register; v ← operand; end (instr (aop o d s v))
 
 -- `beq,r,v` and its like
 abbrev pub branch : Branch → Form
-branch o = do
-  r ← register
-  v ← operand
-  end (instr (bop o r v))
+branch o = do r ← register; v ← operand; end (instr (bop o r v))
 
 -- all forms: type lines, a block's line, instructions
 unfoldable pub forms : List Named

@@ -2,3 +2,4 @@ pub mod Bytes
 pub mod Grammar
 pub mod PassOne
 pub mod Samples
+pub mod Entries

@@ -139,13 +139,3 @@ grouped (instr x ∷ es) = (x ∷ grouped es .0, grouped es .1)
 -- the blocks among them: labels 0, 1, ..
 unfoldable pub listingsOf : List Entry → List Listing
 listingsOf es = grouped es .1
-
--- ---- the lines that rows and blocks make, the other way round
--- each block's line and its instructions
-unfoldable pub blocksEntries : List Listing → List Entry
-blocksEntries [] = []
-blocksEntries (b ∷ bs) = block (b .code) ∷ (map instr (b .body) ++ blocksEntries bs)
-
--- the rows, and then the blocks
-unfoldable pub entriesIn : List Row → List Listing → List Entry
-entriesIn rs bs = map row rs ++ blocksEntries bs

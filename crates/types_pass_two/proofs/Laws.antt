@@ -12,7 +12,8 @@ use borrow.Author.Tests.{ne-eqb, eqb-true, eqb-false, leb-true, leb-false, ltb-f
 use Rattle.syntax.specs.Syntax.{Row}
 use Rattle.syntax.specs.Fault.{Fault, Clear, given, numberOf, lowest, Refusal, lowestLine, orElse}
 use Rattle.syntax.proofs.Least.{least, leastOf, given-none, line-next, line-here}
-use Rattle.text.specs.PassOne.{Listing, entriesIn}
+use Rattle.text.specs.PassOne.{Listing}
+use Rattle.text.specs.Entries.{entriesIn}
 use Rattle.types.specs.Rows.{inTurn, Ref, rowRefs, allBelow, allOfSort, sizeOf, sizesOf, refsFaults, rowsFaults, entriesFaults, passTwo}
 use Rattle.types.proofs.InTurn.{in-turn-snoc}
 use Rattle.types.proofs.PassTwo.{rowFaultsBy, rowsFaultsFrom, rows-from}

@@ -10,7 +10,7 @@ ghost use mathlib.Core.Path.{_≡_};
 ghost use Prim.Native.Nat.{_≤_};
 ghost use Rattle.syntax.specs.Fault.{lowestLine};
 ghost use Rattle.syntax.proofs.Least.{leastOf};
-ghost use Rattle.text.specs.PassOne.{entriesIn};
+ghost use Rattle.text.specs.Entries.{entriesIn};
 ghost use Rattle.types.specs.Rows.{rowsFaults, passTwo};
 ghost use Rattle.tables.specs.Tables.{rowsIn, blocksFrom};
 ghost use Rattle.types_rows.specs.Read.{tab};

@@ -19,8 +19,8 @@ use Rattle.types.proofs.Equal.{and-inv, none-true, to-so, so-true, same-sound, 
 use Rattle.types.proofs.Filling.{args-len}
 use Rattle.valid.specs.Program.{Block, Program, typeOf, argsOf, CodeType, asCode}
 use Rattle.valid.specs.Rules.{At, Put, junks, Context, withRegs, withSp, OfBase, ⊢reg, ⊢int, ⊢label, OfOperand, ⊢plain, ⊢tapp, OfOperands, ⊢none, ⊢more, Named, n-nil, n-same, n-any, n-gap, Target, target, Rule, ⊢aop, ⊢bop, ⊢ld, ⊢malloc, ⊢mov, ⊢get-sp, ⊢set-sp, ⊢salloc, ⊢sfree, ⊢sld1, ⊢sld2, ⊢sst1, ⊢sst2, ⊢st}
-use Rattle.valid.specs.Tests.{itemAt, replaced, under, above, asInt, asTuple, asPointer, isFormed, formedArgs}
-use Rattle.valid.specs.PassThree.{Judged, holds, fails, _▹_, _&_, orFault, need, noneOf, formed, known, integerAt, tupleAt, pointerAt, assign, labelType, base, lettersLeft, isFilled, applied, operand, operands, unfits, noneLeft, targetOf, newTail, judge}
+use Rattle.valid.specs.Tests.{itemAt, replaced, under, above, asInt, asTuple, asPointer, isFormed, formedArgs, labelType, lettersLeft, isFilled, noneLeft}
+use Rattle.valid.specs.PassThree.{Judged, holds, fails, _▹_, _&_, orFault, need, noneOf, formed, known, integerAt, tupleAt, pointerAt, assign, base, applied, operand, operands, unfits, targetOf, newTail, judge}
 use Rattle.valid.proofs.Clear.{cons-nil}
 use Rattle.valid.proofs.Reading.{none-some, some-inj, at-sound, at-complete, put-sound, put-complete, pops-sound, pops-complete, above-sound, above-complete, int-sound, tuple-sound, pointer-sound, code-sound, formed-sound, formed-complete, args-sound, args-complete, args-letters}
 
@@ -121,11 +121,11 @@ module _ (P : Program) (Δ : List Kind) where
   base-given g (lit n) = gives ⊢int
   base-given g (lab l) = go (getElem? (P .blocks) l) refl
     where
-      go : (o : Option Block) → getElem? (P .blocks) l ≡ o → Gives (OfBase P Δ g (lab l)) (orFault 9 (labelType P Δ o))
+      go : (o : Option Block) → getElem? (P .blocks) l ≡ o → Gives (OfBase P Δ g (lab l)) (orFault 9 (labelType o))
       go none e = unfold orFault labelType in faulty
       go (some B) e = unfold orFault labelType in gives (⊢label B e)
 
-  left-sound : (θ : List Arg) (l q : List Kind) → lettersLeft P Δ θ l ≡ some q → l ≡ q ++ map kindOf θ
+  left-sound : (θ : List Arg) (l q : List Kind) → lettersLeft θ l ≡ some q → l ≡ q ++ map kindOf θ
   unfolding lettersLeft
   left-sound θ l q e =
       let n = length l - length θ in
@@ -133,7 +133,7 @@ module _ (P : Program) (Δ : List Kind) where
       let j = and-inv (leb (length θ) (length l)) _ (h .0) in
       rw (← (h .1), sameLetters-sound (map kindOf θ) (drop n l) (j .1)) (sym (take-append-drop n l))
 
-  filled-sound : (t : Ty value) (o : Option (Ty value)) → isFilled P Δ t o ≡ true → o ≡ some t
+  filled-sound : (t : Ty value) (o : Option (Ty value)) → isFilled t o ≡ true → o ≡ some t
   unfolding isFilled
   filled-sound t none e = none-true e
   filled-sound t (some u) e = ap some (sym (same-sound t u e))
@@ -151,8 +151,8 @@ module _ (P : Program) (Δ : List Kind) where
   applied-given f g b θ t =
       base-given g b ▸ λ u h.
       read 9 (asCode u) (code-sound u) ▸ λ c e.
-      read 14 (lettersLeft P Δ θ (c .letters)) (left-sound θ (c .letters)) ▸ λ q j.
-      needed f (isFilled P Δ (typeOf P t) (filled θ q (c .sp) (c .regs))) λ k.
+      read 14 (lettersLeft θ (c .letters)) (left-sound θ (c .letters)) ▸ λ q j.
+      needed f (isFilled (typeOf P t) (filled θ q (c .sp) (c .regs))) λ k.
       record { type = c; left = q; carries = rw e at h; splits = j; fills = filled-sound (typeOf P t) (filled θ q (c .sp) (c .regs)) k }
 
   operand-given : (f : Fault) (g : Ty stack) (v : Operand) → Gives (OfOperand P Δ g v) (operand P Δ f g v)
@@ -280,7 +280,7 @@ module _ (P : Program) (Δ : List Kind) where
   base-complete ⊢int = refl
   base-complete (⊢label B e) = rw e
 
-  left-complete : {θ : List Arg} {q p : List Kind} → Args Δ θ p → lettersLeft P Δ θ (q ++ p) ≡ some q
+  left-complete : {θ : List Arg} {q p : List Kind} → Args Δ θ p → lettersLeft θ (q ++ p) ≡ some q
   unfolding lettersLeft
   left-complete {θ} {q} {p} a =
       let k = length-append q p in

@@ -1,20 +1,20 @@
 -- Pass three (document 01, "Typing", and "Faults", 7 to 14): for each line the set of faults that stand on it. A premise fails
 -- with a fault; premises side by side are all looked at, and one that reads a type waits for it: "a premise is not looked at if
 -- another fault on its line leaves it without a type to read".
-use Prim.Native.Nat.{ℕ, suc, _-_}
+use Prim.Native.Nat.{ℕ, suc}
 use mathlib.Core.Bool.{Bool, true, false, _&&_, not, cond}
 use mathlib.Core.Option.{Option, none, some}
-use mathlib.Core.List.{List, [], _∷_, _++_, map}
+use mathlib.Core.List.{List, [], _∷_, _++_}
 use lib.Dec.{leb, ltb}
-use lib.ListN.{length, getElem?, take, drop, replicate}
-use Rattle.syntax.specs.Partial.{chain, guarded}
+use lib.ListN.{length, getElem?, replicate}
+use Rattle.syntax.specs.Partial.{chain}
 use Rattle.syntax.specs.Syntax.{Kind, value, stack, Base, reg, lit, lab, Operand, plain, inst, Instr, aop, bop, mov, ld, st, malloc, getsp, setsp, salloc, sfree, sld, sst, slp, ssp, jmp, halt}
 use Rattle.syntax.specs.Fault.{Fault, fault, unfit, given, Pass}
-use Rattle.types.specs.Types.{Ty, int, tuple, pointer, code, nil, push, svar, gap, join, items, Arg, kindOf, filled, aStack}
-use Rattle.types.specs.Equal.{same, sameLetters}
-use Rattle.valid.specs.Program.{Block, Program, typeOf, argsOf, CodeType, asCode}
+use Rattle.types.specs.Types.{Ty, int, tuple, pointer, code, nil, push, svar, gap, join, items, Arg, filled, aStack}
+use Rattle.types.specs.Equal.{same}
+use Rattle.valid.specs.Program.{Block, Program, typeOf, argsOf, asCode}
 use Rattle.valid.specs.Rules.{junks, Context, withRegs, withSp, atStart}
-use Rattle.valid.specs.Tests.{itemAt, replaced, under, above, asInt, asTuple, asPointer, isFormed, formedArgs, isEntry}
+use Rattle.valid.specs.Tests.{itemAt, replaced, under, above, asInt, asTuple, asPointer, isFormed, formedArgs, isEntry, labelType, lettersLeft, isFilled, noneLeft}
 
 -- ---- premises
 -- what a premise gives, or the faults that stand against it, at least one
@@ -83,25 +83,11 @@ module _ (P : Program) (Δ : List Kind) where
   assign Γ d t = orFault 9 (chain (replaced (Γ .regs) d t) (λ g. some (withRegs Γ g)))
 
   -- ---- operands
-  -- the type of a label: its block's code row
-  unfoldable pub labelType : Option Block → Option (Ty value)
-  labelType none = none
-  labelType (some B) = some (code (B .letters) (B .sp) (B .regs))
-
   -- pass two sees that the label exists
   unfoldable pub base : Ty stack → Base → Judged (Ty value)
   base g (reg r) = known g r
   base g (lit n) = holds int
   base g (lab l) = orFault 9 (labelType (getElem? (P .blocks) l))
-
-  -- the letters left, if there are no more arguments than letters and each is of its letter
-  unfoldable pub lettersLeft : List Arg → List Kind → Option (List Kind)
-  lettersLeft θ l = guarded (leb (length θ) (length l) && sameLetters (map kindOf θ) (drop (length l - length θ) l)) (take (length l - length θ) l)
-
-  -- the resulting row's type t is the filled type
-  unfoldable pub isFilled : Ty value → Option (Ty value) → Bool
-  isFilled t none = false
-  isFilled t (some u) = same t u
 
   -- "arguments on a type that is no code" is 9, 14 "too many arguments, or of the wrong letter", then "the checker confirms that it
   -- equals the filled type"; `unequal` is the fault that says it does not
@@ -138,10 +124,6 @@ module _ (P : Program) (Δ : List Kind) where
   unfits n (gap r) (push u g) = unfits (suc n) r g
   unfits n (gap r) (svar k g) = unfit n ∷ []
   unfits n (gap r) (gap g) = unfits (suc n) r g
-
-  -- "a target is code with no variable left"
-  unfoldable pub noneLeft : CodeType → Bool
-  noneLeft c = sameLetters (c .letters) []
 
   -- a target: 9 if it is no code or has a variable left; 10 with each item that does not fit
   unfoldable pub targetOf : Context → Operand → Judged (Unit {0})

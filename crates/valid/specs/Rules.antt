@@ -58,35 +58,20 @@ use Rattle.valid.specs.Program.{Block, Program, typeOf, argsOf}
 -- register file, where those above may also be unknown.
 pub data At : Ty stack → ℕ → Ty value → Type 0 where
   here : {τ : Ty value} {σ : Ty stack} → At (push τ σ) 0 τ
-  there : {τ₀ τ : Ty value} {σ : Ty stack} {i : ℕ}
-      → At σ i τ
-      -- ────────────────────
-      → At (push τ₀ σ) (suc i) τ
-  skip : {τ : Ty value} {γ : Ty stack} {i : ℕ}
-      → At γ i τ
-      -- ────────────────────
-      → At (gap γ) (suc i) τ
+  there : {τ₀ τ : Ty value} {σ : Ty stack} {i : ℕ} → At σ i τ → At (push τ₀ σ) (suc i) τ
+  skip : {τ : Ty value} {γ : Ty stack} {i : ℕ} → At γ i τ → At (gap γ) (suc i) τ
 
 -- The last list is the first with τ for item i: Γ{r : τ} of a register file, τ₀ :: … :: τᵢ₋₁ :: τ :: σ′ of a stack.
 pub data Put : Ty stack → ℕ → Ty value → Ty stack → Type 0 where
   phere : {τ₀ τ : Ty value} {σ : Ty stack} → Put (push τ₀ σ) 0 τ (push τ σ)
   pnew : {τ : Ty value} {γ : Ty stack} → Put (gap γ) 0 τ (push τ γ)
-  pthere : {τ₀ τ : Ty value} {σ σ′ : Ty stack} {i : ℕ}
-      → Put σ i τ σ′
-      -- ────────────────────
-      → Put (push τ₀ σ) (suc i) τ (push τ₀ σ′)
-  pskip : {τ : Ty value} {γ γ′ : Ty stack} {i : ℕ}
-      → Put γ i τ γ′
-      -- ────────────────────
-      → Put (gap γ) (suc i) τ (gap γ′)
+  pthere : {τ₀ τ : Ty value} {σ σ′ : Ty stack} {i : ℕ} → Put σ i τ σ′ → Put (push τ₀ σ) (suc i) τ (push τ₀ σ′)
+  pskip : {τ : Ty value} {γ γ′ : Ty stack} {i : ℕ} → Put γ i τ γ′ → Put (gap γ) (suc i) τ (gap γ′)
 
 -- The first n items are value types, and the last list is what is under them: σ = τ₀ :: … :: τₙ₋₁ :: σ₂.
 pub data Pops : Ty stack → ℕ → Ty stack → Type 0 where
   pop0 : {σ : Ty stack} → Pops σ 0 σ
-  pop1 : {τ : Ty value} {σ σ₂ : Ty stack} {n : ℕ}
-      → Pops σ n σ₂
-      -- ────────────────────
-      → Pops (push τ σ) (suc n) σ₂
+  pop1 : {τ : Ty value} {σ σ₂ : Ty stack} {n : ℕ} → Pops σ n σ₂ → Pops (push τ σ) (suc n) σ₂
 
 -- "`salloc` puts n items N on top"
 unfoldable pub junks : ℕ → Ty stack → Ty stack
@@ -126,10 +111,7 @@ module _ (P : Program) (Δ : List Kind) where
 
   -- with arguments or without
   pub data OfOperand (γ : Ty stack) : Operand → Ty value → Type 0 where
-    ⊢plain : {b : Base} {τ : Ty value}
-        → OfBase γ b τ
-        -- ────────────────────
-        → OfOperand γ (plain b) τ
+    ⊢plain : {b : Base} {τ : Ty value} → OfBase γ b τ → OfOperand γ (plain b) τ
     -- (tapp), (stapp), all arguments at once: they fill the letters Δ₁, which stand behind those left, Δ′ (`filled`)
     ⊢tapp : {b : Base} {ts : List ℕ} {t : ℕ} (Δ′ Δ₁ : List Kind) (σ γ′ : Ty stack)
         → Args Δ (argsOf P ts) Δ₁
@@ -142,27 +124,14 @@ module _ (P : Program) (Δ : List Kind) where
   -- vᵢ : τᵢ, one by one; the last list is ⟨τ₁, …, τₙ⟩'s
   pub data OfOperands (γ : Ty stack) : List Operand → Ty stack → Type 0 where
     ⊢none : OfOperands γ [] nil
-    ⊢more : {v : Operand} {vs : List Operand} {τ : Ty value} {τs : Ty stack}
-        → OfOperand γ v τ
-        → OfOperands γ vs τs
-        -- ────────────────────
-        → OfOperands γ (v ∷ vs) (push τ τs)
+    ⊢more : {v : Operand} {vs : List Operand} {τ : Ty value} {τs : Ty stack} → OfOperand γ v τ → OfOperands γ vs τs → OfOperands γ (v ∷ vs) (push τ τs)
 
   -- (rf-leq), Γ₁ ≤ Γ₂, of the registers: every one that γ₂ names has an equal type in γ₁
   pub data Named : Ty stack → Ty stack → Type 0 where
     n-nil : Named nil nil
-    n-same : {τ : Ty value} {γ₁ γ₂ : Ty stack}
-        → Named γ₁ γ₂
-        -- ────────────────────
-        → Named (push τ γ₁) (push τ γ₂)
-    n-any : {τ : Ty value} {γ₁ γ₂ : Ty stack}
-        → Named γ₁ γ₂
-        -- ────────────────────
-        → Named (push τ γ₁) (gap γ₂)
-    n-gap : {γ₁ γ₂ : Ty stack}
-        → Named γ₁ γ₂
-        -- ────────────────────
-        → Named (gap γ₁) (gap γ₂)
+    n-same : {τ : Ty value} {γ₁ γ₂ : Ty stack} → Named γ₁ γ₂ → Named (push τ γ₁) (push τ γ₂)
+    n-any : {τ : Ty value} {γ₁ γ₂ : Ty stack} → Named γ₁ γ₂ → Named (push τ γ₁) (gap γ₂)
+    n-gap : {γ₁ γ₂ : Ty stack} → Named γ₁ γ₂ → Named (gap γ₁) (gap γ₂)
 
   -- The premises v : ∀[].Γ₂ and Γ ≤ Γ₂ of (bop) and (jmp): "a target is code with no variable left, whose every named register has an
   -- equal type now and whose stack equals sp".

@@ -1,16 +1,17 @@
 -- The tests of pass three, which compute. Each says what a premise of the rules says, and is proved to (crates/valid/proofs/Reading.antt,
--- Accept.antt): `itemAt` At, `replaced` Put, `under` Pops, `above` σ₁ = σ₂ @ σ₃, `isFormed` Wf, `formedArgs` Args, `isEntry` Entry.
-use Prim.Native.Nat.{ℕ, zero, suc}
+-- Accept.antt): `itemAt` At, `replaced` Put, `under` Pops, `above` σ₁ = σ₂ @ σ₃, `isFormed` Wf, `formedArgs` and
+-- `lettersLeft` Args, `isFilled` the resulting row's, `noneLeft` ∀[], `isEntry` Entry.
+use Prim.Native.Nat.{ℕ, zero, suc, _-_}
 use mathlib.Core.Bool.{Bool, true, false, _&&_, cond}
 use mathlib.Core.Option.{Option, none, some}
-use mathlib.Core.List.{List, [], _∷_, _++_}
-use lib.Dec.{eqb}
-use lib.ListN.{getElem?}
-use Rattle.syntax.specs.Partial.{chain}
+use mathlib.Core.List.{List, [], _∷_, _++_, map}
+use lib.Dec.{leb, eqb}
+use lib.ListN.{length, getElem?, take, drop}
+use Rattle.syntax.specs.Partial.{chain, guarded}
 use Rattle.syntax.specs.Syntax.{registerCount, Kind, value, stack}
-use Rattle.types.specs.Types.{Ty, int, junk, var, tuple, pointer, code, nil, push, svar, gap, items, Arg, arg, Use, aStack, aTuple, aFile}
+use Rattle.types.specs.Types.{Ty, int, junk, var, tuple, pointer, code, nil, push, svar, gap, items, Arg, arg, kindOf, Use, aStack, aTuple, aFile}
 use Rattle.types.specs.Equal.{same, sameLetters}
-use Rattle.valid.specs.Program.{Block}
+use Rattle.valid.specs.Program.{Block, CodeType}
 use Rattle.valid.specs.Rules.{entryRegs, declared}
 
 -- ---- lists of items and forms of types
@@ -121,3 +122,22 @@ formedArgs Δ (a ∷ θ) = formedArg Δ a && formedArgs Δ θ
 -- "block 0 must bind nothing, have no stack items, r1 a tuple of integers, others `-`"
 unfoldable pub isEntry : Block → Bool
 isEntry B = sameLetters (B .letters) [] && (same (B .sp) nil && same (B .regs) (entryRegs (declared (B .regs))))
+
+-- ---- operands and targets
+-- the type of a label: its block's code row
+unfoldable pub labelType : Option Block → Option (Ty value)
+labelType none = none
+labelType (some B) = some (code (B .letters) (B .sp) (B .regs))
+
+-- the letters left, if there are no more arguments than letters and each is of its letter
+unfoldable pub lettersLeft : List Arg → List Kind → Option (List Kind)
+lettersLeft θ l = guarded (leb (length θ) (length l) && sameLetters (map kindOf θ) (drop (length l - length θ) l)) (take (length l - length θ) l)
+
+-- the resulting row's type t is the filled type
+unfoldable pub isFilled : Ty value → Option (Ty value) → Bool
+isFilled t none = false
+isFilled t (some u) = same t u
+
+-- "a target is code with no variable left"
+unfoldable pub noneLeft : CodeType → Bool
+noneLeft c = sameLetters (c .letters) []

@@ -19,8 +19,8 @@ use Rattle.types.proofs.Equal.{and-inv}
 use Rattle.tables.specs.Tables.{span, letterOf, lettersAt, rowsIn}
 use Rattle.tables.proofs.Steps.{span-step}
 use Rattle.valid.specs.Program.{Program, typeOf, argsOf}
-use Rattle.valid.specs.Tests.{isFormed, formedArg, formedArgs}
-use Rattle.valid.specs.PassThree.{formed, lettersLeft}
+use Rattle.valid.specs.Tests.{isFormed, formedArg, formedArgs, lettersLeft}
+use Rattle.valid.specs.PassThree.{formed}
 use Rattle.types_rows.specs.Read.{tab, meanV, meanS, valueAt, valueWith, buildV, isStackAt, argOf}
 use Rattle.types_rows.specs.declared.Val.the-variants.{ValVar, Junk}
 use Rattle.types_rows.proofs.Laws.{value-is}
@@ -307,11 +307,11 @@ module _ (rows parts : List ℕ) (n : ℕ) (args : List ℕ) (p k : ℕ) (below 
   abbrev A : List Arg
   A = map (λ x. getD (typesIn rows parts n) x (arg value junk)) args
 
-  pub left-few : (P : Program) (Δ : List Kind) → k < length args → lettersLeft P Δ A (lettersAt parts p) ≡ none
+  pub left-few : (P : Program) (Δ : List Kind) → k < length args → lettersLeft A (lettersAt parts p) ≡ none
   unfolding lettersLeft
   left-few P Δ l = let a = length-map args (λ x. getD (typesIn rows parts n) x (arg value junk)) in let m = length-letters in rw (lt-leb (length A) (length (lettersAt parts p)) (omega arith))
 
-  pub left-is : (P : Program) (Δ : List Kind) (v : Bool) → length args ≤ k → sameLetters (map kindOf A) (drop (k - length args) (lettersAt parts p)) ≡ v → lettersLeft P Δ A (lettersAt parts p) ≡ guarded v (take (length (lettersAt parts p) - length args) (lettersAt parts p))
+  pub left-is : (P : Program) (Δ : List Kind) (v : Bool) → length args ≤ k → sameLetters (map kindOf A) (drop (k - length args) (lettersAt parts p)) ≡ v → lettersLeft A (lettersAt parts p) ≡ guarded v (take (length (lettersAt parts p) - length args) (lettersAt parts p))
   unfolding lettersLeft
   left-is P Δ v l e =
       let a = length-map args (λ x. getD (typesIn rows parts n) x (arg value junk)) in

@@ -10,8 +10,8 @@ use Rattle.syntax.specs.Fault.{Fault, numberOf}
 use Rattle.types.specs.Types.{Ty, int, Arg, filled}
 use Rattle.types.specs.Rows.{typeAt}
 use Rattle.valid.specs.Program.{Program, typeOf, argsOf, CodeType, asCode}
-use Rattle.valid.specs.Tests.{itemAt, formedArgs}
-use Rattle.valid.specs.PassThree.{Judged, _▹_, orFault, need, formed, base, lettersLeft, isFilled, applied, operand}
+use Rattle.valid.specs.Tests.{itemAt, formedArgs, lettersLeft, isFilled}
+use Rattle.valid.specs.PassThree.{Judged, _▹_, orFault, need, formed, base, applied, operand}
 use Rattle.valid_context.specs.Context.{linked}
 use Rattle.syntax.proofs.Least.{least}
 use Rattle.valid_context.specs.Told.{toldOf, answer}
@@ -31,10 +31,10 @@ module _ (P : Program) (Δ : List Kind) (g : Ty stack) where
   -- ---- operands
   module _ (unequal : Fault) (b : Base) (A : List Arg) (t : ℕ) where
     filling : CodeType → List Kind → Judged (Unit {0})
-    filling c q = need unequal (isFilled P Δ (typeOf P t) (filled A q (c .sp) (c .regs)))
+    filling c q = need unequal (isFilled (typeOf P t) (filled A q (c .sp) (c .regs)))
 
     fitting : CodeType → Judged (Unit {0})
-    fitting c = orFault 14 (lettersLeft P Δ A (c .letters)) ▹ filling c
+    fitting c = orFault 14 (lettersLeft A (c .letters)) ▹ filling c
 
     carrying : Ty value → Judged (Unit {0})
     carrying u = orFault 9 (asCode u) ▹ fitting
@@ -49,13 +49,13 @@ module _ (P : Program) (Δ : List Kind) (g : Ty stack) where
     unfolding applied filling fitting carrying
     applied-plain f u p z e = told-next _ carrying f 9 u tt p z (rw e (told-stop {A = CodeType} (orFault 9 none) fitting 9 (record { letters = []; sp = g; regs = g }) tt (told-none 8 _) (omega arith)))
 
-    pub applied-letters : (f : ℕ) (u : Ty value) (c : CodeType) → toldOf (base P Δ g b) ≡ answer f u → f ≡ 0 → asCode u ≡ some c → lettersLeft P Δ A (c .letters) ≡ none → toldOf (applied P Δ unequal g b A t) ≡ answer 14 tt
+    pub applied-letters : (f : ℕ) (u : Ty value) (c : CodeType) → toldOf (base P Δ g b) ≡ answer f u → f ≡ 0 → asCode u ≡ some c → lettersLeft A (c .letters) ≡ none → toldOf (applied P Δ unequal g b A t) ≡ answer 14 tt
     unfolding applied filling fitting carrying
     applied-letters f u c p z e l =
         told-next _ carrying f 14 u tt p z (rw e (told-next (orFault 9 (some c)) fitting 0 14 c tt (told-some 9 c) refl (rw l (told-stop {A = List Kind} (orFault 14 none) (filling c) 14 [] tt (told-none 13 []) (omega arith)))))
 
-    pub applied-told : (f : ℕ) (u : Ty value) (c : CodeType) (q : List Kind) (v : Bool) → numberOf unequal ≡ 10 → toldOf (base P Δ g b) ≡ answer f u → f ≡ 0 → asCode u ≡ some c → lettersLeft P Δ A (c .letters) ≡ some q
-        → v ≡ isFilled P Δ (typeOf P t) (filled A q (c .sp) (c .regs)) → toldOf (applied P Δ unequal g b A t) ≡ answer (cond v 0 10) tt
+    pub applied-told : (f : ℕ) (u : Ty value) (c : CodeType) (q : List Kind) (v : Bool) → numberOf unequal ≡ 10 → toldOf (base P Δ g b) ≡ answer f u → f ≡ 0 → asCode u ≡ some c → lettersLeft A (c .letters) ≡ some q
+        → v ≡ isFilled (typeOf P t) (filled A q (c .sp) (c .regs)) → toldOf (applied P Δ unequal g b A t) ≡ answer (cond v 0 10) tt
     unfolding applied filling fitting carrying
     applied-told f u c q v n p z e l i =
         told-next _ carrying f (cond v 0 10) u tt p z (rw e (told-next (orFault 9 (some c)) fitting 0 (cond v 0 10) c tt (told-some 9 c) refl

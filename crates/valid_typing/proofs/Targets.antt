@@ -12,7 +12,8 @@ use Rattle.types.specs.Types.{Ty, nil, push, svar, gap}
 use Rattle.types.specs.Equal.{same}
 use Rattle.valid.specs.Program.{Program, CodeType, asCode}
 use Rattle.valid.specs.Rules.{Context}
-use Rattle.valid.specs.PassThree.{Judged, holds, faultsOf, _▹_, _&_, orFault, need, noneOf, operand, unfits, noneLeft, targetOf}
+use Rattle.valid.specs.PassThree.{Judged, holds, faultsOf, _▹_, _&_, orFault, need, noneOf, operand, unfits, targetOf}
+use Rattle.valid.specs.Tests.{noneLeft}
 use Rattle.syntax.proofs.Least.{least}
 use Rattle.valid_context.specs.Told.{lacks, toldOf, answer}
 use Rattle.valid_context.proofs.Told.{told-and, told-stop, told-some, told-none, told-need}
@@ -94,7 +95,7 @@ module _ (P : Program) (Δ : List Kind) where
     matching c = (need (unfit 0) (same (c .sp) (Γ .sp)) & noneOf (unfits P Δ 1 (c .regs) (Γ .regs))) ▹ λ y. holds tt
 
     closing : CodeType → Judged (Unit {0})
-    closing c = need (fault 9) (noneLeft P Δ c) ▹ λ z. matching c
+    closing c = need (fault 9) (noneLeft c) ▹ λ z. matching c
 
     aiming : Ty value → Judged (Unit {0})
     aiming u = orFault 9 (asCode u) ▹ closing
@@ -120,12 +121,12 @@ module _ (P : Program) (Δ : List Kind) where
         to-code n h = told-next _ aiming f n u tt p z (rw e (told-next (orFault 9 (some c)) closing 0 n c tt (told-some 9 c) refl h))
 
         -- variables are left
-        pub target-open : noneLeft P Δ c ≡ false → toldOf (targetOf P Δ Γ v) ≡ answer 9 tt
-        target-open o = to-code 9 (unfold closing in told-stop (need (fault 9) (noneLeft P Δ c)) (λ z. matching c) 9 tt tt (needs 8 _ false (sym o)) (omega arith))
+        pub target-open : noneLeft c ≡ false → toldOf (targetOf P Δ Γ v) ≡ answer 9 tt
+        target-open o = to-code 9 (unfold closing in told-stop (need (fault 9) (noneLeft c)) (λ z. matching c) 9 tt tt (needs 8 _ false (sym o)) (omega arith))
 
-        module _ (o : noneLeft P Δ c ≡ true) where
+        module _ (o : noneLeft c ≡ true) where
           to-match : (n : ℕ) → toldOf (matching c) ≡ answer n tt → toldOf (targetOf P Δ Γ v) ≡ answer n tt
-          to-match n h = to-code n (unfold closing in told-next (need (fault 9) (noneLeft P Δ c)) (λ z. matching c) 0 n tt tt (needs 8 _ true (sym o)) refl h)
+          to-match n h = to-code n (unfold closing in told-next (need (fault 9) (noneLeft c)) (λ z. matching c) 0 n tt tt (needs 8 _ true (sym o)) refl h)
 
           sp-told : (b : Bool) → b ≡ same (c .sp) (Γ .sp) → toldOf (need (unfit 0) (same (c .sp) (Γ .sp))) ≡ answer (cond b 0 10) tt
           sp-told b s = rw s (told-need (unfit 0) (same (c .sp) (Γ .sp)) 9 (unfold numberOf in refl))
@@ -147,7 +148,7 @@ module _ (P : Program) (Δ : List Kind) where
 
           to-item : {i : ℕ} → List·Memᴰ i (itemsIn (need (unfit 0) (same (c .sp) (Γ .sp)) & noneOf (unfits P Δ 1 (c .regs) (Γ .regs)))) → List·Memᴰ i (itemsIn (targetOf P Δ Γ v))
           unfolding targetOf aiming closing matching
-          to-item h = item-after _ aiming f u p z (rw e (item-after (orFault 9 (some c)) closing 0 c (told-some 9 c) refl (item-after (need (fault 9) (noneLeft P Δ c)) (λ z. matching c) 0 tt (needs 8 _ true (sym o)) refl (item-then _ (λ y. holds tt) h))))
+          to-item h = item-after _ aiming f u p z (rw e (item-after (orFault 9 (some c)) closing 0 c (told-some 9 c) refl (item-after (need (fault 9) (noneLeft c)) (λ z. matching c) 0 tt (needs 8 _ true (sym o)) refl (item-then _ (λ y. holds tt) h))))
 
           pub target-sp-item : same (c .sp) (Γ .sp) ≡ false → List·Memᴰ 0 (itemsIn (targetOf P Δ Γ v))
           target-sp-item s = to-item (item-before _ _ (rw s (unfold need faultsOf itemsOf in List·Memᴰ·head refl)))

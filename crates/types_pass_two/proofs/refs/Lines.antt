@@ -11,7 +11,8 @@ use borrow.Author.Tests.{ltb-true, ltb-false, ne-eqb}
 use Rattle.syntax.specs.Syntax.{Row, Instr, Entry, row, block, instr}
 use Rattle.syntax.specs.Fault.{Fault, given, Pass, Refusal, itemsOf, lowestLine, orElse}
 use Rattle.syntax.proofs.Least.{leastOf, Numbered, numbered-given, numbered-append, items-given, items-append, line-next, line-here, line-append}
-use Rattle.text.specs.PassOne.{Listing, blocksEntries, entriesIn}
+use Rattle.text.specs.PassOne.{Listing}
+use Rattle.text.specs.Entries.{blocksEntries, entriesIn}
 use Rattle.tables.specs.Tables.{cell, RowTable, rowsIn, OperandTable, instrAt, instrsFrom, blocksFrom}
 use Rattle.tables.proofs.Steps.{length-instrs, length-rows, instrs-step, endOf, end-inner, blocks-step}
 use Rattle.types.specs.Rows.{Ref, ref, valueRow, codeRow, operandsRefs, labels, names, allBelow, refsFaults, rowsFaults, instrFaults, entriesFaults, passTwo}

@@ -6,7 +6,7 @@ use mathlib.Core.Option.{Option, none, some}
 use mathlib.Core.List.{List, []}
 use lib.Dec.{eqb}
 use Rattle.syntax.specs.Fault.{Pass, Refusal}
-use Rattle.text.specs.PassOne.{entriesIn}
+use Rattle.text.specs.Entries.{entriesIn}
 use Rattle.tables.specs.Tables.{cell, RowTable, rowsIn, OperandTable, blocksFrom}
 use Rattle.types.specs.Rows.{entriesFaults}
 use Rattle.types_pass_two.specs.declared.refs.Found.{Found}

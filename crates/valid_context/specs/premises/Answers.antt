@@ -11,14 +11,15 @@ use Rattle.syntax.specs.Fault.{Fault, itemsOf}
 use Rattle.types.specs.Rows.{typeAt, typesOf}
 use Rattle.tables.specs.Tables.{cell, RowTable, rowsIn}
 use Rattle.valid.specs.Program.{Program}
-use Rattle.valid.specs.PassThree.{Judged, faultsOf, labelType}
+use Rattle.valid.specs.PassThree.{Judged, faultsOf}
+use Rattle.valid.specs.Tests.{labelType}
 use Rattle.valid_context.specs.Told.{toldOf, answer}
 
 -- P's types are those of the first n rows; its labels are the first nb blocks, and each has the type of its block's row (pass two has
 -- seen that this is a code row)
 pub record Holds (τ : RowTable) (n : ℕ) (β : List ℕ) (nb : ℕ) (P : Program) : Type 0 where
   pub types : P .types ≡ typesOf (rowsIn τ n)
-  pub labels : (Δ : List Kind) (l : ℕ) → labelType P Δ (getElem? (P .blocks) l) ≡ guarded (ltb l nb) (typeAt value (P .types) (cell 2 β l 0))
+  pub labels : (Δ : List Kind) (l : ℕ) → labelType (getElem? (P .blocks) l) ≡ guarded (ltb l nb) (typeAt value (P .types) (cell 2 β l 0))
 
 -- ---- items
 -- i is one of the list

@@ -10,7 +10,8 @@ use Rattle.types.specs.Types.{Ty, int, nil, push, svar, gap, items, Arg}
 use Rattle.types.specs.Equal.{same}
 use Rattle.valid.specs.Program.{Program, argsOf, asCode}
 use Rattle.valid.specs.Rules.{Context}
-use Rattle.valid.specs.PassThree.{Judged, holds, fails, faultsOf, _▹_, _&_, orFault, need, noneOf, lettersLeft, formed, known, integerAt, tupleAt, pointerAt, assign, base, applied, operand, operands, unfits, targetOf, newTail, judge}
+use Rattle.valid.specs.PassThree.{Judged, holds, fails, faultsOf, _▹_, _&_, orFault, need, noneOf, formed, known, integerAt, tupleAt, pointerAt, assign, base, applied, operand, operands, unfits, targetOf, newTail, judge}
+use Rattle.valid.specs.Tests.{lettersLeft}
 use Rattle.valid_context.specs.premises.Answers.{In, first, later}
 use Rattle.valid_verdict.proofs.finding.Laws.{in-some}
 
@@ -108,7 +109,7 @@ module _ (P : Program) (Δ : List Kind) where
   module _ (f : Fault) (h : Low (f ∷ [])) where
     applied-low : (g : Ty stack) (b : Base) (A : List Arg) (t : ℕ) → Low (faultsOf (applied P Δ f g b A t))
     unfolding applied
-    applied-low g b A t = then (base P Δ g b) _ (base-low g b) (λ u. then (orFault 9 (asCode u)) _ (or-low 9 _) (λ c. then (orFault 14 (lettersLeft P Δ A (c .letters))) _ (or-low 14 _) (λ q. need-low f _ h)))
+    applied-low g b A t = then (base P Δ g b) _ (base-low g b) (λ u. then (orFault 9 (asCode u)) _ (or-low 9 _) (λ c. then (orFault 14 (lettersLeft A (c .letters))) _ (or-low 14 _) (λ q. need-low f _ h)))
 
     operand-low : (g : Ty stack) (v : Operand) → Low (faultsOf (operand P Δ f g v))
     unfolding operand

@@ -17,8 +17,8 @@ use Rattle.types.specs.Equal.{sameLetters}
 use Rattle.types.proofs.Equal.{and-inv}
 use Rattle.tables.specs.Tables.{OperandTable, cell, span, letterOf, baseOf, operandOf, operandAt, rowsIn}
 use Rattle.valid.specs.Program.{Program, typeOf, argsOf, CodeType, asCode}
-use Rattle.valid.specs.Tests.{formedArg, formedArgs}
-use Rattle.valid.specs.PassThree.{formed, lettersLeft, isFilled, base, applied, operand}
+use Rattle.valid.specs.Tests.{formedArg, formedArgs, lettersLeft, isFilled}
+use Rattle.valid.specs.PassThree.{formed, base, applied, operand}
 use Rattle.valid.proofs.Reading.{formed-sound}
 use Rattle.types_rows.specs.Read.{tab, argOf}
 use Rattle.types_rows.proofs.Bridge.{arg-is, arg-at, type-in}
@@ -65,18 +65,18 @@ when-some true x q e = (refl, cc)
 when-some false x q e = let z : _≡_ {A = ℕ} 0 1 = cc in absurd (omega arith)
 
 module _ (P : Program) (Δ : List Kind) where
-  left-is : (A : List Arg) (l q : List Kind) → lettersLeft P Δ A l ≡ some q → (leb (length A) (length l) ≡ true) × (take (length l - length A) l ≡ q)
+  left-is : (A : List Arg) (l q : List Kind) → lettersLeft A l ≡ some q → (leb (length A) (length l) ≡ true) × (take (length l - length A) l ≡ q)
   unfolding lettersLeft
   left-is A l q e =
       let h = when-some (leb (length A) (length l) && sameLetters (map kindOf A) (drop (length l - length A) l)) (take (length l - length A) l) q e in
       (and-inv (leb (length A) (length l)) (sameLetters (map kindOf A) (drop (length l - length A) l)) (h .0) .0, h .1)
 
-  full-is : (t : Ty value) (o : Option (Ty value)) → isFull t o ≡ isFilled P Δ t o
+  full-is : (t : Ty value) (o : Option (Ty value)) → isFull t o ≡ isFilled t o
   unfolding isFull isFilled
   full-is t none = refl
   full-is t (some u) = refl
 
-  code-fills : (A : List Arg) (u w : Ty value) (c : CodeType) (q : List Kind) → asCode u ≡ some c → lettersLeft P Δ A (c .letters) ≡ some q → fillsTo A u w ≡ isFilled P Δ w (filled A q (c .sp) (c .regs))
+  code-fills : (A : List Arg) (u w : Ty value) (c : CodeType) (q : List Kind) → asCode u ≡ some c → lettersLeft A (c .letters) ≡ some q → fillsTo A u w ≡ isFilled w (filled A q (c .sp) (c .regs))
   code-fills A u w c q e l =
       let h = left-is A (c .letters) q l in
       let s : fillsTo A (code (c .letters) (c .sp) (c .regs)) w ≡ isFull w (filled A q (c .sp) (c .regs)) = unfold fillsTo in rw (h .0, h .1) refl in
@@ -88,10 +88,10 @@ module _ (P : Program) (Δ : List Kind) where
     given-of t w e = given-typed rows parts n P Δ t types (givenRow n t) (given-is rows parts n t r) ∙ ap (typeAt value (typesIn rows parts n)) (sym e)
 
     pub filled-told : (g : Ty stack) (f : Fault) (b : Base) (A : List Arg) (t k w : ℕ) (u : Ty value) (c : CodeType) (q : List Kind) (v : Bool) {o : Bool} → numberOf f ≡ 10 → toldOf (base P Δ g b) ≡ answer k u → k ≡ 0 → asCode u ≡ some c
-        → lettersLeft P Δ A (c .letters) ≡ some q → w ≡ givenRow n t → o ≡ fillsTo A u (typeAt value (typesIn rows parts n) w) → o ≡ v → toldOf (applied P Δ f g b A t) ≡ answer (cond v 0 10) tt
+        → lettersLeft A (c .letters) ≡ some q → w ≡ givenRow n t → o ≡ fillsTo A u (typeAt value (typesIn rows parts n) w) → o ≡ v → toldOf (applied P Δ f g b A t) ≡ answer (cond v 0 10) tt
     filled-told g f b A t k w u c q v nf p z e l d h s =
         applied-told P Δ g f b A t k u c q v nf p z e l
-        (sym s ∙ h ∙ code-fills A u (typeAt value (typesIn rows parts n) w) c q e l ∙ ap (λ (y : Ty value). isFilled P Δ y (filled A q (c .sp) (c .regs))) (sym (given-of t w d)))
+        (sym s ∙ h ∙ code-fills A u (typeAt value (typesIn rows parts n) w) c q e l ∙ ap (λ (y : Ty value). isFilled y (filled A q (c .sp) (c .regs))) (sym (given-of t w d)))
 
     -- with its arguments in the order of their variables
     pub inst-told : (g : Ty stack) (f : Fault) (b : Base) (ts l : List ℕ) (t h k : ℕ) (v : Bool) → l ≡ reverse (map (givenRow n) ts) → v ≡ formedArgs Δ (argsIn rows parts n ts) → toldOf (formed P Δ t) ≡ answer h tt

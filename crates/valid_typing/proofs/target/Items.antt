@@ -14,7 +14,8 @@ use Rattle.types.specs.Types.{Ty}
 use Rattle.types.specs.Equal.{same, sameLetters}
 use Rattle.valid.specs.Program.{Program, CodeType, asCode}
 use Rattle.valid.specs.Rules.{Context}
-use Rattle.valid.specs.PassThree.{Judged, operand, unfits, noneLeft, targetOf}
+use Rattle.valid.specs.PassThree.{Judged, operand, unfits, targetOf}
+use Rattle.valid.specs.Tests.{noneLeft}
 use Rattle.valid_context.specs.Told.{toldOf, answer}
 use Rattle.valid_context.specs.premises.Answers.{In, first, later, ItemIs, Answered}
 use Rattle.valid_typing.proofs.Items.{itemsIn}
@@ -65,7 +66,7 @@ module _ (P : Program) (Δ : List Kind) (Γ : Context) (v : Operand) (k : ℕ) (
       still-open o = answered-none (targetOf P Δ Γ v) 9 (target-open P Δ Γ v k u p z c e (unfold noneLeft in o)) (λ q. absurd (omega arith))
 
       module _ (o : sameLetters (c .letters) [] ≡ true) where
-        abbrev closed : noneLeft P Δ c ≡ true
+        abbrev closed : noneLeft c ≡ true
         closed = unfold noneLeft in o
 
         pub sp-differs : {b : Bool} → b ≡ same (c .sp) (Γ .sp) → b ≡ false → Answered (targetOf P Δ Γ v) 10 tt 0

@@ -4,7 +4,7 @@ use Prim.Native.Nat.{ℕ, _+_, _-_}
 use mathlib.Core.Path.{_≡_, refl, sym, _∙_}
 use mathlib.Core.List.{List, []}
 use Rattle.syntax.specs.Fault.{lowestLine}
-use Rattle.text.specs.PassOne.{entriesIn}
+use Rattle.text.specs.Entries.{entriesIn}
 use Rattle.tables.specs.Tables.{rowsIn, blocksFrom}
 use Rattle.types.specs.Rows.{entriesFaults}
 use Rattle.types_rows.specs.Read.{tab}
