@@ -4,21 +4,13 @@ use Prim.Native.Nat.{ℕ, zero, suc}
 use mathlib.Core.Path.{_≡_, refl}
 use Rattle.valid.specs.Program.{Program}
 use Rattle.valid.specs.Rules.{Typed}
-use Rattle.exec.specs.Machine.{Word, at, State, halted, stackFull, heapFull, stuck, Result, go, stop, step}
-use Rattle.exec.specs.Run.{End, paused, stopped, Ran, ended, after, runs, run, stepsOf, Outcome, answerOf, outcome, bodies}
+use Rattle.exec.specs.Machine.{at, State, halted, stackFull, heapFull, stuck, Result, go, stop, step}
+use Rattle.exec.specs.Run.{End, paused, stopped, Ran, ended, after, runs, run, Outcome, answerOf, outcome, bodies}
+use Rattle.exec.proofs.Steps.{steps-are}
 use Rattle.sound.specs.Claim.{Witness, Picks, Makes, Walk, here, onward, Ends, Runs}
 use Rattle.sound.proofs.Parts.{SmallTypes}
 use Rattle.sound.proofs.Invariant.{Inv, inv-typed}
 use Rattle.sound.proofs.Step.{Safe, safe}
-
--- the answer counts the steps made
-steps-are : (e : End) (n : ℕ) (w : Word) → stepsOf (answerOf e n w) ≡ n
-unfolding stepsOf answerOf
-steps-are paused n w = refl
-steps-are (stopped halted) n w = refl
-steps-are (stopped stackFull) n w = refl
-steps-are (stopped heapFull) n w = refl
-steps-are (stopped stuck) n w = refl
 
 module _ (P : Program) (T : Typed P) (small : SmallTypes P) where
   -- what a run from σ comes to; r1's word is told where it halts

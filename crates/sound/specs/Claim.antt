@@ -60,21 +60,14 @@ pub record TypedState (P : Program) (σ : State) (ω : Witness) : Type 0 where
 pub data Picks (P : Program) (σ : State) (ω ω′ : Witness) : Type 0 where
   kept : ω′ .l ≡ ω .l → ω′ .i ≡ suc (ω .i) → ω′ .Θ ≡ ω .Θ → Picks P σ ω ω′
   jumped : (v : Operand) → fetch (bodies P) σ ≡ some (jmp v) → wordOf (σ .registers) v ≡ label (ω′ .l) → ω′ .i ≡ 0 → Picks P σ ω ω′
-  branched : (o : Branch) (r : ℕ) (v : Operand)
-      → fetch (bodies P) σ ≡ some (bop o r v)
-      → taken o (signOf (at (σ .registers) r .number)) ≡ true
-      → wordOf (σ .registers) v ≡ label (ω′ .l)
-      → ω′ .i ≡ 0
-      → Picks P σ ω ω′
+  branched : (o : Branch) (r : ℕ) (v : Operand) → fetch (bodies P) σ ≡ some (bop o r v) → taken o (signOf (at (σ .registers) r .number)) ≡ true
+      → wordOf (σ .registers) v ≡ label (ω′ .l) → ω′ .i ≡ 0 → Picks P σ ω ω′
 
 -- "a heap tuple the type it was made with": only `malloc d,t,..` makes one, with t filled as the picks are then
 pub data Makes (P : Program) (σ : State) (ω ω′ : Witness) : Type 0 where
   none-made : ω′ .Ψ ≡ ω .Ψ → Makes P σ ω ω′
-  one-made : (d t : ℕ) (vs : List Operand) (c : Ty stack)
-      → fetch (bodies P) σ ≡ some (malloc d t vs)
-      → fill 0 (ω .Θ) (typeOf P t) ≡ tuple c
-      → ω′ .Ψ ≡ ω .Ψ ++ c ∷ []
-      → Makes P σ ω ω′
+  one-made : (d t : ℕ) (vs : List Operand) (c : Ty stack) → fetch (bodies P) σ ≡ some (malloc d t vs)
+      → fill 0 (ω .Θ) (typeOf P t) ≡ tuple c → ω′ .Ψ ≡ ω .Ψ ++ c ∷ [] → Makes P σ ω ω′
 
 -- "After each call and each step": n steps from σ, each state on the way well typed; "no state reached is stuck"
 pub data Walk (P : Program) : State → Witness → ℕ → State → Witness → Type 0 where
@@ -82,8 +75,7 @@ pub data Walk (P : Program) : State → Witness → ℕ → State → Witness �
   onward : {σ σ′ σ″ : State} {ω ω′ ω″ : Witness} {n : ℕ}
       → TypedState P σ ω
       → step (bodies P) σ ≡ go σ′
-      → Picks P σ ω ω′
-      → Makes P σ ω ω′
+      → Picks P σ ω ω′ → Makes P σ ω ω′
       → Walk P σ′ ω′ n σ″ ω″
       → Walk P σ ω (suc n) σ″ ω″
 
