@@ -20,7 +20,7 @@ use Rattle.exec.specs.Run.{Answer, refused, haltedAfter, pausedAfter, stackFull
 use Rattle.exec.specs.Steps.{iterate}
 use Rattle.sound.specs.Values.{Label, Has}
 use Rattle.sound.specs.Claim.{Witness, TypedState, Walk, here, onward, Ends, Starts, Call, starts, Story, ended, start-refused, started, continued, Demand3}
-use Rattle.sound.specs.Consequences.{outcomeOf, Each, Reached, in-start, in-continue, in-later, Lists, Sound, NeverStuck, HaltsWithIntegers, Weighs, AlwaysIntegers, AsTyped, ReachedAsTyped}
+use Rattle.sound.specs.Consequences.{outcomeOf, Each, Reached, in-start, in-continue, in-later, Premises, Sound, NeverStuck, HaltsWithIntegers, Weighs, AlwaysIntegers, AsTyped, ReachedAsTyped}
 use Rattle.sound.proofs.Memory.{use-length, use-at, top-length, top-at}
 use Rattle.sound.proofs.Words.{fits-at, walk-at}
 use Rattle.sound.proofs.Heaps.{heap-read}
@@ -120,7 +120,7 @@ module _ (text : List ℕ) (Q : Call → Answer → Type 0) (of-end : (σ : Stat
   each (started {samples} {m} {σ = σ} {ω′ = ω′} x s) = (of-end (starting text samples m σ .state) ω′ _ _ (x .runs .end), each s)
   each (continued {m} {σ = σ} {ω′ = ω′} x s) = (of-end (continuing text m σ .state) ω′ _ _ (x .end), each s)
 
-  each-of : Demand3 → (samples : List ℕ) (m : ℕ) (σ : State) → Lists text samples m σ → (cs : List Call) → Each Q text (starts samples m ∷ cs) σ
+  each-of : Demand3 → (samples : List ℕ) (m : ℕ) (σ : State) → Premises text samples m σ → (cs : List Call) → Each Q text (starts samples m ∷ cs) σ
   unfolding outcomeOf
   each-of d samples m σ p cs =
       let s = d text (p .blocks) (p .instructions) (p .accepts) samples m σ (p .runs) cs in

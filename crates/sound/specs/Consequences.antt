@@ -42,8 +42,8 @@ pub data Reached (text : List ℕ) : List Call → State → State → Type 0 wh
       → Reached text (continues m ∷ cs) σ σ′
   in-later : {c : Call} {cs : List Call} {σ σ′ : State} → Reached text cs (outcomeOf text c σ .state) σ′ → Reached text (c ∷ cs) σ σ′
 
--- the lists that demand 3 is about: of an accepted text, the first call a starting that is not refused
-pub record Lists (text samples : List ℕ) (m : ℕ) (σ : State) : Type 0 where
+-- the premises of demand 3: the text is accepted, and the first call of the list is a starting of it that is not refused
+pub record Premises (text samples : List ℕ) (m : ℕ) (σ : State) : Type 0 where
   pub blocks : ℕ
   pub instructions : ℕ
   pub accepts : check text ≡ accepted blocks instructions
@@ -61,7 +61,7 @@ Sound c (heapFullAfter n) = Unit
 Sound c (stuckAfter n) = ⊥
 
 abbrev pub NeverStuck : Type 0
-NeverStuck = (text samples : List ℕ) (m : ℕ) (σ : State) → Lists text samples m σ → (cs : List Call) → Each Sound text (starts samples m ∷ cs) σ
+NeverStuck = (text samples : List ℕ) (m : ℕ) (σ : State) → Premises text samples m σ → (cs : List Call) → Each Sound text (starts samples m ∷ cs) σ
 
 -- every `halt` of the text names a row of type `I`
 abbrev pub HaltsWithIntegers : List ℕ → Type 0
@@ -78,7 +78,7 @@ Weighs c (stuckAfter n) = Unit
 
 -- then every halted answer tells an integer: no return address is ever read as a weight
 abbrev pub AlwaysIntegers : Type 0
-AlwaysIntegers = (text samples : List ℕ) (m : ℕ) (σ : State) → Lists text samples m σ → HaltsWithIntegers text → (cs : List Call) → Each Weighs text (starts samples m ∷ cs) σ
+AlwaysIntegers = (text samples : List ℕ) (m : ℕ) (σ : State) → Premises text samples m σ → HaltsWithIntegers text → (cs : List Call) → Each Weighs text (starts samples m ∷ cs) σ
 
 -- ---- states
 -- in the state σ what the rules call an integer is one, wherever it stands; so are labels, and pointers to the whole stack
@@ -99,5 +99,5 @@ pub record AsTyped (P : Program) (σ : State) : Type 0 where
 -- no state reached is stuck, and each is as the rules say
 abbrev pub ReachedAsTyped : Type 0
 ReachedAsTyped =
-    (text samples : List ℕ) (m : ℕ) (σ : State) → Lists text samples m σ → (cs : List Call) (σ′ : State) → Reached text (starts samples m ∷ cs) σ σ′
+    (text samples : List ℕ) (m : ℕ) (σ : State) → Premises text samples m σ → (cs : List Call) (σ′ : State) → Reached text (starts samples m ∷ cs) σ σ′
     → ¬ (step (bodies (programOf text)) σ′ ≡ stop stuck) × AsTyped (programOf text) σ′

@@ -8,7 +8,7 @@ use Rattle.types.specs.Types.{Ty, items}
 use Rattle.types.proofs.Filling.{items-join}
 use Rattle.valid.specs.Program.{Block, Program}
 use Rattle.valid.specs.Rules.{Put, phere, pnew, pthere, pskip, Pops, pop0, pop1, Context, Rule, ⊢aop, ⊢bop, ⊢mov, ⊢ld, ⊢st, ⊢malloc, ⊢get-sp, ⊢set-sp, ⊢salloc, ⊢sfree, ⊢sld1, ⊢sld2, ⊢sst1, ⊢sst2, start, next, Code}
-use Rattle.valid.specs.Answers.{SpWithin}
+use Rattle.valid.specs.Claims.{SpWithin}
 
 -- an item for another leaves as many
 put-items : {a b : Ty stack} {i : ℕ} {t : Ty value} → Put a i t b → items b ≡ items a

@@ -11,7 +11,7 @@ use Rattle.text.specs.PassOne.{passOne, entriesOf, rowsOf, listingsOf}
 use Rattle.valid.specs.Program.{programOf}
 use Rattle.valid.specs.PassThree.{passThree}
 use Rattle.valid.specs.Verdict.{accepted, refused, passTwoOf, passes, check}
-use Rattle.valid.specs.Answers.{Accepts, Decides, one-decides, two-decides, three-decides}
+use Rattle.valid.specs.Claims.{Accepts, Decides, one-decides, two-decides, three-decides}
 use Rattle.valid.proofs.Reading.{none-some}
 use Rattle.valid.proofs.Clear.{line-clear, clear-line}
 use Rattle.valid.proofs.Accept.{accepts, refuses, accepted-typed, typed-accepted, typed-pass}

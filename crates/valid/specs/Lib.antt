@@ -3,5 +3,5 @@ pub mod Rules
 pub mod Tests
 pub mod PassThree
 pub mod Verdict
-pub mod Answers
+pub mod Claims
 pub mod FirstFault
