@@ -1,5 +1,5 @@
 -- What row r of a table of rows means: the meaning of its form, read in the table of the types of all rows. The inductions over the rows
--- stay here: callers cite `type-is`, `type-more` and `length-types`; `type-at` for a row read at its own kind; `rows-clear` for the premise.
+-- stay here and in InTurn.antt: callers cite `type-is`, `type-more` and `length-types`; `type-at` for a row read at its own kind; `rows-clear` for the premise.
 use Prim.Native.Nat.{ℕ, zero, suc, _+_, _<_}
 use native.Mathlib.Nat.{add-zero, zero-add, not-suc-le-zero, le-of-suc-le-suc}
 use native.Mathlib.Omega.{arith}

@@ -10,7 +10,7 @@ use Rattle.syntax.specs.Fault.{Fault, given, Pass}
 use Rattle.types.specs.Types.{Ty, int, junk, var, tuple, pointer, code, nil, push, svar, gap, join, Arg, arg, ofKind}
 
 -- ---- what rows mean, each by the rows before it
--- what f says of each row, by what it said of the rows before it
+-- what f says of each row, by what it said of the rows before it: `before`, which stands in front
 unfoldable pub inTurn : {A : Type 0} → (List A → Row → A) → List A → List Row → List A
 inTurn f before [] = before
 inTurn f before (r ∷ rs) = inTurn f (before ++ f before r ∷ []) rs
@@ -204,7 +204,7 @@ sizesOf rows = inTurn sizeOf [] rows
 unfoldable pub refsFaults : List Row → List Ref → List Fault
 refsFaults rows rs = given (not (allBelow (length rows) (rowsIn rs))) 4 ++ given (not (allOfSort rows rs)) 5
 
--- the faults of r, which is row n: "row does not exist, or row not lower", its sort, "size over 4,096"
+-- the faults of r, which is row n, by the rows before it: "row does not exist, or row not lower", its sort; "size over 4,096"
 unfoldable pub rowFaults : List Row → ℕ → Row → List Fault
 rowFaults rows n r = refsFaults (take n rows) (rowRefs r) ++ given (ltb 4096 (getD (sizesOf rows) n 0)) 6
 

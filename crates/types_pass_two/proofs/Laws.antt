@@ -159,7 +159,8 @@ module _ (τ : RowTable) (n nb : ℕ) (bs : List Listing) where
       let k : eqb (f .number) 0 ≡ false = ne-eqb (f .number) 0 h in
       sym (pass-two τ n nb bs ∙ ap (λ o. orElse o (lowestLine (n + 1) (entriesFaults (rowsIn τ n) nb (entriesIn [] bs)))) (sym e) ∙ rw k refl)
 
-  pub behind-rows : (f g : Found) → refusalOf f ≡ lowestLine 1 (rowsFaults (rowsIn τ n) 0 (rowsIn τ n)) → f .number ≡ 0 → g ≡ foundOf (lowestLine (n + 1) (entriesFaults (rowsIn τ n) nb (entriesIn [] bs))) → refusalOf g ≡ lowestLine 0 (passTwo (rowsIn τ n) nb (entriesIn (rowsIn τ n) bs))
+  pub behind-rows : (f g : Found) → refusalOf f ≡ lowestLine 1 (rowsFaults (rowsIn τ n) 0 (rowsIn τ n)) → f .number ≡ 0
+      → g ≡ foundOf (lowestLine (n + 1) (entriesFaults (rowsIn τ n) nb (entriesIn [] bs))) → refusalOf g ≡ lowestLine 0 (passTwo (rowsIn τ n) nb (entriesIn (rowsIn τ n) bs))
   behind-rows f g e z q =
       let k : refusalOf f ≡ none = unfold refusalOf in rw z refl in
       ap refusalOf q ∙ sym (whole-refusal (n + 1) (rowsIn τ n) nb (entriesIn [] bs)) ∙ sym (pass-two τ n nb bs ∙ ap (λ o. orElse o (lowestLine (n + 1) (entriesFaults (rowsIn τ n) nb (entriesIn [] bs)))) (sym e ∙ k))
