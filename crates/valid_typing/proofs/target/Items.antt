@@ -7,7 +7,7 @@ use mathlib.Core.Option.{Option, none, some}
 use mathlib.Core.Logic.{_⊎_, inl, inr}
 use mathlib.Core.List.{List, [], _∷_, List·Memᴰ, List·Memᴰ·not-nil, List·Memᴰ·cases-cons}
 use borrow.Author.Tests.{ne-eqb}
-use Rattle.syntax.specs.Partial.{when}
+use Rattle.syntax.specs.Partial.{guarded}
 use Rattle.syntax.specs.Syntax.{Kind, value, Operand}
 use Rattle.syntax.specs.Fault.{unfit, numberOf}
 use Rattle.types.specs.Types.{Ty}
@@ -45,8 +45,8 @@ pub ninety-nine : numberOf (unfit 99) ≡ 10
 unfolding numberOf
 ninety-nine = refl
 
-pub when-is : {A : Type 0} {o : Option A} (b v : Bool) (x : A) → o ≡ when b x → b ≡ v → o ≡ when v x
-when-is b v x e f = e ∙ ap (λ (z : Bool). when z x) f
+pub when-is : {A : Type 0} {o : Option A} (b v : Bool) (x : A) → o ≡ guarded b x → b ≡ v → o ≡ guarded v x
+when-is b v x e f = e ∙ ap (λ (z : Bool). guarded z x) f
 
 -- ---- targets
 module _ (P : Program) (Δ : List Kind) (Γ : Context) (v : Operand) (k : ℕ) (u : Ty value) (p : toldOf (operand P Δ (unfit 99) (Γ .regs) v) ≡ answer k u) where
