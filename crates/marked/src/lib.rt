@@ -1,2 +1,3 @@
-// The cases that document 01 marks to be proved, together as one table, and the examples of its table of faults (specs/Marked.antt):
-// theorems about the definitions, by computation.
+// The cases that document 01 marks to be proved, together as one table, and the examples of its table of faults
+// (specs/Marked.antt): theorems about the definitions, by computation. And T as an instance of demand 3's premises
+// (specs/Instance.antt).
