@@ -5,7 +5,7 @@ use mathlib.Core.List.{List, [], _∷_}
 use lib.ListN.{length}
 use Rattle.exec.specs.Machine.{Bodies, flat, startOf}
 use Rattle.syntax.specs.Syntax.{Base, reg, lit, lab, Operand, plain, inst, Instr, aop, bop, mov, ld, st, malloc, getsp, setsp, salloc, sfree, sld, sst, slp, ssp, jmp, halt}
-use Rattle.tables.specs.Tables.{cell, OperandTable, instrAt, instrsFrom}
+use Rattle.tables.specs.Tables.{cell, instrAt, instrsFrom}
 use Rattle.exec_machine.specs.Step.{Tables, operandsOf}
 
 -- its instructions, with whatever type arguments; its labels, and where each leads

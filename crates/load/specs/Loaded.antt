@@ -8,7 +8,6 @@ use lib.Dec.{eqb}
 use lib.ListN.{length}
 use Rattle.syntax.specs.Fault.{Refusal, lowestLine, orElse}
 use Rattle.text.specs.PassOne.{passOne, entriesOf, rowsOf, listingsOf}
-use Rattle.types.specs.Rows.{typesOf, isCode}
 use Rattle.tables.specs.Tables.{cell, rowAt, rowsIn, instrAt, blocksFrom}
 use Rattle.types_rows.specs.Clear.{RowsClear}
 use Rattle.types_rows.specs.Read.{Counted}

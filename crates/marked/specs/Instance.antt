@@ -14,16 +14,16 @@ use Rattle.valid.proofs.Reading.{none-some, some-inj}
 use Rattle.exec.specs.Machine.{flat}
 use Rattle.exec.specs.Run.{bodies}
 use Rattle.sound.specs.Claim.{Call, starts}
-use Rattle.sound.specs.Consequences.{Each, Premises, Sound, HaltsWithIntegers, Weighs}
+use Rattle.sound.specs.Consequences.{Each, Premises, Sound, HaltsWithIntegers, TellsInteger}
 use Rattle.sound.proofs.Demand3.{never-stuck, always-integers}
 use Rattle.marked.specs.Marked.{T, fresh, marked}
 
 -- "41200" and "15600", T's samples
-abbrev pub weights : List ℕ
-weights = bytes "41200\n15600\n"
+abbrev pub t-samples : List ℕ
+t-samples = bytes "41200\n15600\n"
 
 -- T is accepted, and its starting is not refused
-pub t-premises : Premises T weights 1000000 fresh
+pub t-premises : Premises T t-samples 1000000 fresh
 t-premises = record { blocks = 1; instructions = 4; accepts = marked .t-accepted; runs = λ r. let e = sym (marked .t-run) ∙ r .2 in let z : _≡_ {A = ℕ} 0 1 = cc in absurd (omega arith) }
 
 -- what T says
@@ -53,8 +53,8 @@ t-halts p t e = by p (rw t-instrs at e)
     by (suc (suc (suc (suc p)))) f = none-some f
 
 -- so, whatever calls follow T's run, no answer is stuck, and every halted one tells an integer
-pub t-never-stuck : (cs : List Call) → Each Sound T (starts weights 1000000 ∷ cs) fresh
-t-never-stuck cs = never-stuck T weights 1000000 fresh t-premises cs
+pub t-never-stuck : (cs : List Call) → Each Sound T (starts t-samples 1000000 ∷ cs) fresh
+t-never-stuck cs = never-stuck T t-samples 1000000 fresh t-premises cs
 
-pub t-always-integers : (cs : List Call) → Each Weighs T (starts weights 1000000 ∷ cs) fresh
-t-always-integers cs = always-integers T weights 1000000 fresh t-premises t-halts cs
+pub t-always-integers : (cs : List Call) → Each TellsInteger T (starts t-samples 1000000 ∷ cs) fresh
+t-always-integers cs = always-integers T t-samples 1000000 fresh t-premises t-halts cs

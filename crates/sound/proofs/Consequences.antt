@@ -20,7 +20,7 @@ use Rattle.exec.specs.Run.{Answer, refused, haltedAfter, pausedAfter, stackFull
 use Rattle.exec.specs.Steps.{iterate}
 use Rattle.sound.specs.Values.{Label, Has}
 use Rattle.sound.specs.Claim.{Witness, TypedState, Walk, here, onward, Ends, Starts, Call, starts, Story, ended, start-refused, started, continued, Demand3}
-use Rattle.sound.specs.Consequences.{outcomeOf, Each, Reached, in-start, in-continue, in-later, Premises, Sound, NeverStuck, HaltsWithIntegers, Weighs, AlwaysIntegers, AsTyped, ReachedAsTyped}
+use Rattle.sound.specs.Consequences.{outcomeOf, Each, Reached, in-start, in-continue, in-later, Premises, Sound, NeverStuck, HaltsWithIntegers, TellsInteger, AlwaysIntegers, AsTyped, ReachedAsTyped}
 use Rattle.sound.proofs.Memory.{use-length, use-at, top-length, top-at}
 use Rattle.sound.proofs.Words.{fits-at, walk-at}
 use Rattle.sound.proofs.Heaps.{heap-read}
@@ -101,15 +101,15 @@ int-row text t e =
     let rows = rowsOf (entriesOf text) in
     rw (type-before rows t rowI (get-lt rows t rowI e), get-default rows t rowI rowI e)
 
-ends-weigh : (text : List ℕ) → HaltsWithIntegers text → (σ : State) (ω : Witness) (c : Call) (a : Answer) → Ends (programOf text) σ ω a → Weighs c a
-ends-weigh text h σ ω c (refused n line) e = tt
-ends-weigh text h σ ω c (haltedAfter n kind number) e =
+ends-integer : (text : List ℕ) → HaltsWithIntegers text → (σ : State) (ω : Witness) (c : Call) (a : Answer) → Ends (programOf text) σ ω a → TellsInteger c a
+ends-integer text h σ ω c (refused n line) e = tt
+ends-integer text h σ ω c (haltedAfter n kind number) e =
     let t = int-row text (e .t) (h (σ .position) (e .t) (unfold fetch in e .at-halt)) in
     unfold fill walk in rw t at (e .result)
-ends-weigh text h σ ω c (pausedAfter n) e = tt
-ends-weigh text h σ ω c (stackFullAfter n) e = tt
-ends-weigh text h σ ω c (heapFullAfter n) e = tt
-ends-weigh text h σ ω c (stuckAfter n) e = tt
+ends-integer text h σ ω c (pausedAfter n) e = tt
+ends-integer text h σ ω c (stackFullAfter n) e = tt
+ends-integer text h σ ω c (heapFullAfter n) e = tt
+ends-integer text h σ ω c (stuckAfter n) e = tt
 
 -- ---- the calls of a story
 module _ (text : List ℕ) (Q : Call → Answer → Type 0) (of-end : (σ : State) (ω : Witness) (c : Call) (a : Answer) → Ends (programOf text) σ ω a → Q c a) (of-refusal : (samples : List ℕ) (m n line : ℕ) → Q (starts samples m) (refused n line)) where
@@ -130,7 +130,7 @@ pub never-stuck-of : Demand3 → NeverStuck
 never-stuck-of d text samples m σ p cs = each-of text Sound (ends-sound (programOf text)) (λ samples m n line. tt) d samples m σ p cs
 
 pub always-integers-of : Demand3 → AlwaysIntegers
-always-integers-of d text samples m σ p h cs = each-of text Weighs (ends-weigh text h) (λ samples m n line. tt) d samples m σ p cs
+always-integers-of d text samples m σ p h cs = each-of text TellsInteger (ends-integer text h) (λ samples m n line. tt) d samples m σ p cs
 
 -- ---- the states of a story
 module _ (text : List ℕ) where

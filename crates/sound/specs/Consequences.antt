@@ -68,17 +68,17 @@ abbrev pub HaltsWithIntegers : List ℕ → Type 0
 HaltsWithIntegers text = (p t : ℕ) → getElem? (flat (bodies (programOf text))) p ≡ some (halt t) → getElem? (rowsOf (entriesOf text)) t ≡ some rowI
 
 -- a halted answer tells an integer
-abbrev pub Weighs : Call → Answer → Type 0
-Weighs c (refused n line) = Unit
-Weighs c (haltedAfter n kind number) = kind ≡ intKind
-Weighs c (pausedAfter n) = Unit
-Weighs c (stackFullAfter n) = Unit
-Weighs c (heapFullAfter n) = Unit
-Weighs c (stuckAfter n) = Unit
+abbrev pub TellsInteger : Call → Answer → Type 0
+TellsInteger c (refused n line) = Unit
+TellsInteger c (haltedAfter n kind number) = kind ≡ intKind
+TellsInteger c (pausedAfter n) = Unit
+TellsInteger c (stackFullAfter n) = Unit
+TellsInteger c (heapFullAfter n) = Unit
+TellsInteger c (stuckAfter n) = Unit
 
 -- then every halted answer tells an integer: no return address is ever read as a weight
 abbrev pub AlwaysIntegers : Type 0
-AlwaysIntegers = (text samples : List ℕ) (m : ℕ) (σ : State) → Premises text samples m σ → HaltsWithIntegers text → (cs : List Call) → Each Weighs text (starts samples m ∷ cs) σ
+AlwaysIntegers = (text samples : List ℕ) (m : ℕ) (σ : State) → Premises text samples m σ → HaltsWithIntegers text → (cs : List Call) → Each TellsInteger text (starts samples m ∷ cs) σ
 
 -- ---- states
 -- in the state σ what the rules call an integer is one, wherever it stands; so are labels, and pointers to the whole stack

@@ -2,10 +2,10 @@
 use Prim.Native.Nat.{ℕ, zero, suc, _+_, _-_, _*_, _/_, _%_, _≤_, _<_}
 use mathlib.Core.Path.{_≡_}
 use mathlib.Core.Bool.{Bool, true, false, _&&_, cond}
-use mathlib.Core.List.{List, [], _∷_, map}
+use mathlib.Core.List.{List, [], map}
 use lib.Dec.{ltb}
 use lib.ListN.{length, getD}
-use Rattle.syntax.specs.Syntax.{Kind, value, stack}
+use Rattle.syntax.specs.Syntax.{stack}
 use Rattle.types.specs.Types.{Ty, nil, push, svar, join, Arg, meets}
 use Rattle.tables.specs.Tables.{RowTable}
 use Rattle.types_rows.specs.declared.Stk.{Stk}

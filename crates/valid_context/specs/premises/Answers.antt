@@ -7,7 +7,7 @@ use lib.Dec.{ltb, eqb}
 use lib.ListN.{getElem?}
 use Rattle.syntax.specs.Partial.{guarded}
 use Rattle.syntax.specs.Syntax.{Kind, value}
-use Rattle.syntax.specs.Fault.{Fault, itemsOf}
+use Rattle.syntax.specs.Fault.{itemsOf}
 use Rattle.types.specs.Rows.{typeAt, typesOf}
 use Rattle.tables.specs.Tables.{cell, RowTable, rowsIn}
 use Rattle.valid.specs.Program.{Program}
