@@ -230,6 +230,6 @@ after-keeps P σ (go σ′) k f h g = g σ′ h
 after-keeps P σ (stop s) k f h g = f
 
 pub run-keeps : (P : Bodies) → Startable P → (n : ℕ) (σ : State) → Form P σ → Form P (run P n σ .state)
-unfolding runs
+unfolding run runs
 run-keeps P s zero σ f = after-keeps P σ (step P σ) _ f (step-keeps P σ f s) (λ σ′ g. f)
 run-keeps P s (suc n) σ f = after-keeps P σ (step P σ) _ f (step-keeps P σ f s) (λ σ′ g. run-keeps P s n σ′ g)

@@ -77,11 +77,26 @@ module _ {S : Type 0} (next : S → Result S) where
 
 -- ---- of a program
 module _ (P : Bodies) where
+  pub run-stops : (n : ℕ) {σ : State} {s : Stop} → step P σ ≡ stop s → run P n σ ≡ ended (stopped s) σ
+  unfolding run
+  run-stops n e = stops-at (step P) n e
+
+  pub run-pauses : {σ σ′ : State} → step P σ ≡ go σ′ → run P 0 σ ≡ ended paused σ
+  unfolding run
+  run-pauses e = pauses-at (step P) e
+
+  pub run-goes : (n : ℕ) {σ σ′ : State} → step P σ ≡ go σ′ → run P (suc n) σ ≡ oneMore (run P n σ′)
+  unfolding run
+  run-goes n e = goes-on (step P) n e
+
   pub run-twice : (m n : ℕ) (σ : State) → run P (m + n) σ ≡ more (run P m σ .steps) (run P n (run P m σ .state))
+  unfolding run
   run-twice m n σ = runs-twice (step P) m n σ
 
   pub within : (n : ℕ) (σ : State) → run P n σ .steps ≤ n
+  unfolding run
   within n σ = runs-within (step P) n σ
 
   pub all-made : (n : ℕ) (σ : State) → run P n σ .end ≡ paused → run P n σ .steps ≡ n
+  unfolding run
   all-made n σ e = runs-all-made (step P) n σ e

@@ -119,7 +119,7 @@ told = (λ q. cc, λ q. ap some q)
 
 -- the outcome of a run
 of-run : (P : Bodies) (m : ℕ) (σ : State) → StepsFrom P m σ (outcome (run P (budget m) σ))
-unfolding outcome
+unfolding outcome run
 of-run P m σ =
     let n = budget m in
     let r = run P n σ in

@@ -47,7 +47,7 @@ runs next zero σ = after σ (next σ) (λ σ′. ended paused σ)
 runs next (suc n) σ = after σ (next σ) (λ σ′. oneMore (runs next n σ′))
 
 -- the run of a program
-abbrev pub run : Bodies → ℕ → State → Ran State
+unfoldable pub run : Bodies → ℕ → State → Ran State
 run P n σ = runs (step P) n σ
 
 -- "A budget above 1,000,000 is taken as 1,000,000"

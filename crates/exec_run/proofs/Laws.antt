@@ -10,7 +10,7 @@ use lib.ListN.{length, getD}
 use borrow.Author.Tests.{ltb-true, ltb-false}
 use Rattle.exec.specs.Machine.{Memory, State, Bodies, Stop, Result, go, stop, step}
 use Rattle.exec.specs.Run.{Ran, paused, stopped, ended, after, runs, run}
-use Rattle.exec.proofs.Budgets.{stops-at, pauses-at, goes-on}
+use Rattle.exec.proofs.Budgets.{run-stops, run-pauses, run-goes}
 use Rattle.tables.specs.Tables.{cell}
 use Rattle.exec_words.specs.memory.Lent.{lent, Sourced}
 use Rattle.exec_machine.specs.declared.Place.{Place}
@@ -32,7 +32,7 @@ none-before r = λ i. record { end = r .end; steps = zero-add (r .steps) i; stat
 
 -- no step made
 first-state : (P : Bodies) (σ : State) → run P 0 σ .state ≡ σ
-unfolding runs after
+unfolding run runs after
 first-state P σ = by (step P σ)
   where
     by : (r : Result State) → after σ r (λ σ′. ended paused σ) .state ≡ σ
@@ -51,7 +51,7 @@ module _ (T : Tables) (σ : State) (safe : Safe T σ) where
   safe-next τ e =
       let P = safe .program in
       let q : step P σ ≡ go τ = sym (step-is T (safe .args) P (safe .represents) σ) ∙ e in
-      record { args = safe .args; program = P; represents = safe .represents; inside = λ n. subst InsideAt (ap (λ (r : Ran State). r .state) (goes-on (step P) n q)) (safe .inside (suc n)) }
+      record { args = safe .args; program = P; represents = safe .represents; inside = λ n. subst InsideAt (ap (λ (r : Ran State). r .state) (run-goes P n q)) (safe .inside (suc n)) }
 
 -- ---- one turn: n steps of b are left
 module _ (T : Tables) (args : List ℕ) (P : Bodies) (rep : Represents T args P) (σ : State) (b n : ℕ) where
@@ -62,17 +62,17 @@ module _ (T : Tables) (args : List ℕ) (P : Bodies) (rep : Represents T args P)
       let r : Ran State = run P m τ in
       let k : b - m + r .steps ≡ b - n + suc (r .steps) = omega arith in
       (λ i. record { end = r .end; steps = k i; state = r .state })
-      ∙ ap (later (b - n)) (sym (goes-on (step P) m (sym (step-is T args P rep σ) ∙ e)) ∙ ap (λ (m : ℕ). run P m σ) q)
+      ∙ ap (later (b - n)) (sym (run-goes P m (sym (step-is T args P rep σ) ∙ e)) ∙ ap (λ (m : ℕ). run P m σ) q)
 
   turn-waits : (τ : State) → n ≡ 0 → stepAt T σ ≡ go τ → _≡_ {A = Ran State} (record { end = paused; steps = b - n; state = σ }) (later (b - n) (run P n σ))
   turn-waits τ q e =
       (λ i. record { end = paused; steps = sym (add-zero (b - n)) i; state = σ })
-      ∙ ap (later (b - n)) (sym (pauses-at (step P) (sym (step-is T args P rep σ) ∙ e)) ∙ ap (λ (m : ℕ). run P m σ) (sym q))
+      ∙ ap (later (b - n)) (sym (run-pauses P (sym (step-is T args P rep σ) ∙ e)) ∙ ap (λ (m : ℕ). run P m σ) (sym q))
 
   turn-stops : (s : Stop) → stepAt T σ ≡ stop s → _≡_ {A = Ran State} (record { end = stopped s; steps = b - n; state = σ }) (later (b - n) (run P n σ))
   turn-stops s e =
       (λ i. record { end = stopped s; steps = sym (add-zero (b - n)) i; state = σ })
-      ∙ ap (later (b - n)) (sym (stops-at (step P) n (sym (step-is T args P rep σ) ∙ e)))
+      ∙ ap (later (b - n)) (sym (run-stops P n (sym (step-is T args P rep σ) ∙ e)))
 
 -- ---- the loop: n steps of b are left at the row at `at`, and the rest of the run from there is the rest of the run from σ₀
 pub record Running (T : Tables) (b : ℕ) (σ₀ : State) (R S H : Memory) (n at h u : ℕ) : Type 0 where

@@ -35,7 +35,7 @@ module _ (P : Program) (T : Typed P) (small : SmallTypes P) where
     after-safe k (stop stuck) e s f = absurd s
 
   run-safe : (m : ℕ) (σ : State) (ω : Witness) → Inv P σ ω → Reaches σ ω (run (bodies P) m σ)
-  unfolding runs answerOf
+  unfolding run runs answerOf
   run-safe zero σ ω v = after-safe σ ω v _ (step (bodies P) σ) refl (safe P T small σ ω v) (λ σ′ ω′ e p m w. still σ ω v paused (λ n. tt))
   run-safe (suc m) σ ω v = after-safe σ ω v _ (step (bodies P) σ) refl (safe P T small σ ω v) (λ σ′ ω′ e p n w.
       let r = run-safe m σ′ ω′ w in
