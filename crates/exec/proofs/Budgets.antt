@@ -85,9 +85,9 @@ module _ (P : Bodies) where
   unfolding run
   run-pauses e = pauses-at (step P) e
 
-  pub run-goes : (n : ℕ) {σ σ′ : State} → step P σ ≡ go σ′ → run P (suc n) σ ≡ oneMore (run P n σ′)
+  pub run-goes : (n : ℕ) (σ : State) {σ′ : State} → step P σ ≡ go σ′ → run P (suc n) σ ≡ oneMore (run P n σ′)
   unfolding run
-  run-goes n e = goes-on (step P) n e
+  run-goes n σ e = goes-on (step P) n e
 
   pub run-twice : (m n : ℕ) (σ : State) → run P (m + n) σ ≡ more (run P m σ .steps) (run P n (run P m σ .state))
   unfolding run

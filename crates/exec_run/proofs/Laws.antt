@@ -51,7 +51,7 @@ module _ (T : Tables) (σ : State) (safe : Safe T σ) where
   safe-next τ e =
       let P = safe .program in
       let q : step P σ ≡ go τ = sym (step-is T (safe .args) P (safe .represents) σ) ∙ e in
-      record { args = safe .args; program = P; represents = safe .represents; inside = λ n. subst InsideAt (ap (λ (r : Ran State). r .state) (run-goes P n q)) (safe .inside (suc n)) }
+      record { args = safe .args; program = P; represents = safe .represents; inside = λ n. subst InsideAt (ap (λ (r : Ran State). r .state) (run-goes P n σ q)) (safe .inside (suc n)) }
 
 -- ---- one turn: n steps of b are left
 module _ (T : Tables) (args : List ℕ) (P : Bodies) (rep : Represents T args P) (σ : State) (b n : ℕ) where
@@ -62,7 +62,7 @@ module _ (T : Tables) (args : List ℕ) (P : Bodies) (rep : Represents T args P)
       let r : Ran State = run P m τ in
       let k : b - m + r .steps ≡ b - n + suc (r .steps) = omega arith in
       (λ i. record { end = r .end; steps = k i; state = r .state })
-      ∙ ap (later (b - n)) (sym (run-goes P m (sym (step-is T args P rep σ) ∙ e)) ∙ ap (λ (m : ℕ). run P m σ) q)
+      ∙ ap (later (b - n)) (sym (run-goes P m σ (sym (step-is T args P rep σ) ∙ e)) ∙ ap (λ (m : ℕ). run P m σ) q)
 
   turn-waits : (τ : State) → n ≡ 0 → stepAt T σ ≡ go τ → _≡_ {A = Ran State} (record { end = paused; steps = b - n; state = σ }) (later (b - n) (run P n σ))
   turn-waits τ q e =
