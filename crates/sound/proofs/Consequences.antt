@@ -57,6 +57,7 @@ module _ (P : Program) (σ : State) (ω : Witness) (t : TypedState P σ ω) wher
     block = t .block;
     place = t .place;
     rules = t .rules;
+    filled = record { Θ = ω .Θ; closed = t .picks; closed-sp = t .closed-sp; closed-regs = t .closed-regs; depth = t .depth };
     register = λ x. register x;
     item = λ x. item x;
     component = λ {r} x y. heap-read P (ω .Ψ) (σ .heap) (σ .used) (register x .1) (t .heap) .component (walk-at (filling (ω .Θ)) 0 y);

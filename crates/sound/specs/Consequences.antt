@@ -8,7 +8,7 @@ use lib.ListN.{length, getElem?}
 use Rattle.syntax.specs.Syntax.{Kind, stack, rowI, halt}
 use Rattle.text.specs.PassOne.{entriesOf, rowsOf}
 use Rattle.text.specs.Samples.{samplesOf}
-use Rattle.types.specs.Types.{Ty, int, tuple, pointer, code}
+use Rattle.types.specs.Types.{Ty, int, tuple, pointer, code, items, Arg, fill, aStack, aFile, Wf, Args}
 use Rattle.valid.specs.Program.{Block, Program, programOf}
 use Rattle.valid.specs.Rules.{At, Context, Before}
 use Rattle.valid.specs.Verdict.{check, accepted}
@@ -60,6 +60,7 @@ Sound c (stackFullAfter n) = Unit
 Sound c (heapFullAfter n) = Unit
 Sound c (stuckAfter n) = ⊥
 
+-- so it is of every call of the list
 abbrev pub NeverStuck : Type 0
 NeverStuck = (text samples : List ℕ) (m : ℕ) (σ : State) → Premises text samples m σ → (cs : List Call) → Each Sound text (starts samples m ∷ cs) σ
 
@@ -81,7 +82,15 @@ abbrev pub AlwaysIntegers : Type 0
 AlwaysIntegers = (text samples : List ℕ) (m : ℕ) (σ : State) → Premises text samples m σ → HaltsWithIntegers text → (cs : List Call) → Each TellsInteger text (starts samples m ∷ cs) σ
 
 -- ---- states
--- in the state σ what the rules call an integer is one, wherever it stands; so are labels, and pointers to the whole stack
+-- "with the type variables in force filled by closed types": there are such types for B's letters, and "sp so filled has exactly depth items"
+pub record Filled (B : Block) (Γ : Context) (σ : State) : Type 0 where
+  pub Θ : List Arg
+  pub closed : Args [] Θ (B .letters)
+  pub closed-sp : Wf [] aStack (fill 0 Θ (Γ .sp))
+  pub closed-regs : Wf [] aFile (fill 0 Θ (Γ .regs))
+  pub depth : items (fill 0 Θ (Γ .sp)) ≡ σ .depth
+
+-- In the state σ what the rules call an integer is one, wherever it stands; so it is with labels, and with pointers to the whole stack.
 pub record AsTyped (P : Program) (σ : State) : Type 0 where
   pub l : ℕ
   pub i : ℕ
@@ -90,6 +99,7 @@ pub record AsTyped (P : Program) (σ : State) : Type 0 where
   pub block : getElem? (P .blocks) l ≡ some B
   pub place : σ .position ≡ startOf (bodies P) l + i
   pub rules : Before P B i Γ
+  pub filled : Filled B Γ σ
   pub register : {r : ℕ} → At (Γ .regs) r int → at (σ .registers) r .kind ≡ intKind
   pub item : {j : ℕ} → At (Γ .sp) j int → (j < σ .depth) × (at (σ .stack) (σ .depth - suc j) .kind ≡ intKind)
   pub component : {r j : ℕ} {c : Ty stack} → At (Γ .regs) r (tuple c) → At c j int → at (σ .heap) (componentAt (at (σ .registers) r .number) j) .kind ≡ intKind
