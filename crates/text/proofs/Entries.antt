@@ -35,7 +35,7 @@ not-false true e = refl
 not-false false e = sym e
 
 -- a line without a fault stands in order
-in-order : (p : Place) (n : Counts) (e : Entry) → lineFaults p n (some e) ≡ [] → inOrder p e ≡ true
+pub in-order : (p : Place) (n : Counts) (e : Entry) → lineFaults p n (some e) ≡ [] → inOrder p e ≡ true
 unfolding lineFaults
 in-order p n e h = not-false (inOrder p e) (given-none (not (inOrder p e)) 2 (append-eq-nil-iff {p = given (not (inOrder p e)) 2} {q = given (tooMany n e) 3} .0 h .0))
 

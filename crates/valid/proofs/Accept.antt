@@ -9,6 +9,7 @@ use mathlib.Core.List.{List, [], _∷_, _++_, append-eq-nil-iff}
 use lib.ListN.{length, getElem?, replicate}
 use lib.Dec.{ltb, ltb→lt, nltb→le}
 use Rattle.syntax.specs.Syntax.{Kind, Instr, aop, bop, mov, ld, st, malloc, getsp, setsp, salloc, sfree, sld, sst, slp, ssp, jmp, halt}
+use Rattle.syntax.proofs.Least.{given-none}
 use Rattle.syntax.specs.Fault.{given, Clear, Refusal, earliest}
 use Rattle.text.specs.PassOne.{isLast, passOne}
 use Rattle.types.specs.Types.{code, nil, items, aStack, WfType}
@@ -21,7 +22,7 @@ use Rattle.valid.specs.PassThree.{Judged, holds, fails, faultsOf, judge,
 use Rattle.valid.specs.Verdict.{accepted, refused, passTwoOf, passes, instrCount, check}
 use Rattle.valid.proofs.Reading.{none-some, some-inj, formed-sound, formed-complete}
 use Rattle.valid.proofs.Judge.{judge-sound, jmp-sound, halt-sound, judge-complete, jmp-complete, halt-complete}
-use Rattle.valid.proofs.Clear.{cons-nil, given-none, clear-split, clear-append, clear-replicate, earliest-clear, clear-earliest}
+use Rattle.valid.proofs.Clear.{cons-nil, clear-split, clear-append, clear-replicate, earliest-clear, clear-earliest}
 use Rattle.valid.proofs.Order.{Closed, ends, goes, blocks-closed}
 
 -- ---- a block's instructions

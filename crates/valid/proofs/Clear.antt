@@ -2,11 +2,10 @@
 use Prim.Native.Nat.{ℕ, zero, suc}
 use native.Mathlib.Omega.{arith}
 use mathlib.Core.Path.{_≡_, refl, sym}
-use mathlib.Core.Bool.{Bool, true, false}
 use mathlib.Core.Option.{Option, none, some}
 use mathlib.Core.List.{List, [], _∷_, _++_}
 use lib.ListN.{replicate}
-use Rattle.syntax.specs.Fault.{given, Pass, Clear, Refusal, lowestLine, earliest}
+use Rattle.syntax.specs.Fault.{Pass, Clear, Refusal, lowestLine, earliest}
 use Rattle.valid.proofs.Reading.{none-some}
 
 -- a list with a member is not empty: anything follows
@@ -15,11 +14,6 @@ cons-nil e = let z : _≡_ {A = ℕ} 0 1 = cc in absurd (omega arith)
 
 pub some-none : {A X : Type 0} {x : A} → some x ≡ none → X
 some-none e = none-some (sym e)
-
-pub given-none : (b : Bool) (n : ℕ) → given b n ≡ [] → b ≡ false
-unfolding given
-given-none true n e = cons-nil e
-given-none false n e = refl
 
 -- ---- parts of a pass
 pub clear-split : (p q : Pass) → Clear (p ++ q) → Clear p × Clear q

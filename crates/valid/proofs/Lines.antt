@@ -14,6 +14,7 @@ use Rattle.syntax.specs.Fault.{Clear, given}
 use Rattle.text.specs.Bytes.{linesOf}
 use Rattle.text.specs.Grammar.{parse}
 use Rattle.text.specs.PassOne.{isLast, Place, atRows, inBlock, behindBlock, placeAfter, inOrder, mayEnd, Counts, none-yet, lineFaults, linesFaults, passOne, said, entriesOf, rowsOf, Listing, grouped, listingsOf}
+use Rattle.text.proofs.Entries.{in-order}
 use Rattle.types.specs.Types.{Arg}
 use Rattle.types.specs.Rows.{typeAt, typesOf}
 use Rattle.types.proofs.Equal.{none-true}
@@ -22,7 +23,7 @@ use Rattle.valid.specs.Program.{Block, blockOf, blocksOf, programFrom, p
 use Rattle.valid.specs.FirstFault.{linesBefore, lineOf, saidOn, BlockLines}
 use Rattle.valid.proofs.Reading.{none-some, some-inj}
 use Rattle.valid.proofs.Clear.{cons-nil}
-use Rattle.valid.proofs.Order.{in-order, body-of}
+use Rattle.valid.proofs.Order.{body-of}
 
 -- ---- what the lines of blocks say
 abbrev told : List Listing → List Entry

@@ -1,21 +1,22 @@
 -- Where pass one is clear every line says something, and every block's body ends in its only `jmp` or `halt`.
 use Prim.Native.Nat.{ℕ, zero, suc}
 use mathlib.Core.Path.{_≡_, refl}
-use mathlib.Core.Bool.{Bool, true, false, not, cond}
+use mathlib.Core.Bool.{Bool, true, false, cond}
 use mathlib.Core.Option.{Option, none, some}
-use mathlib.Core.List.{List, [], _∷_, map, append-eq-nil-iff}
+use mathlib.Core.List.{List, [], _∷_, map}
 use lib.ListN.{getElem?}
 use Rattle.syntax.specs.Syntax.{value, Instr, Entry, row, block, instr}
 use Rattle.syntax.specs.Fault.{Clear, given}
 use Rattle.text.specs.Bytes.{linesOf}
 use Rattle.text.specs.Grammar.{parse}
-use Rattle.text.specs.PassOne.{isLast, Place, atRows, inBlock, behindBlock, placeAfter, inOrder, mayEnd, Counts, none-yet, tooMany, lineFaults, linesFaults, passOne, said, entriesOf, rowsOf, Listing, grouped, listingsOf}
+use Rattle.text.specs.PassOne.{isLast, Place, atRows, inBlock, behindBlock, placeAfter, inOrder, mayEnd, Counts, none-yet, lineFaults, linesFaults, passOne, said, entriesOf, rowsOf, Listing, grouped, listingsOf}
+use Rattle.text.proofs.Entries.{in-order}
 use Rattle.types.specs.Types.{Ty, Arg}
 use Rattle.types.specs.Rows.{typeAt, typesOf}
-use Rattle.types.proofs.Equal.{none-true, not-false}
+use Rattle.types.proofs.Equal.{none-true}
 use Rattle.valid.specs.Program.{Block, blockOf, blocksOf, programFrom, programOf}
 use Rattle.valid.proofs.Reading.{none-some, some-inj}
-use Rattle.valid.proofs.Clear.{cons-nil, given-none}
+use Rattle.valid.proofs.Clear.{cons-nil}
 
 -- the last instruction and only the last is `jmp` or `halt`
 pub data Closed : List Instr → Type 0 where
@@ -31,11 +32,6 @@ Rest behindBlock xs = xs ≡ []
 abbrev AllClosed : List Listing → Type 0
 AllClosed [] = Unit
 AllClosed (b ∷ bs) = Closed (b .body) × AllClosed bs
-
--- a line without a fault stands in order
-pub in-order : (p : Place) (n : Counts) (e : Entry) → lineFaults p n (some e) ≡ [] → inOrder p e ≡ true
-unfolding lineFaults
-in-order p n e h = not-false (inOrder p e) (given-none (not (inOrder p e)) 2 (append-eq-nil-iff {p = given (not (inOrder p e)) 2} {q = given (tooMany n e) 3} .0 h .0))
 
 -- one line, in order, before others
 one-line : (p : Place) (e : Entry) (es : List Entry) → inOrder p e ≡ true → Rest (placeAfter e) (grouped es .0) × AllClosed (grouped es .1) → Rest p (grouped (e ∷ es) .0) × AllClosed (grouped (e ∷ es) .1)
