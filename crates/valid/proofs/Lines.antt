@@ -4,61 +4,25 @@ use Prim.Native.Nat.{ℕ, zero, suc, _+_}
 use native.Mathlib.Nat.{add-assoc}
 use native.Mathlib.Omega.{arith}
 use mathlib.Core.Path.{_≡_, refl, ap, sym, _∙_}
-use mathlib.Core.Bool.{Bool, true, false, cond}
 use mathlib.Core.Option.{Option, none, some}
 use mathlib.Core.List.{List, [], _∷_, _++_, map}
-use lib.ListN.{length, getElem?, length-append}
+use lib.ListN.{length, length-map, getElem?, length-append}
 use Rattle.syntax.specs.Partial.{chain}
 use Rattle.syntax.specs.Syntax.{value, Instr, Entry, row, block, instr}
-use Rattle.syntax.specs.Fault.{Clear, given}
+use Rattle.syntax.specs.Fault.{Clear}
 use Rattle.text.specs.Bytes.{linesOf}
 use Rattle.text.specs.Grammar.{parse}
-use Rattle.text.specs.PassOne.{isLast, Place, atRows, inBlock, behindBlock, placeAfter, inOrder, mayEnd, Counts, none-yet, lineFaults, linesFaults, passOne, said, entriesOf, rowsOf, Listing, grouped, listingsOf}
-use Rattle.text.proofs.Entries.{in-order}
+use Rattle.text.specs.PassOne.{Place, atRows, placeAfter, Counts, none-yet, lineFaults, linesFaults, passOne, said, entriesOf, rowsOf, Listing, listingsOf}
+use Rattle.text.specs.Entries.{blocksEntries, entriesIn}
+use Rattle.text.proofs.Entries.{entries-in}
 use Rattle.types.specs.Types.{Arg}
 use Rattle.types.specs.Rows.{typeAt, typesOf}
-use Rattle.types.proofs.Equal.{none-true}
 use Rattle.types.proofs.Meaning.{length-types}
 use Rattle.valid.specs.Program.{Block, blockOf, blocksOf, programFrom, programOf}
 use Rattle.valid.specs.FirstFault.{linesBefore, lineOf, saidOn, BlockLines}
 use Rattle.valid.proofs.Reading.{none-some, some-inj}
 use Rattle.valid.proofs.Clear.{cons-nil}
 use Rattle.valid.proofs.Order.{body-of}
-
--- ---- what the lines of blocks say
-abbrev told : List Listing → List Entry
-told [] = []
-told (b ∷ bs) = block (b .code) ∷ map instr (b .body) ++ told bs
-
--- what is said from a place on: type lines first, then blocks
-abbrev Shape : Place → List Entry → Type 0
-Shape atRows es = es ≡ map row (rowsOf es) ++ told (grouped es .1)
-Shape inBlock es = (rowsOf es ≡ []) × (es ≡ map instr (grouped es .0) ++ told (grouped es .1))
-Shape behindBlock es = (rowsOf es ≡ []) × (grouped es .0 ≡ []) × (es ≡ told (grouped es .1))
-
-one-more : (p : Place) (e : Entry) (es : List Entry) → inOrder p e ≡ true → Shape (placeAfter e) es → Shape p (e ∷ es)
-unfolding inOrder placeAfter grouped rowsOf
-one-more atRows (row r) es o h = ap (λ z. row r ∷ z) h
-one-more atRows (block c) es o h = rw (h .0) (ap (λ z. block c ∷ z) (h .1))
-one-more atRows (instr x) es o h = none-true o
-one-more inBlock (row r) es o h = none-true o
-one-more inBlock (block c) es o h = none-true o
-one-more inBlock (instr x) es o h = go (isLast x) h
-  where
-    go : (b : Bool) → Shape (cond b behindBlock inBlock) es → Shape inBlock (instr x ∷ es)
-    go true k = (k .0, rw (k .1) (ap (λ z. instr x ∷ z) (k .2)))
-    go false k = (k .0, ap (λ z. instr x ∷ z) (k .1))
-one-more behindBlock (row r) es o h = none-true o
-one-more behindBlock (block c) es o h = (h .0, refl, ap (λ z. block c ∷ z) (h .1))
-one-more behindBlock (instr x) es o h = none-true o
-
-shaped : (p : Place) (n : Counts) (es : List (Option Entry)) → Clear (linesFaults p n es) → Shape p (said es)
-unfolding linesFaults lineFaults said grouped rowsOf mayEnd given
-shaped atRows n [] c = refl
-shaped inBlock n [] c = cons-nil (c .0)
-shaped behindBlock n [] c = (refl, refl, refl)
-shaped p n (none ∷ es) c = cons-nil (c .0)
-shaped p n (some e ∷ es) c = one-more p e (said es) (in-order p n e (c .0)) (shaped (placeAfter e) _ es (c .1))
 
 -- every line says something: line by line, and so as many
 all-said : (p : Place) (n : Counts) (es : List (Option Entry)) → Clear (linesFaults p n es) → (m : ℕ) → chain (getElem? es m) (λ o. o) ≡ getElem? (said es) m
@@ -75,10 +39,6 @@ as-many p n (none ∷ es) c = cons-nil (c .0)
 as-many p n (some e ∷ es) c = ap suc (as-many (placeAfter e) _ es (c .1))
 
 -- ---- lists
-length-map : {A B : Type 0} (f : A → B) (l : List A) → length (map f l) ≡ length l
-length-map f [] = refl
-length-map f (x ∷ l) = ap suc (length-map f l)
-
 -- what f makes of element m
 map-chain : {A B : Type 0} (f : A → Option B) (l : List A) (m : ℕ) → chain (getElem? l m) f ≡ chain (getElem? (map f l) m) (λ o. o)
 map-chain f [] m = refl
@@ -100,12 +60,12 @@ past (x ∷ s) t k (suc n) e = past s t k n (omega arith)
 -- block l among what the lines of blocks say
 record Told (types : List Arg) (bs : List Listing) (l : ℕ) (B : Block) : Type 0 where
   row : ℕ
-  own : getElem? (told bs) (linesBefore (blocksOf types bs) l) ≡ some (block row)
+  own : getElem? (blocksEntries bs) (linesBefore (blocksOf types bs) l) ≡ some (block row)
   of-row : B ≡ blockOf (typeAt value types row) (B .body)
-  instrs : (i : ℕ) (x : Instr) → getElem? (B .body) i ≡ some x → getElem? (told bs) (linesBefore (blocksOf types bs) l + suc i) ≡ some (instr x)
+  instrs : (i : ℕ) (x : Instr) → getElem? (B .body) i ≡ some x → getElem? (blocksEntries bs) (linesBefore (blocksOf types bs) l + suc i) ≡ some (instr x)
 
 block-told : (types : List Arg) (bs : List Listing) (l : ℕ) (B : Block) → getElem? (blocksOf types bs) l ≡ some B → Told types bs l B
-unfolding blocksOf linesBefore
+unfolding blocksOf linesBefore blocksEntries
 block-told types [] l B e = none-some e
 block-told types (b ∷ bs) zero B e =
     let t = typeAt value types (b .code) in
@@ -115,48 +75,44 @@ block-told types (b ∷ bs) zero B e =
       row = b .code;
       own = refl;
       of-row = sym q ∙ ap (λ xs. blockOf t xs) (sym k);
-      instrs = λ i x g. past (block (b .code) ∷ []) (map instr (b .body) ++ told bs) i (0 + suc i) (omega arith) ∙ map-at instr (b .body) (told bs) i (rw k at g);
+      instrs = λ i x g. past (block (b .code) ∷ []) (map instr (b .body) ++ blocksEntries bs) i (0 + suc i) (omega arith) ∙ map-at instr (b .body) (blocksEntries bs) i (rw k at g);
     }
 block-told types (b ∷ bs) (suc l) B e =
     let h = block-told types bs l B e in
     let s = block (b .code) ∷ map instr (b .body) in
     let n = linesBefore (blocksOf types bs) l in
     let m = linesBefore (blocksOf types (b ∷ bs)) (suc l) in
-    let x = length-map instr (b .body) in
+    let x = length-map (b .body) instr in
     let y = ap length (body-of (typeAt value types (b .code)) (b .body)) in
     record {
       row = h .row;
-      own = past s (told bs) n m (omega arith) ∙ h .own;
+      own = past s (blocksEntries bs) n m (omega arith) ∙ h .own;
       of-row = h .of-row;
-      instrs = λ i z g. past s (told bs) (n + suc i) (m + suc i) (omega arith) ∙ h .instrs i z g;
+      instrs = λ i z g. past s (blocksEntries bs) (n + suc i) (m + suc i) (omega arith) ∙ h .instrs i z g;
     }
 
-none-told : (types : List Arg) (bs : List Listing) → blocksOf types bs ≡ [] → told bs ≡ []
-unfolding blocksOf
+none-told : (types : List Arg) (bs : List Listing) → blocksOf types bs ≡ [] → blocksEntries bs ≡ []
+unfolding blocksOf blocksEntries
 none-told types [] e = refl
 none-told types (b ∷ bs) e = cons-nil e
 
 -- ---- the text
 module _ (text : List ℕ) (c : Clear (passOne text)) where
-  shape : entriesOf text ≡ map row (rowsOf (entriesOf text)) ++ told (listingsOf (entriesOf text))
-  unfolding passOne entriesOf listingsOf
-  shape = shaped atRows none-yet (map parse (linesOf text)) (c .1)
-
   on-line : (m : ℕ) → saidOn text (suc m) ≡ getElem? (entriesOf text) m
   unfolding passOne entriesOf saidOn
   on-line m = map-chain parse (linesOf text) m ∙ all-said atRows none-yet (map parse (linesOf text)) (c .1) m
 
   -- what the lines of blocks say, behind the type lines
-  behind-rows : (k : ℕ) → saidOn text (suc (length (programOf text .types)) + k) ≡ getElem? (told (listingsOf (entriesOf text))) k
-  unfolding programOf programFrom
+  behind-rows : (k : ℕ) → saidOn text (suc (length (programOf text .types)) + k) ≡ getElem? (blocksEntries (listingsOf (entriesOf text))) k
+  unfolding programOf programFrom entriesIn
   behind-rows k =
       let es = entriesOf text in
       let x = length-types (rowsOf es) in
-      let y = length-map row (rowsOf es) in
+      let y = length-map (rowsOf es) row in
       let n = length (typesOf (rowsOf es)) + k in
       let e : suc (length (typesOf (rowsOf es))) + k ≡ suc n = omega arith in
-      let h = past (map row (rowsOf es)) (told (listingsOf es)) k n (omega arith) in
-      rw e (on-line n ∙ ap (λ z. getElem? z n) shape ∙ h)
+      let h = past (map row (rowsOf es)) (blocksEntries (listingsOf es)) k n (omega arith) in
+      rw e (on-line n ∙ ap (λ z. getElem? z n) (entries-in text c) ∙ h)
 
   -- the lines of a block
   pub block-lines : (l : ℕ) (B : Block) → getElem? (programOf text .blocks) l ≡ some B → BlockLines text l B
@@ -172,14 +128,14 @@ module _ (text : List ℕ) (c : Clear (passOne text)) where
 
   -- "no block (last line + 1)": then there are as many lines as types
   pub only-rows : programOf text .blocks ≡ [] → length (programOf text .types) ≡ length (linesOf text)
-  unfolding passOne entriesOf listingsOf programOf programFrom
+  unfolding passOne entriesOf listingsOf programOf programFrom entriesIn
   only-rows e =
       let es = entriesOf text in
       let n = none-told (typesOf (rowsOf es)) (listingsOf es) e in
-      let x = ap length shape ∙ length-append (map row (rowsOf es)) (told (listingsOf es)) in
+      let x = ap length (entries-in text c) ∙ length-append (map row (rowsOf es)) (blocksEntries (listingsOf es)) in
       let y = ap length n in
       let z = as-many atRows none-yet (map parse (linesOf text)) (c .1) in
-      let u = length-map parse (linesOf text) in
-      let v = length-map row (rowsOf es) in
+      let u = length-map (linesOf text) parse in
+      let v = length-map (rowsOf es) row in
       let w = length-types (rowsOf es) in
       omega arith
