@@ -10,7 +10,7 @@ use lib.Dec.{ltb, leb·suc-suc}
 use lib.ListN.{length, getElem?}
 use borrow.Author.Tests.{lt-ltb, le-ltb, ltb-true}
 use Rattle.syntax.specs.Partial.{guarded}
-use Rattle.syntax.specs.Syntax.{Kind, value, Row, rowI, rowN, rowE, rowV, rowX, rowP, rowU, rowK, rowA, rowC, Instr, Entry, instr}
+use Rattle.syntax.specs.Syntax.{value, Row, rowI, rowN, rowE, rowV, rowX, rowP, rowU, rowK, rowA, rowC, Instr, Entry, instr}
 use Rattle.syntax.specs.Fault.{Clear, given}
 use Rattle.syntax.proofs.Least.{given-none}
 use Rattle.text.specs.PassOne.{Listing}
@@ -85,7 +85,7 @@ module _ (τ : RowTable) (n : ℕ) (β ι : List ℕ) (ω : OperandTable) (ni : 
   all-codes nb c l h = let e : 0 + l ≡ l = omega arith in subst (λ (x : ℕ). CodeOk τ n (cell 2 β x 0)) e (codes-from 0 nb (codes-clear τ n nb (blocksFrom β ι ω ni 0 nb) c) l h)
 
 -- ---- the type of a label
-module _ (P : Program) (Δ : List Kind) (xs : List Instr) where
+module _ (xs : List Instr) where
   -- a code row's type is a code type, which the label of its block has
   label-of : (A : List Arg) (x : Row) → isCode x ≡ true → labelType (some (blockOf (ofKind value (meaning A x)) xs)) ≡ some (ofKind value (meaning A x))
   unfolding labelType blockOf asCode meaning isCode ofKind
@@ -110,16 +110,16 @@ module _ (P : Program) (Δ : List Kind) (xs : List Instr) where
       ap (λ (a : Arg). labelType (some (blockOf (ofKind value a) xs))) m ∙ label-of (typesOf (rowsIn τ n)) (rowAt τ c) (k .1) ∙ ap (λ (a : Arg). some (ofKind value a)) (sym m)
 
 -- ---- the program that the tables hold
-module _ (τ : RowTable) (n : ℕ) (β ι : List ℕ) (ω : OperandTable) (ni : ℕ) (P : Program) (Δ : List Kind) (cl : RowsClear τ n) where
+module _ (τ : RowTable) (n : ℕ) (β ι : List ℕ) (ω : OperandTable) (ni : ℕ) (cl : RowsClear τ n) where
   abbrev types : List Arg
   types = typesOf (rowsIn τ n)
 
   labels-from : (b k : ℕ) → ((l : ℕ) → l < k → CodeOk τ n (cell 2 β (b + l) 0)) → (l : ℕ) → labelType (getElem? (blocksOf types (blocksFrom β ι ω ni b k)) l) ≡ guarded (ltb l k) (typeAt value types (cell 2 β (b + l) 0))
   unfolding blocksFrom blocksOf
   labels-from b zero a l = rw (le-ltb l 0 (omega arith)) (unfold labelType in refl)
-  labels-from b (suc zero) a zero = rw (add-zero b) (label-type P Δ _ τ n (cell 2 β b 0) cl (subst (λ (x : ℕ). CodeOk τ n (cell 2 β x 0)) (add-zero b) (a 0 (omega arith))))
+  labels-from b (suc zero) a zero = rw (add-zero b) (label-type _ τ n (cell 2 β b 0) cl (subst (λ (x : ℕ). CodeOk τ n (cell 2 β x 0)) (add-zero b) (a 0 (omega arith))))
   labels-from b (suc zero) a (suc l) = rw (le-ltb (suc l) 1 (omega arith)) (unfold labelType in refl)
-  labels-from b (suc (suc k)) a zero = rw (lt-ltb 0 (suc (suc k)) (omega arith), add-zero b) (label-type P Δ _ τ n (cell 2 β b 0) cl (subst (λ (x : ℕ). CodeOk τ n (cell 2 β x 0)) (add-zero b) (a 0 (omega arith))))
+  labels-from b (suc (suc k)) a zero = rw (lt-ltb 0 (suc (suc k)) (omega arith), add-zero b) (label-type _ τ n (cell 2 β b 0) cl (subst (λ (x : ℕ). CodeOk τ n (cell 2 β x 0)) (add-zero b) (a 0 (omega arith))))
   labels-from b (suc (suc k)) a (suc l) =
       let e : suc b + l ≡ b + suc l = omega arith in
       let q = labels-from (suc b) (suc k) (λ j h. subst (λ (x : ℕ). CodeOk τ n (cell 2 β x 0)) (omega arith) (a (suc j) (omega arith))) l in
@@ -130,8 +130,8 @@ pub holds-is : (τ : RowTable) (n : ℕ) (β ι : List ℕ) (ω : OperandTable) 
     (blocksFrom β ι ω ni 0 nb) → Holds τ n β nb P
 holds-is τ n β ι ω ni nb P cl a e f = record {
   types = e;
-  labels = λ Δ l.
+  labels = λ l.
       ap (λ (B : List Block). labelType (getElem? B l)) f
-      ∙ labels-from τ n β ι ω ni P Δ cl 0 nb (λ j h. subst (λ (x : ℕ). CodeOk τ n (cell 2 β x 0)) (omega arith) (a j h)) l
+      ∙ labels-from τ n β ι ω ni cl 0 nb (λ j h. subst (λ (x : ℕ). CodeOk τ n (cell 2 β x 0)) (omega arith) (a j h)) l
       ∙ ap₂ (λ (T : List Arg) (x : ℕ). guarded (ltb l nb) (typeAt value T (cell 2 β x 0))) (sym e) (omega arith);
 }

@@ -307,13 +307,13 @@ module _ (rows parts : List ℕ) (n : ℕ) (args : List ℕ) (p k : ℕ) (below 
   abbrev A : List Arg
   A = map (λ x. getD (typesIn rows parts n) x (arg value junk)) args
 
-  pub left-few : (P : Program) (Δ : List Kind) → k < length args → lettersLeft A (lettersAt parts p) ≡ none
+  pub left-few : k < length args → lettersLeft A (lettersAt parts p) ≡ none
   unfolding lettersLeft
-  left-few P Δ l = let a = length-map args (λ x. getD (typesIn rows parts n) x (arg value junk)) in let m = length-letters in rw (lt-leb (length A) (length (lettersAt parts p)) (omega arith))
+  left-few l = let a = length-map args (λ x. getD (typesIn rows parts n) x (arg value junk)) in let m = length-letters in rw (lt-leb (length A) (length (lettersAt parts p)) (omega arith))
 
-  pub left-is : (P : Program) (Δ : List Kind) (v : Bool) → length args ≤ k → sameLetters (map kindOf A) (drop (k - length args) (lettersAt parts p)) ≡ v → lettersLeft A (lettersAt parts p) ≡ guarded v (take (length (lettersAt parts p) - length args) (lettersAt parts p))
+  pub left-is : (v : Bool) → length args ≤ k → sameLetters (map kindOf A) (drop (k - length args) (lettersAt parts p)) ≡ v → lettersLeft A (lettersAt parts p) ≡ guarded v (take (length (lettersAt parts p) - length args) (lettersAt parts p))
   unfolding lettersLeft
-  left-is P Δ v l e =
+  left-is v l e =
       let a = length-map args (λ x. getD (typesIn rows parts n) x (arg value junk)) in
       let m = length-letters in
       let q : length (lettersAt parts p) - length A ≡ k - length args = omega arith in

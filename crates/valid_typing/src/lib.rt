@@ -544,7 +544,7 @@ fn letter_fits(stack: bool, x: usize) -> bool
 // There is a letter for each argument, and it is of the argument's kind: the code row's registers start at p.
 pub(crate) fn letters_fit(rows: &[u16], parts: &[u16], n: usize, args: &[u16], p: usize) -> bool
     requires { ⌜ (n ≤ 512) × (p ≤ 65535) × (allBelow (n + 2) (now args) ≡ true) ⌝ }
-    ensures { λ out. ⌜ ((P : Program) (Δ : List Kind) → lettersLeft (map (λ (x : ℕ). getD (typesIn (now (rows .entry)) (now (parts .entry)) n) x (arg value junk)) (now (args .entry))) (lettersAt (now (parts .entry)) p) ≡ guarded out (lettersLess (now (parts .entry)) p (length (now (args .entry))))) ⌝ }
+    ensures { λ out. ⌜ lettersLeft (map (λ (x : ℕ). getD (typesIn (now (rows .entry)) (now (parts .entry)) n) x (arg value junk)) (now (args .entry))) (lettersAt (now (parts .entry)) p) ≡ guarded out (lettersLess (now (parts .entry)) p (length (now (args .entry)))) ⌝ }
 {
     let c = args.len();
     let k = types_rows::letter_count(parts, p);

@@ -6,7 +6,7 @@ use mathlib.Core.List.{List, [], _∷_}
 use lib.Dec.{ltb, eqb}
 use lib.ListN.{getElem?}
 use Rattle.syntax.specs.Partial.{guarded}
-use Rattle.syntax.specs.Syntax.{Kind, value}
+use Rattle.syntax.specs.Syntax.{value}
 use Rattle.syntax.specs.Fault.{itemsOf}
 use Rattle.types.specs.Rows.{typeAt, typesOf}
 use Rattle.tables.specs.Tables.{cell, RowTable, rowsIn}
@@ -19,7 +19,7 @@ use Rattle.valid_context.specs.Told.{toldOf, answer}
 -- seen that this is a code row)
 pub record Holds (τ : RowTable) (n : ℕ) (β : List ℕ) (nb : ℕ) (P : Program) : Type 0 where
   pub types : P .types ≡ typesOf (rowsIn τ n)
-  pub labels : (Δ : List Kind) (l : ℕ) → labelType (getElem? (P .blocks) l) ≡ guarded (ltb l nb) (typeAt value (P .types) (cell 2 β l 0))
+  pub labels : (l : ℕ) → labelType (getElem? (P .blocks) l) ≡ guarded (ltb l nb) (typeAt value (P .types) (cell 2 β l 0))
 
 -- ---- items
 -- i is one of the list

@@ -20,7 +20,7 @@ returns : tie.Need-returns Inv-loop μ-loop
 returns c =
     let l : tie.After-letter-count Inv-loop μ-loop = search in
     let s : tie.Start Inv-loop μ-loop = search in
-    λ P Δ. left-few _ _ _ _ _ _ (s .pre .2) (l .letter-count .ensures .0) P Δ (search)
+    left-few _ _ _ _ _ _ (s .pre .2) (l .letter-count .ensures .0) (search)
 
 loop-holds : tie.Need-loop-holds Inv-loop μ-loop
 loop-holds c =
@@ -37,7 +37,7 @@ returns-2 c =
     let n2 : tie.Else1 Inv-loop μ-loop = search in
     let l : tie.After-letter-count Inv-loop μ-loop = search in
     let s : tie.Start Inv-loop μ-loop = search in
-    λ P Δ. left-is _ _ _ _ _ _ (s .pre .2) (l .letter-count .ensures .0) P Δ false (n2 .if1 .left) (fit-fails _ _ _ _ _ _ (s .pre .2)
+    left-is _ _ _ _ _ _ (s .pre .2) (l .letter-count .ensures .0) false (n2 .if1 .left) (fit-fails _ _ _ _ _ _ (s .pre .2)
     (search) _ _ (i2 .loop-test .taken) (search) (i .is-stack .ensures ∙ ap (isStackAt (s .args .rows .now)) (a .at2 .ensures .0))
     (search) (l3 .letter-fits .ensures ∙ ap (fitsLetter _) (search)) (not-true _ (search)))
 
@@ -57,7 +57,7 @@ returns-3 c =
     let l2 : tie.At-loop Inv-loop μ-loop = search in
     let l : tie.After-letter-count Inv-loop μ-loop = search in
     let s : tie.Start Inv-loop μ-loop = search in
-    λ P Δ. left-is _ _ _ _ _ _ (s .pre .2) (l .letter-count .ensures .0) P Δ true (search) (fit-all _ _ _ _ _ _ (s .pre .2) (search) _ (l2 .loop .inv .0) (search) (search) (search))
+    left-is _ _ _ _ _ _ (s .pre .2) (l .letter-count .ensures .0) true (search) (fit-all _ _ _ _ _ _ (s .pre .2) (search) _ (l2 .loop .inv .0) (search) (search) (search))
 
 pub letters-fit-spec : {M : Type 1} → statement M
 letters-fit-spec =

@@ -68,7 +68,7 @@ returns-3 c =
     let k = t-code .code .result in
     λ P Δ f h e. applied-letters P Δ _ f _ (map (λ (x : ℕ). getD T x _) (a .args .now)) (a .o .row) _ _ (codeIn _ _ _ _ _)
     (t-base-type .base-type .ensures .0 P Δ h) (search) (when-is (k .is) true _ (t-code .code .ensures .0) (not-no (i2 .if2 .left)))
-    (when-is (t-letters-fit .letters-fit .result) false (lettersLess _ _ _) (t-letters-fit .letters-fit .ensures P Δ)
+    (when-is (t-letters-fit .letters-fit .result) false (lettersLess _ _ _) (t-letters-fit .letters-fit .ensures)
     (not-yes (i3 .if3 .taken)))
 
 given-row-requires : tie.Need-given-row-requires
@@ -110,7 +110,7 @@ returns-4 c =
     λ P Δ f h e. filled-told P Δ _ _ _ (s .pre .0 .ready) (h .types) _ f _ (map (λ (x : ℕ). getD T x _) (a .args .now)) _ _
     (t-given-row .given-row .result) _ (codeIn _ _ _ _ _) (lettersLess _ _ _) true e (t-base-type .base-type .ensures .0 P Δ h)
     (i1 .if1 .left) (when-is (k .is) true _ (t-code .code .ensures .0) (not-no (i2 .if2 .left)))
-    (when-is (t-letters-fit .letters-fit .result) true _ (t-letters-fit .letters-fit .ensures P Δ) (not-no (i3 .if3 .left)))
+    (when-is (t-letters-fit .letters-fit .result) true _ (t-letters-fit .letters-fit .ensures) (not-no (i3 .if3 .left)))
     (t-given-row .given-row .ensures .0) (t-filled .filled .ensures) (i4 .if4 .taken)
 
 returns-5 : tie.Need-returns-5
@@ -133,7 +133,7 @@ returns-5 c =
     λ P Δ f h e. filled-told P Δ _ _ _ (s .pre .0 .ready) (h .types) _ f _ (map (λ (x : ℕ). getD T x _) (a .args .now)) _ _
     (t-given-row .given-row .result) _ (codeIn _ _ _ _ _) (lettersLess _ _ _) false e (t-base-type .base-type .ensures .0 P Δ h)
     (i1 .if1 .left) (when-is (k .is) true _ (t-code .code .ensures .0) (not-no (i2 .if2 .left)))
-    (when-is (t-letters-fit .letters-fit .result) true _ (t-letters-fit .letters-fit .ensures P Δ) (not-no (i3 .if3 .left)))
+    (when-is (t-letters-fit .letters-fit .result) true _ (t-letters-fit .letters-fit .ensures) (not-no (i3 .if3 .left)))
     (t-given-row .given-row .ensures .0) (t-filled .filled .ensures) (i4 .if4 .left)
 
 pub fill-fault-spec : {M : Type 1} → statement M
