@@ -1,5 +1,6 @@
 use mathlib.Core.Path.{ap, sym, _∙_}
 use Rattle.exec.specs.Run.{bodies}
+use Rattle.exec_machine.specs.Step.{stateOf}
 use Rattle.exec_outcome.specs.declared.Outcome.{Outcome}
 use Rattle.exec_outcome.specs.Answers.{outcomeIs}
 use Rattle.exec_launch.proofs.Limits.{resumes-enough, resumes-place, resumes-safe}
@@ -30,7 +31,11 @@ run-from-requires c κs =
 returns-2 : tie.Need-returns-2
 returns-2 c =
     let r : tie.After-run-from = search in
-    λ args P rep. resumes-run _ args P rep _ _ (search) (search) (search) _ (r .run-from .ensures args (bodies P) rep)
+    let n : tie.Else1 = search in
+    let g : tie.After-good-form = search in
+    let s = start-of-good-form g in
+    λ args P rep. resumes-run _ args P rep (s .args .m) (stateOf (s .args .rk .now) (s .args .rn .now) (s .args .sk .now) (s .args .sn .now) (s .args .hk .now) (s .args .hn .now) (s .args .place))
+    (g .good-form .result) (g .good-form .ensures) (n .if1 .left) _ (r .run-from .ensures args (bodies P) rep)
 
 pub resume-ready-spec : {M : Type 1} → statement M
 resume-ready-spec =
