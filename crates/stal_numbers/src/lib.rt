@@ -1,5 +1,6 @@
 // The answers of check, start and continue as numbers, for crate stal: a code, and the values that document 01 gives for it.
-// Promised: the numbers that specs/Numbers.antt has for each case, also where they are put at places of the caller's. Nothing is asked.
+// Promised: the numbers that specs/Numbers.antt has for each case, also where they are put at places of the caller's; the answer can be
+// read off them (specs/Back.antt). Nothing is asked.
 use exec_machine::Place;
 use exec_outcome::Answer;
 ghost use mathlib.Core.Path.{_≡_};
