@@ -58,6 +58,7 @@ module _ (P : Program) (σ : State) (ω : Witness) (t : TypedState P σ ω) wher
     place = t .place;
     rules = t .rules;
     filled = record { Θ = ω .Θ; closed = t .picks; closed-sp = t .closed-sp; closed-regs = t .closed-regs; depth = t .depth };
+    heap = record { Ψ = ω .Ψ; closed = t .closed-tuples; holds = t .heap };
     register = λ x. register x;
     item = λ x. item x;
     component = λ {r} x y. heap-read P (ω .Ψ) (σ .heap) (σ .used) (register x .1) (t .heap) .component (walk-at (filling (ω .Θ)) 0 y);

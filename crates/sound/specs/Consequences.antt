@@ -13,9 +13,10 @@ use Rattle.valid.specs.Program.{Block, Program, programOf}
 use Rattle.valid.specs.Rules.{At, Context, Before}
 use Rattle.valid.specs.Verdict.{check, accepted}
 use Rattle.exec.specs.Machine.{intKind, codeKind, height, at, State, flat, startOf, componentAt, stuck, stop, step}
-use Rattle.exec.specs.Run.{Answer, refused, haltedAfter, pausedAfter, stackFullAfter, heapFullAfter, stuckAfter, Outcome, stepsOf, IsRefused, bodies, initial, starting, continuing}
+use Rattle.exec.specs.Run.{inUse, Answer, refused, haltedAfter, pausedAfter, stackFullAfter, heapFullAfter, stuckAfter, Outcome, stepsOf, IsRefused, bodies, initial, starting, continuing}
 use Rattle.exec.specs.Steps.{iterate}
-use Rattle.sound.specs.Claim.{Call, starts, continues}
+use Rattle.sound.specs.Values.{Tuples, Heap}
+use Rattle.sound.specs.Claim.{AllClosed, Call, starts, continues}
 
 -- ---- lists of calls
 -- a call of the text over the state σ
@@ -90,6 +91,12 @@ pub record Filled (B : Block) (Γ : Context) (σ : State) : Type 0 where
   pub closed-regs : Wf [] aFile (fill 0 Θ (Γ .regs))
   pub depth : items (fill 0 Θ (Γ .sp)) ≡ σ .depth
 
+-- the used heap is tuples end to end, each holding the components of the closed type that it was made with
+pub record HeapFilled (P : Program) (σ : State) : Type 0 where
+  pub Ψ : Tuples
+  pub closed : AllClosed Ψ
+  pub holds : Heap P Ψ (inUse (σ .heap) (σ .used)) Ψ
+
 -- In the state σ what the rules call an integer is one, wherever it stands; so it is with labels, and with pointers to the whole stack.
 pub record AsTyped (P : Program) (σ : State) : Type 0 where
   pub l : ℕ
@@ -100,6 +107,7 @@ pub record AsTyped (P : Program) (σ : State) : Type 0 where
   pub place : σ .position ≡ startOf (bodies P) l + i
   pub rules : Before P B i Γ
   pub filled : Filled B Γ σ
+  pub heap : HeapFilled P σ
   pub register : {r : ℕ} → At (Γ .regs) r int → at (σ .registers) r .kind ≡ intKind
   pub item : {j : ℕ} → At (Γ .sp) j int → (j < σ .depth) × (at (σ .stack) (σ .depth - suc j) .kind ≡ intKind)
   pub component : {r j : ℕ} {c : Ty stack} → At (Γ .regs) r (tuple c) → At c j int → at (σ .heap) (componentAt (at (σ .registers) r .number) j) .kind ≡ intKind
