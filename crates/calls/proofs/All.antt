@@ -41,10 +41,10 @@ module _ {A : Type 0} (Q : A → Type 0) where
   all-weaken R f [] h = tt
   all-weaken R f (x ∷ xs) h = (f x (h .0), all-weaken R f xs (h .1))
 
-pub bind-inv : {A B : Type 0} (o : Option A) (k : A → Option B) (y : B) → chain o k ≡ some y → (x : A) × (o ≡ some x) × (k x ≡ some y)
-bind-inv none k y e = none-some e
-bind-inv (some x) k y e = (x, refl, e)
+pub chain-inv : {A B : Type 0} (o : Option A) (k : A → Option B) (y : B) → chain o k ≡ some y → (x : A) × (o ≡ some x) × (k x ≡ some y)
+chain-inv none k y e = none-some e
+chain-inv (some x) k y e = (x, refl, e)
 
-pub when-inv : {A : Type 0} (b : Bool) (x y : A) → guarded b x ≡ some y → (b ≡ true) × (x ≡ y)
-when-inv true x y e = (refl, some-inj e)
-when-inv false x y e = none-some e
+pub guarded-inv : {A : Type 0} (b : Bool) (x y : A) → guarded b x ≡ some y → (b ≡ true) × (x ≡ y)
+guarded-inv true x y e = (refl, some-inj e)
+guarded-inv false x y e = none-some e

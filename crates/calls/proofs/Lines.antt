@@ -16,7 +16,7 @@ use Rattle.text.specs.PassOne.{said, entriesOf}
 use Rattle.types.proofs.Equal.{and-inv}
 use Rattle.valid.proofs.Reading.{none-some, some-inj}
 use Rattle.sound.proofs.Step.{true-le}
-use Rattle.calls.proofs.All.{All, bind-inv, when-inv}
+use Rattle.calls.proofs.All.{All, chain-inv, guarded-inv}
 
 -- ---- what is asked of a line
 abbrev pub BaseIn : Base → Type 0
@@ -70,7 +70,7 @@ FitLine (instr x) = Fit x
 number-high : (low high : ℕ) (s : List ℕ) (n : ℕ) → number low high s ≡ some n → n ≤ high
 unfolding number
 number-high low high s n e =
-    let h = when-inv (isDecimal s && (leb low (spelled 0 s) && leb (spelled 0 s) high)) (spelled 0 s) n e in
+    let h = guarded-inv (isDecimal s && (leb low (spelled 0 s) && leb (spelled 0 s) high)) (spelled 0 s) n e in
     let j = and-inv (isDecimal s) _ (h .0) in
     let l = true-le (spelled 0 s) high (and-inv (leb low (spelled 0 s)) _ (j .1) .1) in
     let q = h .1 in
@@ -80,8 +80,8 @@ register-in : (f : Field) (r : ℕ) → register f ≡ some r → r < 8
 unfolding register
 register-in [] r e = none-some e
 register-in (b ∷ s) r e =
-    let h = bind-inv (guarded (eqb b (code "r")) s) _ r e in
-    let j = bind-inv (number 1 8 (h .0)) _ r (h .2) in
+    let h = chain-inv (guarded (eqb b (code "r")) s) _ r e in
+    let j = chain-inv (number 1 8 (h .0)) _ r (h .2) in
     let l = number-high 1 8 (h .0) (j .0) (j .1) in
     let q : j .0 - 1 ≡ r = some-inj (j .2) in
     omega arith
@@ -92,26 +92,26 @@ carrier-in [] b e = none-some e
 carrier-in (c ∷ s) b e = go (eqb c (code "#")) e
   where
     go : (t : Bool) → cond t (chain (labelNumber s) (λ l. some (lab l))) (chain (register (c ∷ s)) (λ r. some (reg r))) ≡ some b → BaseIn b
-    go true e = let h = bind-inv (labelNumber s) _ b e in rw (← (some-inj (h .2))) tt
-    go false e = let h = bind-inv (register (c ∷ s)) _ b e in rw (← (some-inj (h .2))) (register-in (c ∷ s) (h .0) (h .1))
+    go true e = let h = chain-inv (labelNumber s) _ b e in rw (← (some-inj (h .2))) tt
+    go false e = let h = chain-inv (register (c ∷ s)) _ b e in rw (← (some-inj (h .2))) (register-in (c ∷ s) (h .0) (h .1))
 
 literal-in : (o : Option Base) (f : Field) (b : Base) → ((c : Base) → o ≡ some c → BaseIn c) → orLiteral o f ≡ some b → BaseIn b
-literal-in none f b h e = let k = bind-inv (literal f) _ b e in rw (← (some-inj (k .2))) tt
+literal-in none f b h e = let k = chain-inv (literal f) _ b e in rw (← (some-inj (k .2))) tt
 literal-in (some c) f b h e = h b e
 
 carried-in : (fs : List Field) (t : Field) (v : Operand) → carried fs t ≡ some v → InFile v
 unfolding carried
 carried-in [] t v e = none-some e
 carried-in (b ∷ ts) t v e =
-    let h = bind-inv (carrier b) _ v e in
-    let j = bind-inv (each rowNumber ts) _ v (h .2) in
-    let k = bind-inv (rowNumber t) _ v (j .2) in
-    let w = when-inv (leb 1 (length ts) && leb (length ts) 8) (inst (h .0) (j .0) (k .0)) v (k .2) in
+    let h = chain-inv (carrier b) _ v e in
+    let j = chain-inv (each rowNumber ts) _ v (h .2) in
+    let k = chain-inv (rowNumber t) _ v (j .2) in
+    let w = guarded-inv (leb 1 (length ts) && leb (length ts) 8) (inst (h .0) (j .0) (k .0)) v (k .2) in
     rw (← (w .1)) (carrier-in b (h .0) (h .1))
 
 parts-in : (fs : List Field) (v : Operand) → fromParts fs ≡ some v → InFile v
 parts-in [] v e = none-some e
-parts-in (b ∷ []) v e = let h = bind-inv (orLiteral (carrier b) b) _ v e in rw (← (some-inj (h .2))) (literal-in (carrier b) b (h .0) (carrier-in b) (h .1))
+parts-in (b ∷ []) v e = let h = chain-inv (orLiteral (carrier b) b) _ v e in rw (← (some-inj (h .2))) (literal-in (carrier b) b (h .0) (carrier-in b) (h .1))
 parts-in (l ∷ t ∷ []) v e = carried-in (split (code ":") l) t v e
 parts-in (l ∷ t ∷ u ∷ fs) v e = none-some e
 
@@ -128,7 +128,7 @@ Reads f = (fs : List Field) (e : Entry) → f fs ≡ some e → FitLine e
 then-fit : {A : Type 0} {Q : A → Type 0} (p : Field → Option A) (k : A → Form) → ((f : Field) (x : A) → p f ≡ some x → Q x) → ((x : A) → Q x → Reads (k x)) → Reads (p >>= k)
 unfolding _>>=_
 then-fit p k q h [] e z = none-some z
-then-fit p k q h (f ∷ fs) e z = let y = bind-inv (p f) (λ x. k x fs) e z in h (y .0) (q f (y .0) (y .1)) fs e (y .2)
+then-fit p k q h (f ∷ fs) e z = let y = chain-inv (p f) (λ x. k x fs) e z in h (y .0) (q f (y .0) (y .1)) fs e (y .2)
 
 -- a field of which nothing is asked
 then-any : {A : Type 0} (p : Field → Option A) (k : A → Form) → ((x : A) → Reads (k x)) → Reads (p >>= k)
@@ -144,17 +144,17 @@ module _ {A : Type 0} {Q : A → Type 0} (p : Field → Option A) (q : (f : Fiel
   unfolding each
   each-all [] xs z = rw (← (some-inj z)) (refl, tt)
   each-all (f ∷ fs) xs z =
-      let x = bind-inv (p f) _ xs z in
-      let ys = bind-inv (each p fs) _ xs (x .2) in
+      let x = chain-inv (p f) _ xs z in
+      let ys = chain-inv (each p fs) _ xs (x .2) in
       let h = each-all fs (ys .0) (ys .1) in
       rw (← (some-inj (ys .2))) (ap suc (h .0), (q f (x .0) (x .1), h .1))
 
   rest-fit : (right : ℕ → Bool) (c : List A → Entry) → ((xs : List A) → right (length xs) ≡ true → All Q xs → FitLine (c xs)) → Reads (rest right p c)
   unfolding rest
   rest-fit right c h fs e z =
-      let xs = bind-inv (each p fs) _ e z in
+      let xs = chain-inv (each p fs) _ e z in
       let k = each-all fs (xs .0) (xs .1) in
-      let w = when-inv (right (length fs)) _ e (xs .2) in
+      let w = guarded-inv (right (length fs)) _ e (xs .2) in
       rw (← (w .1)) (h (xs .0) (rw (k .0) (w .0)) (k .1))
 
 rest-any : {A : Type 0} (p : Field → Option A) (right : ℕ → Bool) (c : List A → Entry) → ((xs : List A) → right (length xs) ≡ true → FitLine (c xs)) → Reads (rest right p c)

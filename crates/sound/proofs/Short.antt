@@ -241,14 +241,14 @@ small-snoc : (A : List Arg) (a : Arg) → AllSmallArgs A → SmallArg a → AllS
 small-snoc [] a h k = (k, tt)
 small-snoc (b ∷ A) a h k = (h .0, small-snoc A a (h .1) k)
 
-small-meanings : (rs : List Row) (A : List Arg) → AllSmallArgs A → AllShortRows rs → AllSmallArgs (inTurn meaning A rs)
+small-in-turn : (rs : List Row) (A : List Arg) → AllSmallArgs A → AllShortRows rs → AllSmallArgs (inTurn meaning A rs)
 unfolding inTurn
-small-meanings [] A h s = h
-small-meanings (r ∷ rs) A h s = small-meanings rs (A ++ meaning A r ∷ []) (small-snoc A (meaning A r) h (small-meaning A h r (s .0))) (s .1)
+small-in-turn [] A h s = h
+small-in-turn (r ∷ rs) A h s = small-in-turn rs (A ++ meaning A r ∷ []) (small-snoc A (meaning A r) h (small-meaning A h r (s .0))) (s .1)
 
 types-small : (text : List ℕ) → AllSmallArgs (programOf text .types)
 unfolding programOf programFrom typesOf entriesOf
-types-small text = small-meanings (rowsOf (entriesOf text)) [] tt (rows-short (entriesOf text) (said-short (linesOf text)))
+types-small text = small-in-turn (rowsOf (entriesOf text)) [] tt (rows-short (entriesOf text) (said-short (linesOf text)))
 
 -- ---- what a program makes and declares
 pub types-are-small : (text : List ℕ) → SmallTypes (programOf text)

@@ -1,28 +1,26 @@
 -- The fault definition and the rules agree line by line: a line has no fault exactly where a rule types it, and the types after it
 -- are the rule's.
-use Prim.Native.Nat.{ℕ, suc, _-_, _≤_}
+use Prim.Native.Nat.{ℕ, suc, _-_}
 use native.Mathlib.Omega.{arith}
-use mathlib.Core.Path.{_≡_, refl, ap, sym}
-use mathlib.Core.Bool.{Bool, true, false, _&&_, cond}
+use mathlib.Core.Path.{_≡_, refl, sym}
+use mathlib.Core.Bool.{Bool, true, false, cond}
 use mathlib.Core.Option.{Option, none, some}
 use mathlib.Core.List.{List, [], _∷_, _++_, map}
-use lib.ListN.{length, length-append, getElem?, drop, take-append-drop}
-use lib.Seq.{take-append-seam, drop-append-seam}
+use lib.ListN.{getElem?}
 use lib.Dec.{leb, leb→le, le→leb}
-use Rattle.syntax.specs.Partial.{chain, guarded}
+use Rattle.syntax.specs.Partial.{chain}
 use Rattle.syntax.specs.Syntax.{Kind, value, stack, Base, reg, lit, lab, Operand, plain, inst, Instr, aop, bop, mov, ld, st, malloc, getsp, setsp, salloc, sfree, sld, sst, slp, ssp, jmp, halt}
 use Rattle.syntax.specs.Fault.{Fault, fault, unfit}
 use Rattle.text.specs.PassOne.{isLast}
-use Rattle.types.specs.Types.{Ty, int, tuple, pointer, code, nil, push, svar, gap, join, items, Arg, kindOf, filled, aStack, WfType, Args}
+use Rattle.types.specs.Types.{Ty, int, tuple, pointer, code, nil, push, svar, gap, join, items, Arg, kindOf, filled, aStack, WfType}
 use Rattle.types.specs.Equal.{same, sameLetters}
-use Rattle.types.proofs.Equal.{and-inv, none-true, to-so, so-true, same-sound, same-refl, sameLetters-sound, sameLetters-refl}
-use Rattle.types.proofs.Filling.{args-len}
+use Rattle.types.proofs.Equal.{none-true, to-so, so-true, same-sound, same-refl, sameLetters-sound}
 use Rattle.valid.specs.Program.{Block, Program, typeOf, argsOf, CodeType, asCode}
 use Rattle.valid.specs.Rules.{At, Put, junks, Context, withRegs, withSp, OfBase, ⊢reg, ⊢int, ⊢label, OfOperand, ⊢plain, ⊢tapp, OfOperands, ⊢none, ⊢more, Named, n-nil, n-same, n-any, n-gap, Target, target, Rule, ⊢aop, ⊢bop, ⊢ld, ⊢malloc, ⊢mov, ⊢get-sp, ⊢set-sp, ⊢salloc, ⊢sfree, ⊢sld1, ⊢sld2, ⊢sst1, ⊢sst2, ⊢st}
 use Rattle.valid.specs.Tests.{itemAt, replaced, under, above, asInt, asTuple, asPointer, isFormed, formedArgs, labelType, lettersLeft, isFilled, noneLeft}
 use Rattle.valid.specs.PassThree.{Judged, holds, fails, _▹_, _&_, orFault, need, noneOf, formed, known, integerAt, tupleAt, pointerAt, assign, base, applied, operand, operands, unfits, targetOf, newTail, judge}
 use Rattle.valid.proofs.Clear.{cons-nil}
-use Rattle.valid.proofs.Reading.{none-some, some-inj, at-sound, at-complete, put-sound, put-complete, pops-sound, pops-complete, above-sound, above-complete, int-sound, tuple-sound, pointer-sound, code-sound, formed-sound, formed-complete, args-sound, args-complete, args-letters}
+use Rattle.valid.proofs.Reading.{at-sound, at-complete, put-sound, put-complete, pops-sound, pops-complete, above-sound, above-complete, int-sound, tuple-sound, pointer-sound, code-sound, formed-sound, formed-complete, args-sound, args-complete, left-sound, left-complete, filled-sound}
 
 -- ---- from no fault to the rules
 -- If the premise holds, what it gives has the property Q. The proofs below have the shape of the definitions that they follow: `▸`
@@ -74,10 +72,6 @@ weaken : {A : Type 0} {R Q : A → Type 0} {m : Judged A} → ((x : A) → R x �
 weaken h (gives {x} r) = gives (h x r)
 weaken h faulty = faulty
 
-when-by : {A : Type 0} (b : Bool) {x y : A} → guarded b x ≡ some y → (b ≡ true) × (x ≡ y)
-when-by true e = (refl, some-inj e)
-when-by false e = none-some e
-
 at-given : (n : ℕ) (a : Ty stack) (i : ℕ) → Gives (At a i) (orFault n (itemAt a i))
 at-given n a i = read n (itemAt a i) (at-sound a i)
 
@@ -124,19 +118,6 @@ module _ (P : Program) (Δ : List Kind) where
       go : (o : Option Block) → getElem? (P .blocks) l ≡ o → Gives (OfBase P Δ g (lab l)) (orFault 9 (labelType o))
       go none e = unfold orFault labelType in faulty
       go (some B) e = unfold orFault labelType in gives (⊢label B e)
-
-  left-sound : (θ : List Arg) (l q : List Kind) → lettersLeft θ l ≡ some q → l ≡ q ++ map kindOf θ
-  unfolding lettersLeft
-  left-sound θ l q e =
-      let n = length l - length θ in
-      let h = when-by (leb (length θ) (length l) && sameLetters (map kindOf θ) (drop n l)) e in
-      let j = and-inv (leb (length θ) (length l)) _ (h .0) in
-      rw (← (h .1), sameLetters-sound (map kindOf θ) (drop n l) (j .1)) (sym (take-append-drop n l))
-
-  filled-sound : (t : Ty value) (o : Option (Ty value)) → isFilled t o ≡ true → o ≡ some t
-  unfolding isFilled
-  filled-sound t none e = none-true e
-  filled-sound t (some u) e = ap some (sym (same-sound t u e))
 
   -- what is known of a base that arguments fill
   record Applies (g : Ty stack) (b : Base) (θ : List Arg) (t : Ty value) : Type 0 where
@@ -280,19 +261,10 @@ module _ (P : Program) (Δ : List Kind) where
   base-complete ⊢int = refl
   base-complete (⊢label B e) = rw e
 
-  left-complete : {θ : List Arg} {q p : List Kind} → Args Δ θ p → lettersLeft θ (q ++ p) ≡ some q
-  unfolding lettersLeft
-  left-complete {θ} {q} {p} a =
-      let k = length-append q p in
-      let j = args-len a in
-      let n : length (q ++ p) - length θ ≡ length q = omega arith in
-      let m : length θ ≤ length (q ++ p) = omega arith in
-      rw (so-true (leb (length θ) (length (q ++ p))) (le→leb (length θ) (length (q ++ p)) m), n, args-letters a, drop-append-seam q p, sameLetters-refl p, take-append-seam q p)
-
   pub operand-complete : (f : Fault) {g : Ty stack} {v : Operand} {t : Ty value} → OfOperand P Δ g v t → operand P Δ f g v ≡ holds t
   unfolding operand formed applied _▹_ _&_ need orFault asCode isFilled
   operand-complete f (⊢plain x) = base-complete x
-  operand-complete f (⊢tapp {ts = ts} {t = t} q p a r y x w z) = rw (args-complete y, formed-complete Δ aStack (typeOf P t) w, base-complete x, left-complete {q = q} y, z, same-refl)
+  operand-complete f (⊢tapp {ts = ts} {t = t} q p a r y x w z) = rw (args-complete y, formed-complete Δ aStack (typeOf P t) w, base-complete x, left-complete q y, z, same-refl)
 
   operands-complete : {g : Ty stack} {vs : List Operand} {a : Ty stack} → OfOperands P Δ g vs a → operands P Δ g vs ≡ holds a
   unfolding operands _▹_ _&_

@@ -4,6 +4,7 @@ pub mod Judge
 pub mod Unique
 pub mod Order
 pub mod Accept
+pub mod Tests
 pub mod Numbers
 pub mod Verdicts
 pub mod Bound

@@ -1,21 +1,22 @@
 -- The tests on types say what the rules' relations say: each answers exactly where its relation holds.
-use Prim.Native.Nat.{ℕ, zero, suc}
+use Prim.Native.Nat.{ℕ, zero, suc, _-_, _≤_}
 use native.Mathlib.Omega.{arith}
-use mathlib.Core.Path.{_≡_, refl, ap}
-use mathlib.Core.Bool.{Bool, true, false, cond}
+use mathlib.Core.Path.{_≡_, refl, ap, sym}
+use mathlib.Core.Bool.{Bool, true, false, _&&_, cond}
 use mathlib.Core.Option.{Option, none, some}
 use mathlib.Core.List.{List, [], _∷_, _++_, map}
-use lib.ListN.{getElem?}
-use lib.Dec.{eqb→eq}
-use Rattle.syntax.specs.Partial.{chain}
+use lib.ListN.{length, length-append, length-map, getElem?, drop, take-append-drop}
+use lib.Seq.{take-append-seam, drop-append-seam}
+use lib.Dec.{leb, le→leb, eqb→eq}
+use Rattle.syntax.specs.Partial.{chain, guarded}
 use Rattle.syntax.specs.Syntax.{Kind, value, stack}
 use Rattle.types.specs.Types.{Ty, int, junk, var, tuple, pointer, code, nil, push, svar, gap, join, items, Arg, arg, kindOf, Use, aStack, aTuple, aFile, Wf, Args, noargs, more}
-use Rattle.types.specs.Equal.{same}
+use Rattle.types.specs.Equal.{same, sameLetters}
 use Rattle.types.proofs.Filling.{items-join}
-use Rattle.types.proofs.Equal.{and-inv, none-true, to-so, same-sound, same-refl, same-false}
+use Rattle.types.proofs.Equal.{and-inv, none-true, to-so, so-true, same-sound, same-refl, same-false, sameLetters-sound, sameLetters-refl}
 use Rattle.valid.specs.Rules.{At, here, there, skip, Put, phere, pnew, pthere, pskip, Pops, pop0, pop1}
 use Rattle.valid.specs.Program.{CodeType, asCode}
-use Rattle.valid.specs.Tests.{itemAt, replaced, under, above, asInt, asTuple, asPointer, isKind, isStack, isFile, isFormed, formedArg, formedArgs}
+use Rattle.valid.specs.Tests.{itemAt, replaced, under, above, asInt, asTuple, asPointer, isKind, isStack, isFile, isFormed, formedArg, formedArgs, lettersLeft, isFilled}
 
 -- a missing value is not there: anything follows
 pub none-some : {A B : Type 0} {x : A} → none ≡ some x → B
@@ -24,9 +25,9 @@ none-some e = let z : _≡_ {A = ℕ} 0 1 = cc in absurd (omega arith)
 pub some-inj : {A : Type 0} {x y : A} → some x ≡ some y → x ≡ y
 some-inj e = cc
 
-bind-by : {A B Q : Type 0} (m : Option A) (f : A → Option B) (y : B) → chain m f ≡ some y → ((x : A) → m ≡ some x → f x ≡ some y → Q) → Q
-bind-by none f y e q = none-some e
-bind-by (some x) f y e q = q x refl e
+chain-by : {A B Q : Type 0} (m : Option A) (f : A → Option B) (y : B) → chain m f ≡ some y → ((x : A) → m ≡ some x → f x ≡ some y → Q) → Q
+chain-by none f y e q = none-some e
+chain-by (some x) f y e q = q x refl e
 
 -- ---- items
 pub at-sound : (a : Ty stack) (i : ℕ) (t : Ty value) → itemAt a i ≡ some t → At a i t
@@ -48,10 +49,10 @@ pub put-sound : (a : Ty stack) (i : ℕ) (t : Ty value) (b : Ty stack) → repla
 unfolding replaced
 put-sound nil i t b e = none-some e
 put-sound (push u a) zero t b e = rw (← (some-inj e)) phere
-put-sound (push u a) (suc i) t b e = bind-by (replaced a i t) (λ c. some (push u c)) b e λ c h k. rw (← (some-inj k)) (pthere (put-sound a i t c h))
+put-sound (push u a) (suc i) t b e = chain-by (replaced a i t) (λ c. some (push u c)) b e λ c h k. rw (← (some-inj k)) (pthere (put-sound a i t c h))
 put-sound (svar k a) i t b e = none-some e
 put-sound (gap a) zero t b e = rw (← (some-inj e)) pnew
-put-sound (gap a) (suc i) t b e = bind-by (replaced a i t) (λ c. some (gap c)) b e λ c h k. rw (← (some-inj k)) (pskip (put-sound a i t c h))
+put-sound (gap a) (suc i) t b e = chain-by (replaced a i t) (λ c. some (gap c)) b e λ c h k. rw (← (some-inj k)) (pskip (put-sound a i t c h))
 
 pub put-complete : {a b : Ty stack} {i : ℕ} {t : Ty value} → Put a i t b → replaced a i t ≡ some b
 unfolding replaced
@@ -84,9 +85,9 @@ cond-by {Q} a b o c e f g = go (same a b) refl e
 pub above-sound : (b a c : Ty stack) → above b a ≡ some c → a ≡ join c b
 unfolding above join
 above-sound b nil c e = cond-by nil b none c e (λ p q. rw (← q, p)) (λ k. none-some k)
-above-sound b (push t a) c e = cond-by (push t a) b _ c e (λ p q. rw (← q, p)) (λ k. bind-by (above b a) (λ z. some (push t z)) c k λ d h j. rw (← (some-inj j)) (ap (push t) (above-sound b a d h)))
-above-sound b (svar n a) c e = cond-by (svar n a) b _ c e (λ p q. rw (← q, p)) (λ k. bind-by (above b a) (λ z. some (svar n z)) c k λ d h j. rw (← (some-inj j)) (ap (svar n) (above-sound b a d h)))
-above-sound b (gap a) c e = cond-by (gap a) b _ c e (λ p q. rw (← q, p)) (λ k. bind-by (above b a) (λ z. some (gap z)) c k λ d h j. rw (← (some-inj j)) (ap gap (above-sound b a d h)))
+above-sound b (push t a) c e = cond-by (push t a) b _ c e (λ p q. rw (← q, p)) (λ k. chain-by (above b a) (λ z. some (push t z)) c k λ d h j. rw (← (some-inj j)) (ap (push t) (above-sound b a d h)))
+above-sound b (svar n a) c e = cond-by (svar n a) b _ c e (λ p q. rw (← q, p)) (λ k. chain-by (above b a) (λ z. some (svar n z)) c k λ d h j. rw (← (some-inj j)) (ap (svar n) (above-sound b a d h)))
+above-sound b (gap a) c e = cond-by (gap a) b _ c e (λ p q. rw (← q, p)) (λ k. chain-by (above b a) (λ z. some (gap z)) c k λ d h j. rw (← (some-inj j)) (ap gap (above-sound b a d h)))
 
 above-self : (b : Ty stack) → above b b ≡ some nil
 unfolding above
@@ -211,3 +212,34 @@ pub args-letters : {Δ : List Kind} {θ : List Arg} {q : List Kind} → Args Δ 
 unfolding kindOf
 args-letters noargs = refl
 args-letters (more {κ = κ} w a) = ap (_∷_ κ) (args-letters a)
+
+-- ---- type arguments
+guarded-some : {A : Type 0} (b : Bool) {x y : A} → guarded b x ≡ some y → (b ≡ true) × (x ≡ y)
+guarded-some true e = (refl, some-inj e)
+guarded-some false e = none-some e
+
+pub left-sound : (θ : List Arg) (l q : List Kind) → lettersLeft θ l ≡ some q → l ≡ q ++ map kindOf θ
+unfolding lettersLeft
+left-sound θ l q e =
+    let n = length l - length θ in
+    let h = guarded-some (leb (length θ) (length l) && sameLetters (map kindOf θ) (drop n l)) e in
+    let j = and-inv (leb (length θ) (length l)) _ (h .0) in
+    rw (← (h .1), sameLetters-sound (map kindOf θ) (drop n l) (j .1)) (sym (take-append-drop n l))
+
+pub left-kinds : (θ : List Arg) (q : List Kind) → lettersLeft θ (q ++ map kindOf θ) ≡ some q
+unfolding lettersLeft
+left-kinds θ q =
+    let p = map kindOf θ in
+    let k = length-append q p in
+    let j = length-map θ kindOf in
+    let n : length (q ++ p) - length θ ≡ length q = omega arith in
+    let m : length θ ≤ length (q ++ p) = omega arith in
+    rw (so-true (leb (length θ) (length (q ++ p))) (le→leb (length θ) (length (q ++ p)) m), n, drop-append-seam q p, sameLetters-refl p, take-append-seam q p)
+
+pub left-complete : {Δ : List Kind} {θ : List Arg} {p : List Kind} (q : List Kind) → Args Δ θ p → lettersLeft θ (q ++ p) ≡ some q
+left-complete {θ = θ} q a = rw (← (args-letters a)) (left-kinds θ q)
+
+pub filled-sound : (t : Ty value) (o : Option (Ty value)) → isFilled t o ≡ true → o ≡ some t
+unfolding isFilled
+filled-sound t none e = none-true e
+filled-sound t (some u) e = ap some (sym (same-sound t u e))

@@ -1,6 +1,6 @@
--- The tests of pass three, which compute. Each says what a premise of the rules says, and is proved to (crates/valid/proofs/Reading.antt,
--- Accept.antt): `itemAt` At, `replaced` Put, `under` Pops, `above` σ₁ = σ₂ @ σ₃, `isFormed` Wf, `formedArgs` and
--- `lettersLeft` Args, `isFilled` the resulting row's, `noneLeft` ∀[], `isEntry` Entry.
+-- The tests of pass three, which compute. Each says what a premise of the rules says, and is proved to, both ways (proofs/Tests.antt):
+-- `itemAt` At, `replaced` Put, `under` Pops, `above` σ₁ = σ₂ @ σ₃, `isFormed` Wf, `formedArgs` and `lettersLeft` Args, `isFilled` the
+-- resulting row's, `noneLeft` ∀[], `isEntry` Entry.
 use Prim.Native.Nat.{ℕ, zero, suc, _-_}
 use mathlib.Core.Bool.{Bool, true, false, _&&_, cond}
 use mathlib.Core.Option.{Option, none, some}

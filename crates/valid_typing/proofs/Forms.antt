@@ -28,7 +28,7 @@ use Rattle.valid_context.specs.Context.{linked}
 use Rattle.valid_context.specs.Told.{toldOf, answer}
 use Rattle.valid_context.proofs.Told.{told-stop}
 use Rattle.valid_typing.specs.Typing.{typesIn, Ready, componentAt, codeIn}
-use Rattle.valid_typing.proofs.Judging.{ifNone, told-when, told-next, known-told, some-link, no-link}
+use Rattle.valid_typing.proofs.Judging.{ifNone, told-guarded, told-next, known-told, some-link, no-link}
 
 -- a row's type is that of the same row
 pub same-self : (rows parts : List ℕ) (n l r : ℕ) → l ≡ r → true ≡ same (typeAt value (typesIn rows parts n) l) (typeAt value (typesIn rows parts n) r)
@@ -85,7 +85,7 @@ module _ (P : Program) (Δ : List Kind) (T : List Arg) (g : Ty stack) (r u : ℕ
 
   pub int-is : (b : Bool) → (u ≡ 0 → ⊥) → asInt (typeAt value T (u - 1)) ≡ guarded b tt → toldOf (integerAt P Δ g r) ≡ answer (cond b 0 9) tt
   unfolding integerAt
-  int-is b z h = reads (λ t. orFault 9 (asInt t)) (cond b 0 9) tt z (told-when 8 _ b tt h)
+  int-is b z h = reads (λ t. orFault 9 (asInt t)) (cond b 0 9) tt z (told-guarded 8 _ b tt h)
 
   pub pointer-unknown : (y : Ty stack) → u ≡ 0 → toldOf (pointerAt P Δ g r) ≡ answer 9 y
   unfolding pointerAt
@@ -93,11 +93,11 @@ module _ (P : Program) (Δ : List Kind) (T : List Arg) (g : Ty stack) (r u : ℕ
 
   pub pointer-is : (b : Bool) (y : Ty stack) → (u ≡ 0 → ⊥) → asPointer (typeAt value T (u - 1)) ≡ guarded b y → toldOf (pointerAt P Δ g r) ≡ answer (cond b 0 9) y
   unfolding pointerAt
-  pointer-is b y z h = reads (λ t. orFault 9 (asPointer t)) (cond b 0 9) y z (told-when 8 _ b y h)
+  pointer-is b y z h = reads (λ t. orFault 9 (asPointer t)) (cond b 0 9) y z (told-guarded 8 _ b y h)
 
   tuple-is : (b : Bool) (c : Ty stack) → (u ≡ 0 → ⊥) → asTuple (typeAt value T (u - 1)) ≡ guarded b c → toldOf (tupleAt P Δ g r) ≡ answer (cond b 0 9) c
   unfolding tupleAt
-  tuple-is b c z h = reads (λ t. orFault 9 (asTuple t)) (cond b 0 9) c z (told-when 8 _ b c h)
+  tuple-is b c z h = reads (λ t. orFault 9 (asTuple t)) (cond b 0 9) c z (told-guarded 8 _ b c h)
 
   pub component-unknown : (i : ℕ) (y : Ty value) → u ≡ 0 → toldOf (componentAt P Δ g r i) ≡ answer 9 y
   component-unknown i y z = told-stop (tupleAt P Δ g r) (λ c. orFault 11 (itemAt c i)) 9 nil y (unfold tupleAt in unknown (λ t. orFault 9 (asTuple t)) nil z) (omega arith)
@@ -106,7 +106,7 @@ module _ (P : Program) (Δ : List Kind) (T : List Arg) (g : Ty stack) (r u : ℕ
   component-other i y z h = told-stop (tupleAt P Δ g r) (λ c. orFault 11 (itemAt c i)) 9 nil y (tuple-is false nil z h) (omega arith)
 
   pub component-is : (i : ℕ) (c : Ty stack) (b : Bool) (y : Ty value) → (u ≡ 0 → ⊥) → asTuple (typeAt value T (u - 1)) ≡ some c → itemAt c i ≡ guarded b y → toldOf (componentAt P Δ g r i) ≡ answer (cond b 0 11) y
-  component-is i c b y z h j = told-next (tupleAt P Δ g r) (λ c. orFault 11 (itemAt c i)) 0 (cond b 0 11) c y (tuple-is true c z h) refl (told-when 10 _ b y j)
+  component-is i c b y z h j = told-next (tupleAt P Δ g r) (λ c. orFault 11 (itemAt c i)) 0 (cond b 0 11) c y (tuple-is true c z h) refl (told-guarded 10 _ b y j)
 
 -- an item of a tuple
 pub part-is : (v : ℕ → Ty value) (ps : List ℕ) (h p c i : ℕ) → i < c → itemAt (partsOf v ps false h p c) i ≡ some (v (lower h (getD ps (p + i) 0)))

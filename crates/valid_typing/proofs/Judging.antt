@@ -29,9 +29,9 @@ ifNone k zero = k
 ifNone k (suc u) = 0
 
 -- ---- single premises
-pub told-when : {A : Type 0} (n : ℕ) (o : Option A) (b : Bool) (x : A) → o ≡ guarded b x → toldOf (orFault (suc n) o) ≡ answer (cond b 0 (suc n)) x
-told-when n o true x e = rw e (told-some (suc n) x)
-told-when n o false x e = rw e (told-none n x)
+pub told-guarded : {A : Type 0} (n : ℕ) (o : Option A) (b : Bool) (x : A) → o ≡ guarded b x → toldOf (orFault (suc n) o) ≡ answer (cond b 0 (suc n)) x
+told-guarded n o true x e = rw e (told-some (suc n) x)
+told-guarded n o false x e = rw e (told-none n x)
 
 pub told-link : (T : List Arg) (n : ℕ) (o : Option (Ty value)) (u : ℕ) → o ≡ linked T u → toldOf (orFault (suc n) o) ≡ answer (ifNone (suc n) u) (typeAt value T (u - 1))
 unfolding linked ifNone
@@ -176,7 +176,7 @@ module _ (P : Program) (Δ : List Kind) where
     pub setsp-goes : (s f : ℕ) (b a : Ty stack) (v : Bool) → toldOf (pointerAt P Δ (Γ .regs) s) ≡ answer f b → f ≡ 0 → above b (Γ .sp) ≡ guarded v a → toldOf (judge P Δ Γ (setsp s)) ≡ answer (cond v 0 12) (withSp Γ b)
     unfolding judge
     setsp-goes s f b a v p z e =
-        told-next _ (λ b. orFault 12 (above b (Γ .sp)) ▹ λ a. holds (withSp Γ b)) f (cond v 0 12) b (withSp Γ b) p z (told-map (orFault 12 (above b (Γ .sp))) (cond v 0 12) a (withSp Γ b) (told-when 11 _ v a e))
+        told-next _ (λ b. orFault 12 (above b (Γ .sp)) ▹ λ a. holds (withSp Γ b)) f (cond v 0 12) b (withSp Γ b) p z (told-map (orFault 12 (above b (Γ .sp))) (cond v 0 12) a (withSp Γ b) (told-guarded 11 _ v a e))
 
     pub salloc-told : (n : ℕ) (b : Bool) → b ≡ leb (items (junks n (Γ .sp))) 64 → toldOf (judge P Δ Γ (salloc n)) ≡ answer (cond b 0 13) (withSp Γ (junks n (Γ .sp)))
     unfolding judge
@@ -232,7 +232,7 @@ module _ (P : Program) (Δ : List Kind) where
 
     module _ (T : List Arg) (d s i f : ℕ) (b a : Ty stack) (v : Bool) (u : ℕ) (p : toldOf (pointerAt P Δ (Γ .regs) s) ≡ answer f b) (z : f ≡ 0) (ta : above b (Γ .sp) ≡ guarded v a) (it : itemAt b i ≡ linked T u) where
       slp-both : toldOf (orFault 12 (above b (Γ .sp)) & orFault 11 (itemAt b i)) ≡ answer (least (cond v 0 12) (ifNone 11 u)) (a, typeAt value T (u - 1))
-      slp-both = told-and _ _ (cond v 0 12) (ifNone 11 u) a (typeAt value T (u - 1)) (told-when 11 _ v a ta) (told-link T 10 _ u it)
+      slp-both = told-and _ _ (cond v 0 12) (ifNone 11 u) a (typeAt value T (u - 1)) (told-guarded 11 _ v a ta) (told-link T 10 _ u it)
 
       pub slp-lacks : (Γ′ : Context) → (least (cond v 0 12) (ifNone 11 u) ≡ 0 → ⊥) → toldOf (judge P Δ Γ (slp d s i)) ≡ answer (least (cond v 0 12) (ifNone 11 u)) Γ′
       unfolding judge
@@ -256,7 +256,7 @@ module _ (P : Program) (Δ : List Kind) where
     tail-goes T b i s t x u c v p q z r e =
         told-next _ (λ y. orFault 11 (replaced b i (y .1)) ▹ λ c. need (fault 10) (same (typeOf P t) (pointer c)) ▹ λ x. holds c) _ (cond v 0 10) (typeAt value T (x - 1), typeAt value T (u - 1)) c
         (told-and _ _ (ifNone 11 x) (ifNone 9 u) (typeAt value T (x - 1)) (typeAt value T (u - 1)) (told-link T 10 _ x p) (known-told T (Γ .regs) s u q)) z
-        (told-next (orFault 11 (replaced b i (typeAt value T (u - 1)))) (λ c. need (fault 10) (same (typeOf P t) (pointer c)) ▹ λ x. holds c) 0 (cond v 0 10) c c (told-when 10 _ true c r) refl
+        (told-next (orFault 11 (replaced b i (typeAt value T (u - 1)))) (λ c. need (fault 10) (same (typeOf P t) (pointer c)) ▹ λ x. holds c) 0 (cond v 0 10) c c (told-guarded 10 _ true c r) refl
         (told-map (need (fault 10) (same (typeOf P t) (pointer c))) (cond v 0 10) tt c (needs 9 _ v e)))
 
     abbrev pub through : ℕ → ℕ → ℕ → ℕ → Judged (Ty stack × Ty stack)
@@ -267,7 +267,7 @@ module _ (P : Program) (Δ : List Kind) where
 
     pub through-goes : (d i s t f k : ℕ) (b a c : Ty stack) (v : Bool) → toldOf (pointerAt P Δ (Γ .regs) d) ≡ answer f b → f ≡ 0 → above b (Γ .sp) ≡ guarded v a → toldOf (newTail P Δ Γ b i s t) ≡ answer k c
         → toldOf (through d i s t) ≡ answer (least (cond v 0 12) k) (a, c)
-    through-goes d i s t f k b a c v p z e q = told-next _ (λ b. orFault 12 (above b (Γ .sp)) & newTail P Δ Γ b i s t) f _ b (a, c) p z (told-and _ _ (cond v 0 12) k a c (told-when 11 _ v a e) q)
+    through-goes d i s t f k b a c v p z e q = told-next _ (λ b. orFault 12 (above b (Γ .sp)) & newTail P Δ Γ b i s t) f _ b (a, c) p z (told-and _ _ (cond v 0 12) k a c (told-guarded 11 _ v a e) q)
 
     module _ (d i s t f g h : ℕ) (w : Ty value) (a c : Ty stack) (p : toldOf (formed P Δ t) ≡ answer f tt) (q : toldOf (known P Δ (Γ .regs) s) ≡ answer g w) (r : toldOf (through d i s t) ≡ answer h (a, c)) where
       pub ssp-stops : (Γ′ : Context) → (least f (least g h) ≡ 0 → ⊥) → toldOf (judge P Δ Γ (ssp d i s t)) ≡ answer (least f (least g h)) Γ′

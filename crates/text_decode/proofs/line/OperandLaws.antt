@@ -62,10 +62,10 @@ Neat : ℕ → Operand → Type 0
 Neat k (plain b) = Unit
 Neat k (inst b ts t) = (1 ≤ length ts) × (length ts ≤ 8) × (2 * length ts ≤ k)
 
-when-both : {A : Type 0} (a b : Bool) (x y : A) → guarded (a && b) x ≡ some y → (a ≡ true) × (b ≡ true) × (x ≡ y)
-when-both true true x y e = (refl, refl, Option·some-injective x y e)
-when-both true false x y e = absurd (Option·none-ne-some y e)
-when-both false b x y e = absurd (Option·none-ne-some y e)
+guarded-both : {A : Type 0} (a b : Bool) (x y : A) → guarded (a && b) x ≡ some y → (a ≡ true) × (b ≡ true) × (x ≡ y)
+guarded-both true true x y e = (refl, refl, Option·some-injective x y e)
+guarded-both true false x y e = absurd (Option·none-ne-some y e)
+guarded-both false b x y e = absurd (Option·none-ne-some y e)
 
 carried-neat : (ps : List (List ℕ)) (f : List ℕ) (k : ℕ) → size ps ≤ suc k → (o : Operand) → carried ps f ≡ some o → Neat k o
 unfolding carried Neat size
@@ -77,7 +77,7 @@ carried-neat (b ∷ ts) f k l o h = go (carrier b) (each rowNumber ts) refl (row
     go (some c) none w t e = absurd (Option·none-ne-some o e)
     go (some c) (some rs) w none e = absurd (Option·none-ne-some o e)
     go (some c) (some rs) w (some r) e =
-        let q = when-both (leb 1 (length ts)) (leb (length ts) 8) (inst c rs r) o e in
+        let q = guarded-both (leb 1 (length ts)) (leb (length ts) 8) (inst c rs r) o e in
         let n = each-length rowNumber ts rs w in
         let d = rows-long ts rs w in
         let lo = leb-true 1 (length ts) (q .0) in

@@ -48,12 +48,12 @@ pub record Walked {A : Type 0} (p : List ℕ → Option A) (fs gs : List (List �
   pub counts : length fs ≡ n + length gs
 
 module _ {A : Type 0} (p : List ℕ → Option A) where
-  bind-some : (o : Option (List A)) → o ≡ chain o (λ ys. some ([] ++ ys))
-  bind-some none = refl
-  bind-some (some ys) = refl
+  chain-some : (o : Option (List A)) → o ≡ chain o (λ ys. some ([] ++ ys))
+  chain-some none = refl
+  chain-some (some ys) = refl
 
   pub walk-start : (fs : List (List ℕ)) → Walked p fs fs 0 []
-  walk-start fs = record { reads = bind-some (each p fs); counts = sym (zero-add (length fs)) }
+  walk-start fs = record { reads = chain-some (each p fs); counts = sym (zero-add (length fs)) }
 
   module _ (fs gs : List (List ℕ)) (n : ℕ) (xs : List A) where
     pub walk-on : (g : List ℕ) (x : A) → Walked p fs (g ∷ gs) n xs → p g ≡ some x → Walked p fs gs (n + 1) (xs ++ (x ∷ []))

@@ -155,15 +155,15 @@ map-reverse g (x ∷ l) r = map-reverse g l (x ∷ r)
 abbrev sized : List Kind → Bool
 sized q = leb 1 (length q) && leb (length q) 8
 
-count-when : (t : Bool) (q : List Kind) → guarded t (length q) ≡ countOf (guarded t q)
+count-guarded : (t : Bool) (q : List Kind) → guarded t (length q) ≡ countOf (guarded t q)
 unfolding countOf
-count-when true q = refl
-count-when false q = refl
+count-guarded true q = refl
+count-guarded false q = refl
 
-count-bind : (o : Option (List Kind)) → chain o (λ q. guarded (sized q) (length q)) ≡ countOf (chain o (λ q. guarded (sized q) q))
+count-chain : (o : Option (List Kind)) → chain o (λ q. guarded (sized q) (length q)) ≡ countOf (chain o (λ q. guarded (sized q) q))
 unfolding countOf
-count-bind none = refl
-count-bind (some q) = count-when (sized q) q
+count-chain none = refl
+count-chain (some q) = count-guarded (sized q) q
 
 no-codes : (o : Option (List Kind)) → countOf o ≡ none → codesOf o ≡ []
 unfolding countOf codesOf
@@ -195,7 +195,7 @@ module _ (f : List ℕ) where
 
     pub count-is : wordCount f ≡ countOf (letters f)
     unfolding wordCount
-    count-is = count-bind (eachLetter f) ∙ sym (ap countOf letters-word)
+    count-is = count-chain (eachLetter f) ∙ sym (ap countOf letters-word)
 
     pub codes-bad : wordCount f ≡ none → [] ≡ codesOf (letters f)
     codes-bad e = sym (no-codes (letters f) (sym count-is ∙ e))

@@ -58,14 +58,14 @@ cond-zero true k e = refl
 cond-zero false k e = absurd (omega arith)
 
 -- ---- a tail of sp
-when-some : {A : Type 0} (v w : Bool) (x : A) → guarded v x ≡ guarded w x → w ≡ true → v ≡ true
-when-some true w x e q = refl
-when-some false true x e q = let z : _≡_ {A = ℕ} 0 1 = cc in absurd (omega arith)
-when-some false false x e q = q
+guarded-some : {A : Type 0} (v w : Bool) (x : A) → guarded v x ≡ guarded w x → w ≡ true → v ≡ true
+guarded-some true w x e q = refl
+guarded-some false true x e q = let z : _≡_ {A = ℕ} 0 1 = cc in absurd (omega arith)
+guarded-some false false x e q = q
 
 module _ (T : List Arg) (sp : List ℕ) (d : ℕ) (b : Ty stack) (v : Bool) (e : above b (spOf T sp d) ≡ guarded v (spAbove T sp (items b) (d - items b))) (h : v ≡ true) where
   both : leb (items b) d && same b (spOf T sp (items b)) ≡ true
-  both = when-some (leb (items b) d && same b (spOf T sp (items b))) v (spAbove T sp (items b) (d - items b)) (sym (tail-is T sp d b) ∙ e) h
+  both = guarded-some (leb (items b) d && same b (spOf T sp (items b))) v (spAbove T sp (items b) (d - items b)) (sym (tail-is T sp d b) ∙ e) h
 
   pub tail-fits : items b ≤ d
   tail-fits = leb-true (items b) d (and-inv (leb (items b) d) (same b (spOf T sp (items b))) both .0)
@@ -83,15 +83,15 @@ pub junk-type : (rows parts : List ℕ) (n : ℕ) → Ready rows parts n → typ
 unfolding typeAt ofKind
 junk-type rows parts n r = ap (ofKind value) (given-past rows parts n n (omega arith) r ∙ past-arg rows parts n n (omega arith))
 
-when-none : {A : Type 0} (v : Bool) (x : A) → guarded v x ≡ none → v ≡ false
-when-none true x e = let z : _≡_ {A = ℕ} 0 1 = cc in absurd (omega arith)
-when-none false x e = refl
+guarded-none : {A : Type 0} (v : Bool) (x : A) → guarded v x ≡ none → v ≡ false
+guarded-none true x e = let z : _≡_ {A = ℕ} 0 1 = cc in absurd (omega arith)
+guarded-none false x e = refl
 
 -- no item is there to replace
 no-item : (T : List Arg) (sp : List ℕ) (d i row : ℕ) (b : Bool) (c : Ty stack) → d ≤ length sp → row < 1024 → replaced (spOf T sp d) i (typeAt value T row) ≡ guarded b c → itemAt (spOf T sp d) i ≡ none → b ≡ false
 no-item T sp d i row b c h l e z =
-    let v = when-none (areValues sp d (suc i)) (typeAt value T (getD sp (d - suc i) 0)) (sym (item-is T sp d i) ∙ z) in
-    when-none b c (sym e ∙ put-is T sp d i row h l ∙ ap (λ (w : Bool). guarded w (spOf T (set sp (d - suc i) row) d)) v)
+    let v = guarded-none (areValues sp d (suc i)) (typeAt value T (getD sp (d - suc i) 0)) (sym (item-is T sp d i) ∙ z) in
+    guarded-none b c (sym e ∙ put-is T sp d i row h l ∙ ap (λ (w : Bool). guarded w (spOf T (set sp (d - suc i) row) d)) v)
 
 module _ (P : Program) (Δ : List Kind) (T : List Arg) (regs sp : List ℕ) (d : ℕ) where
   pub cut-done : (s f m : ℕ) (b : Ty stack) (v : Bool) → toldOf (pointerAt P Δ (regsOf T regs) s) ≡ answer f b → f ≡ 0 → above b (spOf T sp d) ≡ guarded v (spAbove T sp (items b) (d - items b)) → v ≡ true → m ≡ items b

@@ -116,14 +116,14 @@ module _ (T : List Arg) (sp : List ℕ) (dep i t u : ℕ) (b : Ty stack) where
 some-same : {A : Type 0} {x y : A} → some x ≡ some y → x ≡ y
 some-same e = cc
 
-when-some : {A : Type 0} (v : Bool) (x y : A) → guarded v x ≡ some y → x ≡ y
-when-some true x y e = some-same e
-when-some false x y e = none-some e
+guarded-some : {A : Type 0} (v : Bool) (x y : A) → guarded v x ≡ some y → x ≡ y
+guarded-some true x y e = some-same e
+guarded-some false x y e = none-some e
 
 module _ (T : List Arg) (sp sp′ : List ℕ) (dep i u r m : ℕ) (b c : Ty stack) (v : Bool) (tl : IsTail T sp dep b) (rp : Replaced T b i u r c) (em : m ≡ items b)
     (put : replaced (spOf T sp m) i (typeAt value T (u - 1)) ≡ guarded v (spOf T sp′ m)) (up : (k : ℕ) → spAbove T sp′ m k ≡ spAbove T sp m k) where
   low : spOf T sp′ m ≡ c
-  low = when-some v (spOf T sp′ m) c (sym put ∙ ap (λ (x : Ty stack). replaced x i (typeAt value T (u - 1))) (sym (tl .same ∙ ap (spOf T sp) (sym em))) ∙ rp .put)
+  low = guarded-some v (spOf T sp′ m) c (sym put ∙ ap (λ (x : Ty stack). replaced x i (typeAt value T (u - 1))) (sym (tl .same ∙ ap (spOf T sp) (sym em))) ∙ rp .put)
 
   pub written : join (spAbove T sp (items b) (dep - items b)) c ≡ spOf T sp′ dep
   written =

@@ -21,7 +21,7 @@ use Rattle.types_rows.proofs.Laws.{value-is}
 use Rattle.types_rows.proofs.Bridge.{type-in}
 use Rattle.valid_context.specs.Told.{toldOf, answer}
 use Rattle.valid_typing.specs.Typing.{typesIn, Ready}
-use Rattle.valid_typing.proofs.Judging.{told-when, told-next, stops, aop-stops, aop-goes, malloc-stops, malloc-differs, malloc-goes}
+use Rattle.valid_typing.proofs.Judging.{told-guarded, told-next, stops, aop-stops, aop-goes, malloc-stops, malloc-differs, malloc-goes}
 use Rattle.valid_typing.specs.plain_components.Makes.{Makes}
 use Rattle.types.proofs.Equal.{same-refl}
 
@@ -38,7 +38,7 @@ pub int-lacks : (J : Judged (Ty value)) (f : ℕ) (t : Ty value) → (f ≡ 0 �
 int-lacks J f t n e = stops J (λ u. orFault 9 (asInt u)) f t tt e n
 
 pub int-told : (J : Judged (Ty value)) (f k : ℕ) (t : Ty value) (b : Bool) → f ≡ 0 → asInt t ≡ guarded b tt → k ≡ cond b 0 9 → toldOf J ≡ answer f t → toldOf (J ▹ λ u. orFault 9 (asInt u)) ≡ answer k tt
-int-told J f k t b z h ek e = told-next J (λ u. orFault 9 (asInt u)) f (cond b 0 9) t tt e z (told-when 8 (asInt t) b tt h) ∙ ap (λ (x : ℕ). answer x tt) (sym ek)
+int-told J f k t b z h ek e = told-next J (λ u. orFault 9 (asInt u)) f (cond b 0 9) t tt e z (told-guarded 8 (asInt t) b tt h) ∙ ap (λ (x : ℕ). answer x tt) (sym ek)
 
 module _ (P : Program) (Δ : List Kind) (Γ : Context) where
   -- ---- arithmetic

@@ -22,7 +22,7 @@ use Rattle.valid_context.specs.Context.{linked}
 use Rattle.valid_context.specs.Told.{gives, toldOf, answer}
 use Rattle.valid_context.specs.premises.Answers.{Holds}
 use Rattle.valid_typing.specs.Typing.{typesIn, Ready, givenRow}
-use Rattle.valid_typing.proofs.Judging.{ifNone, told-when}
+use Rattle.valid_typing.proofs.Judging.{ifNone, told-guarded}
 use Rattle.valid_typing.proofs.OperandFaults.{base-reg, base-lit}
 use Rattle.valid_typing.proofs.Forms.{read-is}
 use Rattle.valid_typing.proofs.Args.{given-is, given-typed}
@@ -88,7 +88,7 @@ module _ (P : Program) (Δ : List Kind) (g : Ty stack) where
   module _ (rows parts : List ℕ) (n : ℕ) (β : List ℕ) (nb : ℕ) (h : Holds (tab rows parts) n β nb P) (l : ℕ) where
     pub lab-none : (y : Ty value) → nb ≤ l → toldOf (base P Δ g (lab l)) ≡ answer 9 y
     unfolding base
-    lab-none y k = told-when 8 (labelType (getElem? (P .blocks) l)) false y (h .labels l ∙ rw (le-ltb l nb k) refl)
+    lab-none y k = told-guarded 8 (labelType (getElem? (P .blocks) l)) false y (h .labels l ∙ rw (le-ltb l nb k) refl)
 
     pub lab-some : (c w : ℕ) → Ready rows parts n → l < nb → c ≡ getD β (2 * l) 0 → w ≡ givenRow n c → toldOf (base P Δ g (lab l)) ≡ answer 0 (typeAt value (typesIn rows parts n) w)
     unfolding base
@@ -97,4 +97,4 @@ module _ (P : Program) (Δ : List Kind) (g : Ty stack) where
         let d : cell 2 β l 0 ≡ c = ap (λ (z : ℕ). getD β z 0) q ∙ sym e in
         let t : typeAt value (P .types) (cell 2 β l 0) ≡ typeAt value (typesIn rows parts n) w
         = ap (typeAt value (P .types)) d ∙ given-typed rows parts n P Δ c (h .types) (givenRow n c) (given-is rows parts n c r) ∙ ap (typeAt value (typesIn rows parts n)) (sym f) in
-        told-when 8 (labelType (getElem? (P .blocks) l)) true (typeAt value (typesIn rows parts n) w) (h .labels l ∙ rw (lt-ltb l nb k) (ap some t))
+        told-guarded 8 (labelType (getElem? (P .blocks) l)) true (typeAt value (typesIn rows parts n) w) (h .labels l ∙ rw (lt-ltb l nb k) (ap some t))

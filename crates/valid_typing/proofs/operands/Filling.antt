@@ -56,19 +56,19 @@ code-is (tuple a) c e = no-code e
 code-is (pointer a) c e = no-code e
 code-is (code q a r) c e = ap (λ (z : CodeType). code (z .letters) (z .sp) (z .regs)) (ap (theCode c) e)
 
-pub when-is : {A : Type 0} {o : Option A} (b v : Bool) (x : A) → o ≡ guarded b x → b ≡ v → o ≡ guarded v x
-when-is b v x e f = e ∙ ap (λ (z : Bool). guarded z x) f
+pub guarded-is : {A : Type 0} {o : Option A} (b v : Bool) (x : A) → o ≡ guarded b x → b ≡ v → o ≡ guarded v x
+guarded-is b v x e f = e ∙ ap (λ (z : Bool). guarded z x) f
 
 -- ---- letters
-when-some : (b : Bool) (x q : List Kind) → guarded b x ≡ some q → (b ≡ true) × (x ≡ q)
-when-some true x q e = (refl, cc)
-when-some false x q e = let z : _≡_ {A = ℕ} 0 1 = cc in absurd (omega arith)
+guarded-some : (b : Bool) (x q : List Kind) → guarded b x ≡ some q → (b ≡ true) × (x ≡ q)
+guarded-some true x q e = (refl, cc)
+guarded-some false x q e = let z : _≡_ {A = ℕ} 0 1 = cc in absurd (omega arith)
 
 module _ (P : Program) (Δ : List Kind) where
   left-is : (A : List Arg) (l q : List Kind) → lettersLeft A l ≡ some q → (leb (length A) (length l) ≡ true) × (take (length l - length A) l ≡ q)
   unfolding lettersLeft
   left-is A l q e =
-      let h = when-some (leb (length A) (length l) && sameLetters (map kindOf A) (drop (length l - length A) l)) (take (length l - length A) l) q e in
+      let h = guarded-some (leb (length A) (length l) && sameLetters (map kindOf A) (drop (length l - length A) l)) (take (length l - length A) l) q e in
       (and-inv (leb (length A) (length l)) (sameLetters (map kindOf A) (drop (length l - length A) l)) (h .0) .0, h .1)
 
   full-is : (t : Ty value) (o : Option (Ty value)) → isFull t o ≡ isFilled t o

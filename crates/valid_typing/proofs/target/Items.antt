@@ -45,8 +45,8 @@ pub ninety-nine : numberOf (unfit 99) ≡ 10
 unfolding numberOf
 ninety-nine = refl
 
-pub when-is : {A : Type 0} {o : Option A} (b v : Bool) (x : A) → o ≡ guarded b x → b ≡ v → o ≡ guarded v x
-when-is b v x e f = e ∙ ap (λ (z : Bool). guarded z x) f
+pub guarded-is : {A : Type 0} {o : Option A} (b v : Bool) (x : A) → o ≡ guarded b x → b ≡ v → o ≡ guarded v x
+guarded-is b v x e f = e ∙ ap (λ (z : Bool). guarded z x) f
 
 -- ---- targets
 module _ (P : Program) (Δ : List Kind) (Γ : Context) (v : Operand) (k : ℕ) (u : Ty value) (p : toldOf (operand P Δ (unfit 99) (Γ .regs) v) ≡ answer k u) where

@@ -6,7 +6,7 @@ use lib.ListN.{getD}
 use Rattle.types.specs.Types.{Arg}
 use Rattle.valid_typing.specs.Typing.{codeIn, lettersLess}
 use Rattle.valid_typing.proofs.OperandFaults.{applied-stops, applied-plain, applied-letters}
-use Rattle.valid_typing.proofs.operands.Filling.{not-yes, not-no, when-is, filled-told}
+use Rattle.valid_typing.proofs.operands.Filling.{not-yes, not-no, guarded-is, filled-told}
 use Rattle.image.specs.Sections.{part}
 use Rattle.valid_typing.specs.Image.{typesAt}
 use borrow.Author.Needs.{needs}
@@ -51,7 +51,7 @@ returns-2 c =
     let l = a .image .now in
     let T : List Arg = typesAt (a .p) l (a .c .rows) in
     let k = t-code .code .result in
-    λ P Δ f h e. applied-plain P Δ _ f _ (map (λ (x : ℕ). getD T x _) (a .args .now)) (a .o .row) _ _ (t-base-type .base-type .ensures .0 P Δ h) (search) (when-is (k .is) false (codeIn _ _ _ _ _) (t-code .code .ensures .0) (not-yes (i2 .if2 .taken)))
+    λ P Δ f h e. applied-plain P Δ _ f _ (map (λ (x : ℕ). getD T x _) (a .args .now)) (a .o .row) _ _ (t-base-type .base-type .ensures .0 P Δ h) (search) (guarded-is (k .is) false (codeIn _ _ _ _ _) (t-code .code .ensures .0) (not-yes (i2 .if2 .taken)))
 
 returns-3 : tie.Need-returns-3
 unfolding part
@@ -67,8 +67,8 @@ returns-3 c =
     let T : List Arg = typesAt (a .p) l (a .c .rows) in
     let k = t-code .code .result in
     λ P Δ f h e. applied-letters P Δ _ f _ (map (λ (x : ℕ). getD T x _) (a .args .now)) (a .o .row) _ _ (codeIn _ _ _ _ _)
-    (t-base-type .base-type .ensures .0 P Δ h) (search) (when-is (k .is) true _ (t-code .code .ensures .0) (not-no (i2 .if2 .left)))
-    (when-is (t-letters-fit .letters-fit .result) false (lettersLess _ _ _) (t-letters-fit .letters-fit .ensures)
+    (t-base-type .base-type .ensures .0 P Δ h) (search) (guarded-is (k .is) true _ (t-code .code .ensures .0) (not-no (i2 .if2 .left)))
+    (guarded-is (t-letters-fit .letters-fit .result) false (lettersLess _ _ _) (t-letters-fit .letters-fit .ensures)
     (not-yes (i3 .if3 .taken)))
 
 given-row-requires : tie.Need-given-row-requires
@@ -109,8 +109,8 @@ returns-4 c =
     let k = t-code .code .result in
     λ P Δ f h e. filled-told P Δ _ _ _ (s .pre .0 .ready) (h .types) _ f _ (map (λ (x : ℕ). getD T x _) (a .args .now)) _ _
     (t-given-row .given-row .result) _ (codeIn _ _ _ _ _) (lettersLess _ _ _) true e (t-base-type .base-type .ensures .0 P Δ h)
-    (i1 .if1 .left) (when-is (k .is) true _ (t-code .code .ensures .0) (not-no (i2 .if2 .left)))
-    (when-is (t-letters-fit .letters-fit .result) true _ (t-letters-fit .letters-fit .ensures) (not-no (i3 .if3 .left)))
+    (i1 .if1 .left) (guarded-is (k .is) true _ (t-code .code .ensures .0) (not-no (i2 .if2 .left)))
+    (guarded-is (t-letters-fit .letters-fit .result) true _ (t-letters-fit .letters-fit .ensures) (not-no (i3 .if3 .left)))
     (t-given-row .given-row .ensures .0) (t-filled .filled .ensures) (i4 .if4 .taken)
 
 returns-5 : tie.Need-returns-5
@@ -132,8 +132,8 @@ returns-5 c =
     let k = t-code .code .result in
     λ P Δ f h e. filled-told P Δ _ _ _ (s .pre .0 .ready) (h .types) _ f _ (map (λ (x : ℕ). getD T x _) (a .args .now)) _ _
     (t-given-row .given-row .result) _ (codeIn _ _ _ _ _) (lettersLess _ _ _) false e (t-base-type .base-type .ensures .0 P Δ h)
-    (i1 .if1 .left) (when-is (k .is) true _ (t-code .code .ensures .0) (not-no (i2 .if2 .left)))
-    (when-is (t-letters-fit .letters-fit .result) true _ (t-letters-fit .letters-fit .ensures) (not-no (i3 .if3 .left)))
+    (i1 .if1 .left) (guarded-is (k .is) true _ (t-code .code .ensures .0) (not-no (i2 .if2 .left)))
+    (guarded-is (t-letters-fit .letters-fit .result) true _ (t-letters-fit .letters-fit .ensures) (not-no (i3 .if3 .left)))
     (t-given-row .given-row .ensures .0) (t-filled .filled .ensures) (i4 .if4 .left)
 
 pub fill-fault-spec : {M : Type 1} → statement M

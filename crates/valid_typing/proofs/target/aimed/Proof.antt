@@ -1,7 +1,7 @@
 use mathlib.Core.Bool.{true, false}
 use Rattle.valid_typing.specs.Typing.{codeIn}
 use Rattle.valid_typing.proofs.target.Registers.{not-yes, not-no, none-left, some-left}
-use Rattle.valid_typing.proofs.target.Items.{when-is, no-code, still-open, sp-differs, register-differs, all-fit}
+use Rattle.valid_typing.proofs.target.Items.{guarded-is, no-code, still-open, sp-differs, register-differs, all-fit}
 use borrow.Author.Needs.{needs}
 use Rattle.valid_typing.proofs.target.aimed.Statement.{statement}
 use Rattle.valid_typing.proofs.target.aimed.Tie as tie
@@ -26,7 +26,7 @@ returns c =
     let code2 : tie.After-code = search in
     let if2 : tie.Then1 = search in
     let k = code2 .code .result in
-    λ P Δ v j z e. no-code P Δ _ v j _ e z (when-is (k .is) false (codeIn _ _ _ _ _) (code2 .code .ensures .0) (not-yes (if2 .if1 .taken)))
+    λ P Δ v j z e. no-code P Δ _ v j _ e z (guarded-is (k .is) false (codeIn _ _ _ _ _) (code2 .code .ensures .0) (not-yes (if2 .if1 .taken)))
 
 returns-2 : tie.Need-returns-2
 returns-2 c =
@@ -36,7 +36,7 @@ returns-2 c =
     let lette : tie.After-letter-count = search in
     let a = (s .args) in
     let k = code2 .code .result in
-    λ P Δ v j z e. still-open P Δ _ v j _ e z (codeIn _ _ _ _ _) (when-is (k .is) true _ (code2 .code .ensures .0) (not-no (if3 .if1 .left))) (some-left (a .parts .now) (k .start) _ (lette .letter-count .ensures .0) (search))
+    λ P Δ v j z e. still-open P Δ _ v j _ e z (codeIn _ _ _ _ _) (guarded-is (k .is) true _ (code2 .code .ensures .0) (not-no (if3 .if1 .left))) (some-left (a .parts .now) (k .start) _ (lette .letter-count .ensures .0) (search))
 
 returns-3 : tie.Need-returns-3
 returns-3 c =
@@ -47,7 +47,7 @@ returns-3 c =
     let samei : tie.After-same-items = search in
     let a = (s .args) in
     let k = code2 .code .result in
-    λ P Δ v j z e. sp-differs P Δ _ v j _ e z (codeIn _ _ _ _ _) (when-is (k .is) true _ (code2 .code .ensures .0) (not-no (if4 .if1 .left))) (none-left (a .parts .now) (k .start) _ (lette .letter-count .ensures .0) (search)) (samei .same-items .ensures) (not-yes (search))
+    λ P Δ v j z e. sp-differs P Δ _ v j _ e z (codeIn _ _ _ _ _) (guarded-is (k .is) true _ (code2 .code .ensures .0) (not-no (if4 .if1 .left))) (none-left (a .parts .now) (k .start) _ (lette .letter-count .ensures .0) (search)) (samei .same-items .ensures) (not-yes (search))
 
 returns-4 : tie.Need-returns-4
 returns-4 c =
@@ -59,7 +59,7 @@ returns-4 c =
     let unfit2 : tie.After-unfit-register = search in
     let a = (s .args) in
     let k = code2 .code .result in
-    λ P Δ v j z e. register-differs P Δ _ v j _ e z _ (when-is (k .is) true _ (code2 .code .ensures .0) (not-no (if5 .if1 .left)))
+    λ P Δ v j z e. register-differs P Δ _ v j _ e z _ (guarded-is (k .is) true _ (code2 .code .ensures .0) (not-no (if5 .if1 .left)))
     (none-left (a .parts .now) (k .start) _ (lette .letter-count .ensures .0) (search)) (samei .same-items .ensures) (not-no (search)) _
     (unfit2 .unfit-register .ensures P Δ) (search)
 
@@ -73,7 +73,7 @@ returns-5 c =
     let unfit2 : tie.After-unfit-register = search in
     let a = (s .args) in
     let k = code2 .code .result in
-    λ P Δ v j z e. all-fit P Δ _ v j _ e z _ (when-is (k .is) true _ (code2 .code .ensures .0) (not-no (if5 .if1 .left)))
+    λ P Δ v j z e. all-fit P Δ _ v j _ e z _ (guarded-is (k .is) true _ (code2 .code .ensures .0) (not-no (if5 .if1 .left)))
     (none-left (a .parts .now) (k .start) _ (lette .letter-count .ensures .0) (search)) (samei .same-items .ensures) (not-no (search)) _
     (unfit2 .unfit-register .ensures P Δ) (search)
 
