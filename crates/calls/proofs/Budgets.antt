@@ -5,17 +5,14 @@ use native.Mathlib.Omega.{arith}
 use mathlib.Core.Path.{_≡_, refl}
 use mathlib.Core.Option.{none}
 use mathlib.Core.List.{List}
-use lib.Dec.{eqb→eq}
-use lib.ListN.{length}
-use Rattle.types.proofs.Equal.{to-so}
 use Rattle.valid.specs.Program.{programOf}
 use Rattle.exec.specs.Machine.{Word, State, Bodies, halted, stackFull, heapFull, stuck}
-use Rattle.exec.specs.Run.{End, paused, stopped, Ran, run, budget, Outcome, answerOf, outcome, bodies, wanted, barred, initial, starting, continuing}
+use Rattle.exec.specs.Run.{End, paused, stopped, Ran, run, budget, Outcome, answerOf, outcome, bodies, barred, initial, starting, continuing}
 use Rattle.exec.proofs.Budgets.{more, run-twice}
 use Rattle.exec.proofs.Calls.{Continued, continued, continue-runs, Started, started, start-runs}
 use Rattle.exec.proofs.Steps.{steps-are, never-refused}
 use Rattle.calls.specs.Budgets.{plus, Adds, BudgetsAdd}
-use Rattle.calls.proofs.Samples.{wanted-fit}
+use Rattle.calls.proofs.Samples.{samples-fit}
 use Rattle.calls.proofs.GoodForm.{WellFormed, first-form, run-form}
 
 -- ---- answers
@@ -48,9 +45,6 @@ module _ (text : List ℕ) where
   abbrev P : Bodies
   P = bodies (programOf text)
 
-  abbrev count : ℕ
-  count = wanted (programOf text .blocks)
-
   formed : {σ : State} → Continued text σ → WellFormed text σ
   formed c = (c .good, c .long)
 
@@ -61,10 +55,7 @@ module _ (text : List ℕ) where
   starts s m h = rw (start-runs text s m, budget-is m h)
 
   start-formed : {samples : List ℕ} {σ : State} (s : Started text samples σ) → WellFormed text (initial (s .xs) σ)
-  start-formed {samples} {σ} s =
-      let e = eqb→eq (length (s .xs)) count (to-so _ (s .counted)) in
-      let l = wanted-fit text in
-      first-form text (s .free) (s .xs) (omega arith) σ (s .long)
+  start-formed {samples} {σ} s = first-form text (s .free) (s .xs) (samples-fit text s) σ (s .long)
 
   -- ---- a call, and the continuing of what it left
   module _ (m n : ℕ) (h : m + n ≤ 1000000) where

@@ -15,7 +15,7 @@ use Rattle.sound.proofs.GoodForm.{true-long}
 use Rattle.calls.proofs.All.{All, all-replicate}
 use Rattle.calls.proofs.Startable.{Startable, start-in, startable}
 use Rattle.calls.proofs.Tuples.{one-tuple}
-use Rattle.calls.proofs.Form.{Good, good-integer, good-handle, good-junk, Form, to-form, form-long, form-good}
+use Rattle.calls.proofs.Form.{Good, good-integer, good-handle, good-junk, Lasting, good-lasts, Form, to-form, form-long, form-good}
 use Rattle.calls.proofs.Kept.{run-keeps}
 
 -- ---- the first state
@@ -32,15 +32,19 @@ none-used : (Q : Word → Type 0) (m : Memory) → All Q (inUse m 0)
 unfolding wordsFrom
 none-used Q m = tt
 
-first-keeps : (P : Bodies) → Startable P → (xs : List ℕ) → length xs ≤ 16 → (σ : State) → longEnough σ ≡ true → Form P (initial xs σ)
+-- it has whatever is asked of words, if that lasts and the samples have it
+pub first-keeps : (Q : List Word → Word → Type 0) → Lasting Q → (P : Bodies) → Startable P → (xs : List ℕ) → length xs ≤ 16
+    → ((H : List Word) → All (Q H) (map integer xs)) → (σ : State) → longEnough σ ≡ true → Form Q P (initial xs σ)
 unfolding initial startsAt startOf flat
-first-keeps P s xs h σ l =
+first-keeps Q q P s xs h g σ l =
     let m = true-long σ l in
     let n = suc (length xs) in
     let T = integer (length xs) ∷ map integer xs in
     let R = handle 0 ∷ replicate 7 junkWord in
     let k = length-map xs integer in
     let t : inUse (puts (σ .heap) 0 T) n ≡ T = written (σ .heap) 2048 n T (m .2) (omega arith) (omega arith) in
+    let r1 = q .made T (handle 0) (good-handle T 0 refl) (omega arith) in
+    let j = q .made T junkWord (good-junk T) (omega arith) in
     record {
       registers-long = puts-long R (σ .registers) 8 0 (m .0);
       stack-long = m .1;
@@ -49,9 +53,9 @@ first-keeps P s xs h σ l =
       used = omega arith;
       position = start-in P (s .closed) 0 (s .some-block);
       tuples = rw t (one-tuple (length xs) (map integer xs) (sym k) h);
-      registers = rw (t, written (σ .registers) 8 8 R (m .0) refl (omega arith)) (good-handle T 0 refl, all-replicate (Good T) 7 junkWord (good-junk T));
-      stack = none-used (Good _) (σ .stack);
-      heap = rw t (integers-good T (length xs ∷ xs));
+      registers = rw (t, written (σ .registers) 8 8 R (m .0) refl (omega arith)) (r1, all-replicate (Q T) 7 junkWord j);
+      stack = none-used (Q _) (σ .stack);
+      heap = rw t (q .made T (integer (length xs)) (good-integer T (length xs)) (omega arith), g T);
     }
 
 -- ---- the text
@@ -63,14 +67,14 @@ module _ (text : List ℕ) (free : barred text ≡ none) where
   abbrev P : Bodies
   P = bodies (programOf text)
 
-  from-parts : (σ : State) → Form P σ → WellFormed text σ
+  from-parts : (σ : State) → Form Good P σ → WellFormed text σ
   from-parts σ f = (form-good P σ f, form-long P σ f)
 
-  parts : (σ : State) → WellFormed text σ → Form P σ
+  parts : (σ : State) → WellFormed text σ → Form Good P σ
   parts σ w = to-form P σ (w .1) (w .0)
 
   pub first-form : (xs : List ℕ) → length xs ≤ 16 → (σ : State) → longEnough σ ≡ true → WellFormed text (initial xs σ)
-  first-form xs h σ l = from-parts (initial xs σ) (first-keeps P (startable text free) xs h σ l)
+  first-form xs h σ l = from-parts (initial xs σ) (first-keeps Good good-lasts P (startable text free) xs h (λ H. integers-good H xs) σ l)
 
   pub run-form : (n : ℕ) (σ : State) → WellFormed text σ → WellFormed text (run P n σ .state)
-  run-form n σ w = from-parts (run P n σ .state) (run-keeps P (startable text free) n σ (parts σ w))
+  run-form n σ w = from-parts (run P n σ .state) (run-keeps Good P good-lasts (startable text free) n σ (parts σ w))

@@ -6,4 +6,5 @@ pub mod Tuples
 pub mod Form
 pub mod Kept
 pub mod GoodForm
+pub mod Bits
 pub mod Budgets

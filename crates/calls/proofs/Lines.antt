@@ -1,4 +1,5 @@
--- By the grammar alone, an instruction reads only registers r1 to r8, and a tuple row or a `malloc` names at most 16 words.
+-- By the grammar alone, an instruction reads only registers r1 to r8, its literals have 32 bits, and a tuple row or a `malloc` names at
+-- most 16 words.
 use Prim.Native.Nat.{ℕ, suc, _-_, _≤_, _<_}
 use Prim.Native.Char.{code}
 use native.Mathlib.Omega.{arith}
@@ -8,6 +9,7 @@ use mathlib.Core.Option.{Option, none, some}
 use mathlib.Core.List.{List, [], _∷_, map}
 use lib.Dec.{leb, eqb}
 use lib.ListN.{length}
+use Rattle.syntax.specs.Bits.{modulus, half}
 use Rattle.syntax.specs.Partial.{chain, guarded}
 use Rattle.syntax.specs.Syntax.{Row, rowI, rowN, rowE, rowV, rowX, rowP, rowU, rowK, rowA, rowC, Base, reg, lit, lab, Operand, plain, inst, Instr, aop, bop, mov, ld, st, malloc, getsp, setsp, salloc, sfree, sld, sst, slp, ssp, jmp, halt, Entry, row, block, instr}
 use Rattle.text.specs.Bytes.{bytes, sameBytes, split, isDecimal, spelled, number, literal, Line, ended, unended, fieldsOf, linesOf}
@@ -19,24 +21,25 @@ use Rattle.sound.proofs.Step.{true-le}
 use Rattle.calls.proofs.All.{All, chain-inv, guarded-inv}
 
 -- ---- what is asked of a line
+-- one of the eight registers, a literal's bits, or a label of the 64
 abbrev pub BaseIn : Base → Type 0
 BaseIn (reg r) = r < 8
-BaseIn (lit n) = Unit
-BaseIn (lab l) = Unit
+BaseIn (lit n) = n < modulus
+BaseIn (lab l) = l < 64
 
--- a register, if it is one, of the eight
-abbrev pub InFile : Operand → Type 0
-InFile (plain b) = BaseIn b
-InFile (inst b ts t) = BaseIn b
+-- likewise an operand, whatever it carries
+abbrev pub OperandIn : Operand → Type 0
+OperandIn (plain b) = BaseIn b
+OperandIn (inst b ts t) = BaseIn b
 
 -- an instruction moves words, and follows handles, from the eight registers only; a `malloc` has at most 16 operands
 abbrev pub Fit : Instr → Type 0
 Fit (aop o d s v) = Unit
 Fit (bop o r v) = Unit
-Fit (mov d v) = InFile v
+Fit (mov d v) = OperandIn v
 Fit (ld d s i) = s < 8
 Fit (st d i s) = (d < 8) × (s < 8)
-Fit (malloc d t vs) = (length vs ≤ 16) × All InFile vs
+Fit (malloc d t vs) = (length vs ≤ 16) × All OperandIn vs
 Fit (getsp d t) = Unit
 Fit (setsp s) = Unit
 Fit (salloc n) = Unit
@@ -67,14 +70,16 @@ FitLine (block c) = Unit
 FitLine (instr x) = Fit x
 
 -- ---- fields
-number-high : (low high : ℕ) (s : List ℕ) (n : ℕ) → number low high s ≡ some n → n ≤ high
+number-in : (low high : ℕ) (s : List ℕ) (n : ℕ) → number low high s ≡ some n → (low ≤ n) × (n ≤ high)
 unfolding number
-number-high low high s n e =
+number-in low high s n e =
     let h = guarded-inv (isDecimal s && (leb low (spelled 0 s) && leb (spelled 0 s) high)) (spelled 0 s) n e in
     let j = and-inv (isDecimal s) _ (h .0) in
-    let l = true-le (spelled 0 s) high (and-inv (leb low (spelled 0 s)) _ (j .1) .1) in
+    let k = and-inv (leb low (spelled 0 s)) _ (j .1) in
+    let a = true-le low (spelled 0 s) (k .0) in
+    let b = true-le (spelled 0 s) high (k .1) in
     let q = h .1 in
-    omega arith
+    (omega arith, omega arith)
 
 register-in : (f : Field) (r : ℕ) → register f ≡ some r → r < 8
 unfolding register
@@ -82,9 +87,27 @@ register-in [] r e = none-some e
 register-in (b ∷ s) r e =
     let h = chain-inv (guarded (eqb b (code "r")) s) _ r e in
     let j = chain-inv (number 1 8 (h .0)) _ r (h .2) in
-    let l = number-high 1 8 (h .0) (j .0) (j .1) in
+    let l = number-in 1 8 (h .0) (j .0) (j .1) in
     let q : j .0 - 1 ≡ r = some-inj (j .2) in
     omega arith
+
+label-in : (f : Field) (l : ℕ) → labelNumber f ≡ some l → l < 64
+unfolding labelNumber
+label-in f l e = let h = number-in 0 63 f l e in omega arith
+
+-- a literal is kept as bits
+pub literal-low : (s : List ℕ) (n : ℕ) → literal s ≡ some n → n < modulus
+unfolding literal
+literal-low [] n e = none-some e
+literal-low (b ∷ s) n e = go (eqb b (code "-")) e
+  where
+    go : (t : Bool) → cond t (chain (number 1 half s) (λ k. some (modulus - k))) (number 0 (half - 1) (b ∷ s)) ≡ some n → n < modulus
+    go true e =
+        let h = chain-inv (number 1 half s) _ n e in
+        let l = number-in 1 half s (h .0) (h .1) in
+        let q : modulus - h .0 ≡ n = some-inj (h .2) in
+        omega arith
+    go false e = let h = number-in 0 (half - 1) (b ∷ s) n e in omega arith
 
 carrier-in : (f : Field) (b : Base) → carrier f ≡ some b → BaseIn b
 unfolding carrier
@@ -92,14 +115,14 @@ carrier-in [] b e = none-some e
 carrier-in (c ∷ s) b e = go (eqb c (code "#")) e
   where
     go : (t : Bool) → cond t (chain (labelNumber s) (λ l. some (lab l))) (chain (register (c ∷ s)) (λ r. some (reg r))) ≡ some b → BaseIn b
-    go true e = let h = chain-inv (labelNumber s) _ b e in rw (← (some-inj (h .2))) tt
+    go true e = let h = chain-inv (labelNumber s) _ b e in rw (← (some-inj (h .2))) (label-in s (h .0) (h .1))
     go false e = let h = chain-inv (register (c ∷ s)) _ b e in rw (← (some-inj (h .2))) (register-in (c ∷ s) (h .0) (h .1))
 
 literal-in : (o : Option Base) (f : Field) (b : Base) → ((c : Base) → o ≡ some c → BaseIn c) → orLiteral o f ≡ some b → BaseIn b
-literal-in none f b h e = let k = chain-inv (literal f) _ b e in rw (← (some-inj (k .2))) tt
+literal-in none f b h e = let k = chain-inv (literal f) _ b e in rw (← (some-inj (k .2))) (literal-low f (k .0) (k .1))
 literal-in (some c) f b h e = h b e
 
-carried-in : (fs : List Field) (t : Field) (v : Operand) → carried fs t ≡ some v → InFile v
+carried-in : (fs : List Field) (t : Field) (v : Operand) → carried fs t ≡ some v → OperandIn v
 unfolding carried
 carried-in [] t v e = none-some e
 carried-in (b ∷ ts) t v e =
@@ -109,13 +132,13 @@ carried-in (b ∷ ts) t v e =
     let w = guarded-inv (leb 1 (length ts) && leb (length ts) 8) (inst (h .0) (j .0) (k .0)) v (k .2) in
     rw (← (w .1)) (carrier-in b (h .0) (h .1))
 
-parts-in : (fs : List Field) (v : Operand) → fromParts fs ≡ some v → InFile v
+parts-in : (fs : List Field) (v : Operand) → fromParts fs ≡ some v → OperandIn v
 parts-in [] v e = none-some e
 parts-in (b ∷ []) v e = let h = chain-inv (orLiteral (carrier b) b) _ v e in rw (← (some-inj (h .2))) (literal-in (carrier b) b (h .0) (carrier-in b) (h .1))
 parts-in (l ∷ t ∷ []) v e = carried-in (split (code ":") l) t v e
 parts-in (l ∷ t ∷ u ∷ fs) v e = none-some e
 
-operand-in : (f : Field) (v : Operand) → operand f ≡ some v → InFile v
+operand-in : (f : Field) (v : Operand) → operand f ≡ some v → OperandIn v
 unfolding operand
 operand-in f v e = parts-in (split (code "=") f) v e
 

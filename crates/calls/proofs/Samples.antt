@@ -1,17 +1,21 @@
--- No text's entry wants more than 16 samples, since a tuple row has at most 16 components.
+-- No text's entry wants more than 16 samples, since a tuple row has at most 16 components; so a start that is not refused has no more.
 use Prim.Native.Nat.{ℕ, zero, suc, _≤_}
 use native.Mathlib.Omega.{arith}
 use mathlib.Core.Path.{_≡_, refl, ap}
 use mathlib.Core.Option.{Option, none, some}
 use mathlib.Core.List.{List, [], _∷_, _++_}
+use lib.Dec.{eqb→eq}
 use lib.ListN.{length, getD}
 use Rattle.syntax.specs.Syntax.{value, stack, Row, rowI, rowN, rowE, rowV, rowX, rowP, rowU, rowK, rowA, rowC, Instr, Entry, row, block, instr}
 use Rattle.text.specs.PassOne.{entriesOf, rowsOf, Listing, listingsOf}
 use Rattle.types.specs.Types.{Ty, int, junk, var, tuple, pointer, code, push, items, Arg, arg, ofKind}
 use Rattle.types.specs.Rows.{typeAt, components, registers, inTurn, meaning, typesOf}
+use Rattle.types.proofs.Equal.{to-so}
 use Rattle.valid.specs.Program.{asCode, blockOf, blocksOf, programFrom, programOf}
 use Rattle.valid.specs.Rules.{declared}
+use Rattle.exec.specs.Machine.{State}
 use Rattle.exec.specs.Run.{wanted}
+use Rattle.exec.proofs.Calls.{Started}
 use Rattle.calls.proofs.All.{All, all-append}
 use Rattle.calls.proofs.Lines.{FitRow, FitLine, entries-fit}
 
@@ -104,8 +108,15 @@ unfolding blocksOf wanted
 first-fit A [] h = omega arith
 first-fit A (b ∷ bs) h = block-fit (typeAt value A (b .code)) (b .body) (type-fit A h (b .code))
 
-pub wanted-fit : (text : List ℕ) → wanted (programOf text .blocks) ≤ 16
+wanted-fit : (text : List ℕ) → wanted (programOf text .blocks) ≤ 16
 unfolding programOf programFrom typesOf
 wanted-fit text =
     let es = entriesOf text in
     first-fit (typesOf (rowsOf es)) (listingsOf es) (meanings-fit (rowsOf es) [] tt (rows-fit es (entries-fit text)))
+
+-- the samples of a start that is not refused
+pub samples-fit : (text : List ℕ) {samples : List ℕ} {σ : State} (s : Started text samples σ) → length (s .xs) ≤ 16
+samples-fit text s =
+    let e = eqb→eq (length (s .xs)) (wanted (programOf text .blocks)) (to-so _ (s .counted)) in
+    let l = wanted-fit text in
+    omega arith
