@@ -1,31 +1,24 @@
-// The check program: reads a program's text from standard input and prints `accept,blocks,instructions` or `refuse,number,line`. What it
-// prints is the answer of `checker::check`.
+// The check program: reads a program's text from standard input and prints `accept,blocks,instructions` or `refuse,number,line`. Promised:
+// the line that it prints is that of the verdict of crate valid (`verdictLine` of crate print), on every text.
 use libc::STDIN_FILENO;
 use libc::STDOUT_FILENO;
+use print_write::Written;
 use valid_verdict::Answer;
+ghost use mathlib.Core.Path.{_≡_};
+ghost use Prim.Native.Nat.{_≤_};
+ghost use lib.ListN.{length, take};
+ghost use Rattle.valid.specs.Verdict.{check};
+ghost use Rattle.print.specs.Lines.{verdictLine};
 
-fn print(s: &[u8]) {
-    io::write_all(STDOUT_FILENO, s);
-}
-
-fn print_number(n: usize) {
-    io::print_decimal(STDOUT_FILENO, n as u64);
-}
-
-fn print_line(word: &[u8], a: usize, b: usize) {
-    print(word);
-    print(b",");
-    print_number(a);
-    print(b",");
-    print_number(b);
-    print(b"\n");
-}
-
-fn print_answer(answer: Answer) {
-    match answer {
-        Answer::Accepted(blocks, instructions) => print_line(b"accept", blocks, instructions),
-        Answer::Refused(number, line) => print_line(b"refuse", number, line),
-        Answer::Unfit(line, _) => print_line(b"refuse", 10, line),
+// Writes the line of the verdict on a text, and says how many bytes it has.
+fn check_line(text: &[u8], out: &mut [u8]) -> usize
+    requires { ⌜ 64 ≤ length (now out) ⌝ }
+    ensures { λ r. ⌜ (r ≤ length (now (out .exit))) × (take r (now (out .exit)) ≡ verdictLine (check (now (text .entry)))) ⌝ }
+{
+    let answer: Answer = checker::check(text);
+    match print_lines::write_verdict(answer, out) {
+        Written::Bytes(n) => n,
+        Written::Short => 0,
     }
 }
 
@@ -33,5 +26,7 @@ fn print_answer(answer: Answer) {
 fn main() {
     let mut text = [0u8; 65537];
     let n = io::read_full(STDIN_FILENO, &mut text);
-    print_answer(checker::check(&text[..n]));
+    let mut line = [0u8; 64];
+    let k = check_line(&text[..n], &mut line);
+    io::write_all(STDOUT_FILENO, &line[0..k]);
 }

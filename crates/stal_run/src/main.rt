@@ -1,9 +1,17 @@
 // The run program: reads program.txt and samples.txt from the current folder, starts with a budget of 1,000,000 and prints how the run
-// stopped, or the refusal. A file that cannot be opened counts as empty. What it prints is the answer of `execute::start`.
+// stopped, or the refusal. A file that cannot be opened counts as empty. Promised: the line that it prints is that of the answer to such
+// a start (`starting` of crate exec, `answerLine` of crate print), on every text and samples.
 use exec_machine::Place;
 use exec_outcome::Answer;
 use libc::STDOUT_FILENO;
+use print_write::Written;
+ghost use mathlib.Core.Path.{_≡_};
+ghost use Prim.Native.Nat.{_≤_};
+ghost use lib.ListN.{length, take};
 ghost use Rattle.io.specs.Counts.{Counts};
+ghost use Rattle.exec.specs.Run.{starting};
+ghost use Rattle.print.specs.Lines.{answerLine};
+ghost use Rattle.stal_run.specs.Fresh.{fresh};
 
 // The bytes of the file at the start of buf, and how many there are: none where it cannot be opened.
 fn load(path: &[u8], buf: &mut [u8]) -> usize
@@ -24,71 +32,11 @@ fn none(buf: &[u8]) -> usize
     io::count(0, buf)
 }
 
-fn print(s: &[u8]) {
-    io::write_all(STDOUT_FILENO, s);
-}
-
-fn print_number(n: usize) {
-    io::print_decimal(STDOUT_FILENO, n as u64);
-}
-
-// A stop and the steps made.
-fn print_stop(name: &[u8], steps: usize) {
-    print(name);
-    print(b",");
-    print_number(steps);
-}
-
-// An integer's bits, as a signed number.
-fn print_integer(n: u32) {
-    let bits = n as u64;
-    if n < 2147483648 {
-        io::print_decimal(STDOUT_FILENO, bits);
-    } else {
-        print(b"-");
-        io::print_decimal(STDOUT_FILENO, 4294967296 - bits);
-    }
-}
-
-// A word: its kind and its number.
-fn print_word(kind: u8, number: u32) {
-    if kind == exec_words::memory::INT {
-        print(b",int,");
-        print_integer(number);
-        return;
-    }
-    if kind == exec_words::memory::CODE {
-        print(b",code,");
-    } else if kind == exec_words::memory::TUPLE {
-        print(b",tuple,");
-    } else if kind == exec_words::memory::HEIGHT {
-        print(b",height,");
-    } else {
-        print(b",junk,");
-    }
-    io::print_decimal(STDOUT_FILENO, number as u64);
-}
-
-fn print_answer(answer: Answer) {
-    match answer {
-        Answer::Refused(number, line) => {
-            print_stop(b"refuse", number);
-            print(b",");
-            print_number(line);
-        }
-        Answer::Halted(steps, kind, number) => {
-            print_stop(b"halted", steps);
-            print_word(kind, number);
-        }
-        Answer::Paused(steps) => print_stop(b"paused", steps),
-        Answer::StackFull(steps) => print_stop(b"stack", steps),
-        Answer::HeapFull(steps) => print_stop(b"heap", steps),
-        Answer::Stuck(steps) => print_stop(b"stuck", steps),
-    }
-    print(b"\n");
-}
-
-fn run(text: &[u8], samples: &[u8]) {
+// Writes the line of the answer to a start, and says how many bytes it has.
+fn run_line(text: &[u8], samples: &[u8], out: &mut [u8]) -> usize
+    requires { ⌜ 64 ≤ length (now out) ⌝ }
+    ensures { λ r. ⌜ (r ≤ length (now (out .exit))) × (take r (now (out .exit)) ≡ answerLine (starting (now (text .entry)) (now (samples .entry)) 1000000 fresh .answer)) ⌝ }
+{
     let mut rk = [0u8; 8];
     let mut rn = [0u32; 8];
     let mut sk = [0u8; 256];
@@ -100,7 +48,7 @@ fn run(text: &[u8], samples: &[u8]) {
         used: 0,
         position: 0,
     };
-    let out = execute::start(
+    let outcome = execute::start(
         text,
         samples,
         1000000,
@@ -112,8 +60,11 @@ fn run(text: &[u8], samples: &[u8]) {
         &mut hn,
         place,
     );
-    let answer = out.answer;
-    print_answer(answer);
+    let answer: Answer = outcome.answer;
+    match print_lines::write_answer(answer, out) {
+        Written::Bytes(n) => n,
+        Written::Short => 0,
+    }
 }
 
 // One byte more than a program may have: a longer text is refused for its length, however long. Samples as large as their buffer are
@@ -123,5 +74,7 @@ fn main() {
     let n = load(b"program.txt", &mut text);
     let mut samples = [0u8; 256];
     let k = load(b"samples.txt", &mut samples);
-    run(&text[..n], &samples[..k]);
+    let mut line = [0u8; 64];
+    let l = run_line(&text[..n], &samples[..k], &mut line);
+    io::write_all(STDOUT_FILENO, &line[0..l]);
 }

@@ -88,7 +88,7 @@ fn at_least(n: Number, low: u32) -> Number
 }
 
 // A decimal number from low to high, without a leading zero.
-fn number_in(s: &[u8], low: u32, high: u32) -> Number
+pub fn number_in(s: &[u8], low: u32, high: u32) -> Number
     ensures { λ r. ⌜ numberOf r ≡ number low high (now (s .entry)) ⌝ }
 {
     if s.len() == 0 {
