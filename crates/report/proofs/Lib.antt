@@ -1,0 +1,9 @@
+pub mod Fields
+pub mod Stops
+pub mod Starts
+pub mod Mean
+pub mod Figures
+pub mod Lines
+pub mod Told
+pub mod Decided
+pub mod Claims

@@ -1,0 +1,4 @@
+pub mod Stops
+pub mod Day
+pub mod Claims
+pub mod Worked
