@@ -168,11 +168,151 @@ static void damaged(void) {
     }
 }
 
+/* the memory is full of 77, but for the n bytes of `line` at its start */
+static uint8_t bytes[200];
+
+static int holds(const char *line, size_t n) {
+    for (size_t i = n; i < sizeof bytes; i++)
+        if (bytes[i] != 77)
+            return 0;
+    return !memcmp(bytes, line, n);
+}
+
+/* a line is written whole where there is room for it, and not at all where one byte is missing; then the memory is as before */
+static int fits(stal_line (*write)(size_t room), const char *line) {
+    size_t n = strlen(line);
+    stal_line w;
+    memset(bytes, 77, sizeof bytes);
+    w = write(n - 1);
+    if (w.code != STAL_SHORT || w.length != 0 || !holds("", 0) || write(0).code != STAL_SHORT || !holds("", 0))
+        return 0;
+    w = write(n);
+    if (w.code != STAL_WRITTEN || w.length != n || !holds(line, n))
+        return 0;
+    memset(bytes, 77, sizeof bytes);
+    w = write(sizeof bytes);
+    return w.code == STAL_WRITTEN && w.length == n && holds(line, n);
+}
+
+static const uint8_t day[] = "halted,3,int,25600\nstuck,9\nhalted,5,int,-7\n";
+enum { D = sizeof day - 1 };
+static stal_verdict verdict;
+static stal_answer answer;
+static size_t day_len;
+
+static stal_line write_report(size_t room) {
+    return stal_report_to(day, day_len, bytes, room);
+}
+
+static stal_line write_verdict(size_t room) {
+    return stal_verdict_to(verdict, bytes, room);
+}
+
+static stal_line write_answer(size_t room) {
+    return stal_answer_to(answer, bytes, room);
+}
+
+static int verdict_is(size_t code, size_t first, size_t second, const char *line) {
+    stal_verdict v = {code, first, second};
+    verdict = v;
+    return fits(write_verdict, line);
+}
+
+static int answer_is(size_t code, size_t first, uint8_t kind, uint32_t number, const char *line) {
+    stal_answer a = {code, first, kind, number};
+    answer = a;
+    return fits(write_answer, line);
+}
+
+static int report_is(size_t len, const char *line) {
+    day_len = len;
+    return fits(write_report, line);
+}
+
+/* the lines of reports, verdicts and answers */
+static void lines(void) {
+    stal_verdict misuse = stal_check_text(NULL, 1);
+    stal_answer no_state = stal_continue_state(text, N, 9, NULL);
+    expect(report_is(D, "2,1,25593,-7,25600,12796,1\n"), "a report's line");
+    expect(report_is(0, "0,0,-,-,-,-,-\n"), "the line of an empty day");
+    expect(report_is(D - 1, "refuse,17,3\n"), "the line of a day cut short");
+    expect(verdict_is(STAL_ACCEPTED, 1, 4, "accept,1,4\n"), "an acceptance's line");
+    expect(verdict_is(10, 7, 99, "refuse,10,7\n"), "a refusal's line");
+    expect(verdict_is(SIZE_MAX, SIZE_MAX, 0, "refuse,18446744073709551615,18446744073709551615\n"), "the longest line of a verdict");
+    expect(answer_is(STAL_HALTED, 3, STAL_INT, 0xfffffff9u, "halted,3,int,-7\n"), "a halt's line");
+    expect(answer_is(STAL_HALTED, SIZE_MAX, STAL_HEIGHT, 0x80000000u, "halted,18446744073709551615,height,-2147483648\n"),
+           "the longest line of an answer");
+    expect(answer_is(STAL_HALTED, 3, 255, 0, "halted,3,junk,0\n"), "a halt's line, no such kind");
+    expect(answer_is(STAL_PAUSED, 2, 9, 9, "paused,2\n"), "a pause's line");
+    expect(answer_is(STAL_STACK_FULL, 2, 0, 0, "stack,2\n"), "a full stack's line");
+    expect(answer_is(STAL_HEAP_FULL, 2, 0, 0, "heap,2\n"), "a full heap's line");
+    expect(answer_is(STAL_STUCK, 2, 0, 0, "stuck,2\n"), "a stuck run's line");
+    expect(answer_is(15, 0, 0, 0, "refuse,15,0\n"), "the line of a run refused");
+    memset(bytes, 77, sizeof bytes);
+    expect(stal_report_to(NULL, 1, bytes, 200).code == STAL_MISUSE, "report's line, null text");
+    expect(stal_report_to(day, D, NULL, 200).code == STAL_MISUSE, "report's line, null memory");
+    expect(stal_report_to(bytes + 9, 5, bytes, 200).code == STAL_MISUSE, "report's line, text within the memory");
+    expect(stal_report_to(bytes + 199, 5, bytes, 200).code == STAL_MISUSE, "report's line, text over the memory's end");
+    expect(stal_verdict_to(verdict, NULL, 200).code == STAL_MISUSE, "verdict's line, null memory");
+    expect(stal_answer_to(answer, NULL, 200).code == STAL_MISUSE, "answer's line, null memory");
+    expect(stal_verdict_to(misuse, bytes, 200).code == STAL_MISUSE, "a misused check has no line");
+    expect(stal_answer_to(no_state, bytes, 200).code == STAL_MISUSE, "a misused run has no line");
+    expect(holds("", 0), "misuse leaves the memory as it was");
+}
+
+/* a report into so many entries, all full of 77 before */
+static uint64_t entries[9];
+
+static size_t report_in(const uint8_t *bytes, size_t len, size_t room, size_t *line) {
+    memset(entries, 77, sizeof entries);
+    return stal_report(bytes, len, entries, room, line);
+}
+
+static int kept(size_t from) {
+    for (uint8_t *at = (uint8_t *)(entries + from); at < (uint8_t *)(entries + 9); at++)
+        if (*at != 77)
+            return 0;
+    return 1;
+}
+
+/* a day's report */
+static void reports(void) {
+    static const uint64_t want[] = {2, 1, 25593, (uint64_t)-7, 25600, 12796, 1}, none[] = {0, 1, 0, 0, 0, 0, 0};
+    static uint8_t full[501 * 9];
+    stal_figures f, g;
+    size_t line = 7, n = join(full, "", "stuck,77\n", 500, "");
+    expect(report_in(day, D, 6, &line) == 16 && line == 0 && kept(0), "six figures");
+    line = 7;
+    expect(report_in(day, D - 1, 0, &line) == 16 && line == 0 && kept(0), "no figures, before a bad line");
+    expect(report_in(day, D - 1, 9, &line) == STAL_BAD_LINE && line == 3 && kept(0), "a day cut short");
+    expect(report_in(day, D, 7, &line) == STAL_REPORTED && line == 0 && !memcmp(entries, want, sizeof want) && kept(7), "seven figures");
+    line = 7;
+    expect(report_in(day, D, 9, &line) == STAL_REPORTED && line == 0 && !memcmp(entries, want, sizeof want) && kept(7), "nine entries");
+    expect(report_in(day + 19, 8, 7, &line) == STAL_REPORTED && !memcmp(entries, none, sizeof none) && kept(7), "no integer");
+    memset(&f, 77, sizeof f);
+    g = f;
+    expect(stal_report_text(NULL, 1, &f).code == STAL_MISUSE, "report, null text");
+    expect(stal_report_text(day, D, NULL).code == STAL_MISUSE, "report, null figures");
+    expect(stal_report_text((uint8_t *)&f + 9, 5, &f).code == STAL_MISUSE, "report, text within the figures");
+    expect(stal_report_text((uint8_t *)(&f + 1) - 1, 5, &f).code == STAL_MISUSE, "report, text over the figures' end");
+    expect(stal_report_text(text, N, &f).code == STAL_BAD_LINE, "report, no stop line");
+    expect(!memcmp(&f, &g, sizeof f), "misuse and refusals leave the figures as they were");
+    expect(stal_report_text(day, D, &f).code == STAL_REPORTED && f.count == 2 && f.others == 1 && f.total == 25593 && f.smallest == -7 &&
+               f.largest == 25600 && f.quotient == 12796 && f.remainder == 1, "the figures");
+    expect(stal_report_text(NULL, 0, &f).code == STAL_REPORTED && f.count == 0 && f.others == 0, "report, empty text");
+    expect(stal_report_text(full, n, &f).code == STAL_REPORTED && f.others == 500, "500 lines");
+    memcpy(full + n, "stuck,77\n", 9);
+    expect(stal_report_text(full, n + 9, &f).line == 501, "501 lines");
+    expect(stal_report_text(large, 65537, &f).line == 1, "report, long text");
+}
+
 int main(void) {
     on_the_stack();
     misused();
     too_short();
     damaged();
+    lines();
+    reports();
     printf("%d cases, %d fail\n", cases, failed);
     return failed != 0;
 }

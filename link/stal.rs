@@ -2,7 +2,8 @@
 //! allocation, no static state, `core` only: firmware may include this file as it is. Slices and `&mut` meet everything that the boundary
 //! asks (not null, aligned, as long as they say, no overlap), and state and working memory have the lengths that are wanted, so nothing is
 //! left to test. Two kinds of calls, with the same answers: `check_with`, `start_with` and `resume_with` are lent working memory and need
-//! little stack, for firmware; `check`, `start` and `resume` put their tables on the stack, up to 1 MB of it.
+//! little stack, for firmware; `check`, `start` and `resume` put their tables on the stack, up to 1 MB of it. Besides them a day's report,
+//! `report`, and the lines that the programs print, `report_line`, `verdict_line` and `answer_line`, which need neither.
 
 use core::cell::UnsafeCell;
 use core::sync::atomic::{AtomicBool, Ordering};
@@ -14,6 +15,8 @@ const IMAGE: usize = 161_694;
 const LITERALS: usize = 16_400;
 const PLAN: usize = 8_208;
 const WORK: usize = 4_096;
+/// No line is longer, its LF included.
+pub const LINE: usize = 160;
 
 extern "C" {
     fn stal_check(text: *const u8, text_len: usize, first: *mut usize, second: *mut usize) -> usize;
@@ -48,6 +51,12 @@ extern "C" {
         hk: *mut u8, hk_len: usize, hn: *mut u32, hn_len: usize, depth: *mut u32, used: *mut usize, position: *mut usize,
         first: *mut usize, kind: *mut u8, number: *mut u32,
     ) -> usize;
+    fn stal_report(text: *const u8, text_len: usize, figures: *mut u64, figures_len: usize, line: *mut usize) -> usize;
+    fn stal_report_line(text: *const u8, text_len: usize, out: *mut u8, out_len: usize, length: *mut usize) -> usize;
+    fn stal_verdict_line(code: usize, first: usize, second: usize, out: *mut u8, out_len: usize, length: *mut usize) -> usize;
+    fn stal_answer_line(
+        code: usize, first: usize, kind: u8, number: u32, out: *mut u8, out_len: usize, length: *mut usize,
+    ) -> usize;
 }
 
 /// A word: an integer, a label (its block's number), a tuple handle (its length word's index), a stack height, or junk.
@@ -60,7 +69,7 @@ pub enum Word {
     Junk,
 }
 
-/// A refusal: the fault's number (1 to 16) and its line.
+/// A refusal: the fault's number (1 to 16, 17 of a day's report) and its line.
 #[derive(Clone, Copy, Debug, PartialEq, Eq)]
 pub struct Refusal {
     pub number: usize,
@@ -84,6 +93,19 @@ pub enum Stop {
     StackFull(usize),
     HeapFull(usize),
     Stuck(usize),
+}
+
+/// A day's figures: halts with an integer, all other stops; total, smallest, largest and mean (rounded down) of the integers, and the
+/// remainder. Where there is no integer, count and the last five are 0.
+#[derive(Clone, Copy, Debug, PartialEq, Eq)]
+pub struct Figures {
+    pub count: u64,
+    pub others: u64,
+    pub total: i64,
+    pub smallest: i64,
+    pub largest: i64,
+    pub quotient: i64,
+    pub remainder: u64,
 }
 
 /// The machine's state, laid out as stal_state of stal.h: kinds and numbers of registers, stack (from the bottom) and heap; how many stack
@@ -257,4 +279,74 @@ pub fn resume_with(text: &[u8], budget: usize, m: &mut Memory, s: &mut State) ->
         )
     };
     answer(code, first, kind, number)
+}
+
+// ---- a day's report, and lines
+/// Report a day: its text is the lines of its stops, at most 500.
+pub fn report(text: &[u8]) -> Result<Figures, Refusal> {
+    let (mut n, mut line) = ([0u64; 7], 0);
+    let code = unsafe { stal_report(text.as_ptr(), text.len(), n.as_mut_ptr(), n.len(), &mut line) };
+    if code != 0 {
+        return Err(Refusal { number: code, line, item: None });
+    }
+    Ok(Figures {
+        count: n[0],
+        others: n[1],
+        total: n[2] as i64,
+        smallest: n[3] as i64,
+        largest: n[4] as i64,
+        quotient: n[5] as i64,
+        remainder: n[6],
+    })
+}
+
+fn line_in(code: usize, length: usize, out: &[u8]) -> Option<&[u8]> {
+    if code == 0 {
+        out.get(..length)
+    } else {
+        None
+    }
+}
+
+/// Write the line of a day's report; None, and nothing written, where the memory is too short.
+pub fn report_line<'a>(text: &[u8], out: &'a mut [u8]) -> Option<&'a [u8]> {
+    let mut length = 0;
+    let code = unsafe { stal_report_line(text.as_ptr(), text.len(), out.as_mut_ptr(), out.len(), &mut length) };
+    line_in(code, length, out)
+}
+
+/// Write the line of a check's answer; None, and nothing written, where the memory is too short.
+pub fn verdict_line(v: Result<Counts, Refusal>, out: &mut [u8]) -> Option<&[u8]> {
+    let (code, first, second) = match v {
+        Ok(c) => (0, c.blocks, c.instructions),
+        Err(r) => (r.number, r.line, r.item.unwrap_or(100)),
+    };
+    let mut length = 0;
+    let code = unsafe { stal_verdict_line(code, first, second, out.as_mut_ptr(), out.len(), &mut length) };
+    line_in(code, length, out)
+}
+
+fn parts(w: Word) -> (u8, u32) {
+    match w {
+        Word::Int(n) => (0, n as u32),
+        Word::Code(n) => (1, n),
+        Word::Tuple(n) => (2, n),
+        Word::Height(n) => (3, n),
+        Word::Junk => (4, 0),
+    }
+}
+
+/// Write the line of a run's answer; None, and nothing written, where the memory is too short.
+pub fn answer_line(a: Result<Stop, Refusal>, out: &mut [u8]) -> Option<&[u8]> {
+    let (code, first, (kind, number)) = match a {
+        Ok(Stop::Halted(steps, w)) => (0, steps, parts(w)),
+        Ok(Stop::Paused(steps)) => (17, steps, (0, 0)),
+        Ok(Stop::StackFull(steps)) => (18, steps, (0, 0)),
+        Ok(Stop::HeapFull(steps)) => (19, steps, (0, 0)),
+        Ok(Stop::Stuck(steps)) => (20, steps, (0, 0)),
+        Err(r) => return verdict_line(Err(r), out),
+    };
+    let mut length = 0;
+    let code = unsafe { stal_answer_line(code, first, kind, number, out.as_mut_ptr(), out.len(), &mut length) };
+    line_in(code, length, out)
 }

@@ -1,32 +1,43 @@
 /* Weigh a load with the proved library: check program T, run it on the samples 41200 and 15600, then once more in two calls,
-   in working memory that is static, as in firmware; at the end with the tables on the stack. */
+   in working memory that is static, as in firmware; then with the tables on the stack; at the end the day's report. */
 #include "stal.h"
 #include <stdio.h>
 #include <string.h>
 
 static const char program[] = "I\nU,0,0\nE\nC,-,2,1,-,-,-,-,-,-,-\nB,3\nld,r2,r1,0\nld,r3,r1,1\nsub,r1,r2,r3\nhalt,0\n";
 static const char samples[] = "41200\n15600\n";
+static const char correction[] = "halted,4,int,-7\n";
 static stal_memory memory;
 static stal_state state;
 
-static void print_verdict(stal_verdict v) {
-    if (v.code == STAL_ACCEPTED)
-        printf("accept,%zu,%zu\n", v.first, v.second);
+static uint8_t line[STAL_LINE], day[4000]; /* a line to print, and the stop lines of the day */
+static size_t end;
+
+static void print(stal_line w) {
+    if (w.code == STAL_WRITTEN)
+        fwrite(line, 1, w.length, stdout);
     else
-        printf("refuse,%zu,%zu\n", v.code, v.first);
+        puts("misuse");
 }
 
+static void print_verdict(stal_verdict v) {
+    print(stal_verdict_to(v, line, sizeof line));
+}
+
+/* a stop is also kept for the day's report */
 static void print_answer(stal_answer a) {
-    static const char *const kinds[] = {"int", "code", "tuple", "height", "junk"};
-    static const char *const stops[] = {"paused", "stack", "heap", "stuck"};
-    if (a.code == STAL_HALTED)
-        printf("halted,%zu,%s,%ld\n", a.first, kinds[a.kind], a.kind == STAL_INT ? (long)stal_signed(a.number) : (long)a.number);
-    else if (a.code == STAL_MISUSE)
-        printf("misuse\n");
-    else if (a.code <= 16)
-        printf("refuse,%zu,%zu\n", a.code, a.first);
-    else
-        printf("%s,%zu\n", stops[a.code - STAL_PAUSED], a.first);
+    print(stal_answer_to(a, line, sizeof line));
+    if (a.code == STAL_HALTED || (a.code >= STAL_PAUSED && a.code <= STAL_STUCK))
+        end += stal_answer_to(a, day + end, sizeof day - end).length;
+}
+
+/* the day's line, and its figures */
+static void print_report(const uint8_t *text, size_t len) {
+    stal_figures f;
+    print(stal_report_to(text, len, line, sizeof line));
+    if (stal_report_text(text, len, &f).code == STAL_REPORTED)
+        printf("total %lld, mean %lld, from %lld to %lld\n", (long long)f.total, (long long)f.quotient, (long long)f.smallest,
+               (long long)f.largest);
 }
 
 int main(void) {
@@ -45,5 +56,9 @@ int main(void) {
     print_verdict(stal_check_text(text, n));
     print_answer(stal_start_state(text, n, load, m, 2, &state));
     print_answer(stal_continue_state(text, n, STAL_BUDGET, &state));
+    /* the day's report of these stops and one more; a day with a line that is no stop's */
+    memcpy(day + end, correction, strlen(correction));
+    print_report(day, end + strlen(correction));
+    print_report(text, n);
     return 0;
 }

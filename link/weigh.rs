@@ -1,50 +1,59 @@
 //! Weigh a load with the proved library: check program T, run it on the samples 41200 and 15600, then once more in two calls,
-//! in working memory that is static, as in firmware; at the end with the tables on the stack.
+//! in working memory that is static, as in firmware; then with the tables on the stack; at the end the day's report.
 mod stal;
-use stal::{Counts, Memory, Refusal, State, Static, Stop, Word};
+use stal::{Counts, Memory, Refusal, State, Static, Stop};
 
 const PROGRAM: &[u8] = b"I\nU,0,0\nE\nC,-,2,1,-,-,-,-,-,-,-\nB,3\nld,r2,r1,0\nld,r3,r1,1\nsub,r1,r2,r3\nhalt,0\n";
 const SAMPLES: &[u8] = b"41200\n15600\n";
 static MEMORY: Static<Memory> = Static::new(Memory::new());
 static STATE: Static<State> = Static::new(State::new());
 
-fn refusal(r: Refusal) {
-    println!("refuse,{},{}", r.number, r.line);
+/// Prints a line that was written.
+fn show(line: Option<&[u8]>) {
+    print!("{}", std::str::from_utf8(line.expect("LINE bytes are enough")).expect("ASCII"));
 }
 
 fn verdict(v: Result<Counts, Refusal>) {
-    match v {
-        Ok(c) => println!("accept,{},{}", c.blocks, c.instructions),
-        Err(r) => refusal(r),
+    show(stal::verdict_line(v, &mut [0; stal::LINE]));
+}
+
+/// Prints an answer's line; a stop's is also kept for the day's report.
+fn print(a: Result<Stop, Refusal>, day: &mut Vec<u8>) {
+    let mut line = [0; stal::LINE];
+    let written = stal::answer_line(a, &mut line);
+    show(written);
+    if a.is_ok() {
+        day.extend_from_slice(written.unwrap_or(b""));
     }
 }
 
-fn print(a: Result<Stop, Refusal>) {
-    match a {
-        Ok(Stop::Halted(steps, Word::Int(n))) => println!("halted,{steps},int,{n}"),
-        Ok(Stop::Halted(steps, w)) => println!("halted,{steps},{w:?}"),
-        Ok(Stop::Paused(steps)) => println!("paused,{steps}"),
-        Ok(Stop::StackFull(steps)) => println!("stack,{steps}"),
-        Ok(Stop::HeapFull(steps)) => println!("heap,{steps}"),
-        Ok(Stop::Stuck(steps)) => println!("stuck,{steps}"),
-        Err(r) => refusal(r),
+/// Prints the day's line, and its figures.
+fn report(day: &[u8]) {
+    show(stal::report_line(day, &mut [0; stal::LINE]));
+    if let Ok(f) = stal::report(day) {
+        println!("total {}, mean {}, from {} to {}", f.total, f.quotient, f.smallest, f.largest);
     }
 }
 
 fn main() {
     let memory = MEMORY.take().expect("taken once");
     let state = STATE.take().expect("taken once");
+    let day = &mut Vec::new();
     verdict(stal::check_with(PROGRAM, memory));
-    print(stal::start_with(PROGRAM, SAMPLES, stal::BUDGET, memory, state));
-    print(stal::start_with(PROGRAM, SAMPLES, 2, memory, state));
-    print(stal::resume_with(PROGRAM, stal::BUDGET, memory, state));
+    print(stal::start_with(PROGRAM, SAMPLES, stal::BUDGET, memory, state), day);
+    print(stal::start_with(PROGRAM, SAMPLES, 2, memory, state), day);
+    print(stal::resume_with(PROGRAM, stal::BUDGET, memory, state), day);
     // no text, a load that does not fit, a damaged state
     verdict(stal::check_with(b"", memory));
-    print(stal::start_with(PROGRAM, &SAMPLES[..SAMPLES.len() - 1], 1, memory, state));
+    print(stal::start_with(PROGRAM, &SAMPLES[..SAMPLES.len() - 1], 1, memory, state), day);
     state.depth = 257;
-    print(stal::resume_with(PROGRAM, 1, memory, state));
+    print(stal::resume_with(PROGRAM, 1, memory, state), day);
     // with the tables on the stack
     verdict(stal::check(PROGRAM));
-    print(stal::start(PROGRAM, SAMPLES, 2, state));
-    print(stal::resume(PROGRAM, stal::BUDGET, state));
+    print(stal::start(PROGRAM, SAMPLES, 2, state), day);
+    print(stal::resume(PROGRAM, stal::BUDGET, state), day);
+    // the day's report of these stops and one more; a day with a line that is no stop's
+    day.extend_from_slice(b"halted,4,int,-7\n");
+    report(day);
+    report(PROGRAM);
 }
