@@ -1,11 +1,14 @@
 // Runs packed cases (data/, written by tools/pack_cases, where their form is told) through check, start and resume, and compares every
 // answer and the whole lent state with what the cases say. Check: the counts of blocks and instructions, or number and line, and at fault
 // 10 of a jump or branch the item named is one of those listed. Start and resume: the stop, the steps and r1's word, or number and line.
-// State: every lent word, the depth, the heap's use and the position. A case that differs is printed by its name, and at the end how many
-// there are.
+// State: every lent word, the depth, the heap's use and the position. Then it runs packed days (data/days.txt, written by tools/pack_days)
+// through the day's report, and compares the line that is written with the packed one, byte by byte: into memory that is longer than the
+// line, whose bytes past it must stay, into memory of just its length, and into memory one byte shorter, which must be refused and left as
+// it was. A case or a day that differs is printed by its name, and at the end how many there are.
 use exec_machine::Place;
 use exec_outcome::Outcome;
 use libc::STDOUT_FILENO;
+use print_write::Written;
 use valid_verdict::Answer;
 ghost use Prim.Native.Nat.{_<_, _≤_};
 ghost use lib.ListN.{length};
@@ -20,6 +23,11 @@ const HEAP: usize = 268;
 
 const WORDS: usize = 2320;
 
+// The memory that a day's line is written into, and what each of its bytes is before.
+const ROOM: usize = 200;
+
+const BEFORE: u8 = 165;
+
 // What was compared so far, and where the present case is: its name's and its samples' bytes in the file, the length of its text, words
 // lent, and the lent state's place beside the wanted one.
 struct Bench {
@@ -27,6 +35,7 @@ struct Bench {
     checks: usize,
     calls: usize,
     states: usize,
+    days: usize,
     differences: usize,
     name: usize,
     text: usize,
@@ -320,8 +329,8 @@ fn no_place() -> Place {
     }
 }
 
-// A line that changes only the bench: `c name`, a case, with no text and no samples; `f`, a new lent state; `l stack heap` words lent;
-// `d depth used position` of the lent state and the wanted one, `e` of the wanted one.
+// A line that changes only the bench: `c name`, a case or a day, with no text and no samples; `f`, a new lent state; `l stack heap` words
+// lent; `d depth used position` of the lent state and the wanted one, `e` of the wanted one.
 fn set(letter: u8, line: &[u8], at: usize, b: Bench) -> Bench {
     let mut next = b;
     if letter == b'c' {
@@ -419,6 +428,78 @@ fn try_check(line: &[u8], text: &[u8], b: Bench) -> Bench {
     next
 }
 
+// What byte i of the memory is to be, if the first n bytes of the line were written.
+fn byte_after(line: &[u8], n: usize, i: usize) -> u8 {
+    if i < n {
+        return byte(line, i);
+    }
+    BEFORE
+}
+
+// The first n bytes of the memory are the line's, and all others are as they were.
+fn holds(memory: &[u8], line: &[u8], n: usize) -> bool {
+    let mut i = 0;
+    while i < memory.len() {
+        if memory[i] != byte_after(line, n, i) {
+            return false;
+        }
+        i += 1;
+    }
+    true
+}
+
+// Writes the report's line into the first n bytes of the memory.
+fn write(answer: report_day::Answer, n: usize, memory: &mut [u8]) -> Written {
+    let k = least(n, memory.len());
+    report_day::line::write_report(answer, &mut memory[0..k])
+}
+
+// Of n bytes lent: the whole line is written if it is no longer than they are, else nothing.
+fn is_written(answer: report_day::Answer, line: &[u8], n: usize) -> bool {
+    let mut memory = [BEFORE; ROOM];
+    match write(answer, n, &mut memory) {
+        Written::Bytes(k) => {
+            if k != line.len() {
+                return false;
+            }
+            if n < k {
+                return false;
+            }
+            holds(&memory, line, k)
+        }
+        Written::Short => {
+            if line.len() <= n {
+                return false;
+            }
+            holds(&memory, line, 0)
+        }
+    }
+}
+
+// The day's report is the line, which has a byte at least.
+fn is_report(line: &[u8], text: &[u8]) -> bool {
+    if line.len() == 0 {
+        return false;
+    }
+    let answer = report_day::report(text);
+    if !is_written(answer, line, ROOM) {
+        return false;
+    }
+    if !is_written(answer, line, line.len()) {
+        return false;
+    }
+    is_written(answer, line, line.len() - 1)
+}
+
+// `r` and a blank, and behind them the line that the report of the text, a day, must print.
+fn try_day(line: &[u8], text: &[u8], b: Bench) -> Bench {
+    let agrees = is_report(part(line, 2, line.len()), text);
+    let mut next = b;
+    next.days = one_more(b.days);
+    next.differences = more_unless(b.differences, agrees);
+    next
+}
+
 // The line at `at`, if it is one on the text or the bench.
 fn text_line(s: &[u8], at: usize, b: Bench, text: &mut [u8]) -> Bench
     requires { ⌜ at < length (now s) ⌝ }
@@ -435,6 +516,9 @@ fn text_line(s: &[u8], at: usize, b: Bench, text: &mut [u8]) -> Bench
     }
     if letter == b'a' {
         return try_check(line, part(text, 0, b.text), b);
+    }
+    if letter == b'r' {
+        return try_day(line, part(text, 0, b.text), b);
     }
     set(letter, line, at, b)
 }
@@ -836,7 +920,7 @@ fn try_cases(
 
 // The cases of bytes read from a file.
 fn try_bytes(s: &[u8], b: Bench) -> Bench {
-    let mut text = [0u8; 66000];
+    let mut text = [0u8; 200000];
     let mut kinds = [0u8; WORDS];
     let mut numbers = [0u32; WORDS];
     let mut wk = [0u8; WORDS];
@@ -863,6 +947,13 @@ fn none(buf: &[u8]) -> usize
     io::count(0, buf)
 }
 
+// The cases of the file with that name.
+fn try_named(path: &[u8], b: Bench) -> Bench {
+    let mut buf = [0u8; 196608];
+    let n = load(path, &mut buf);
+    try_bytes(&buf[..n], b)
+}
+
 // The cases of file i.
 fn try_file(i: u8, b: Bench) -> Bench
     requires { ⌜ i < 100 ⌝ }
@@ -870,9 +961,7 @@ fn try_file(i: u8, b: Bench) -> Bench
     let mut path = *b"cases00.txt";
     path[5] = 48 + i / 10;
     path[6] = 48 + i % 10;
-    let mut buf = [0u8; 196608];
-    let n = load(&path, &mut buf);
-    try_bytes(&buf[..n], b)
+    try_named(&path, b)
 }
 
 fn no_bench() -> Bench {
@@ -881,6 +970,7 @@ fn no_bench() -> Bench {
         checks: 0,
         calls: 0,
         states: 0,
+        days: 0,
         differences: 0,
         name: 0,
         text: 0,
@@ -904,8 +994,7 @@ fn try_files() -> Bench {
     b
 }
 
-fn main() {
-    let b = try_files();
+fn print_cases(b: Bench) {
     print_number(b.cases);
     print(b" cases: ");
     print_number(b.checks);
@@ -914,6 +1003,21 @@ fn main() {
     print(b" calls, ");
     print_number(b.states);
     print(b" states compared, ");
-    print_number(b.differences);
+    print_differences(b.differences);
+}
+
+fn print_days(b: Bench) {
+    print_number(b.days);
+    print(b" days, ");
+    print_differences(b.differences);
+}
+
+fn print_differences(n: usize) {
+    print_number(n);
     print(b" differ\n");
+}
+
+fn main() {
+    print_cases(try_files());
+    print_days(try_named(b"days.txt", no_bench()));
 }

@@ -1,8 +1,8 @@
 use borrow.Author.Needs.{needs}
 use lib.ListN.{length}
 use Prim.Native.Nat.{_-_, _≤_}
-use Rattle.report_cases.proofs.holds.Statement.{statement}
-use Rattle.report_cases.proofs.holds.Tie as tie
+use Rattle.cases.proofs.holds.Statement.{statement}
+use Rattle.cases.proofs.holds.Tie as tie
 
 abbrev Inv-loop : tie.InvT-loop
 Inv-loop memory line n i₀ i = i ≤ length memory
