@@ -40,19 +40,6 @@ all-pasted l l′ at s i e h j k =
     let q : i ≡ length s = omega arith in
     rw (e, q) (pasted l at s h)
 
--- what is put keeps the length
-pub puts-long : {l s l′ : List ℕ} {at e : ℕ} → Puts l at s l′ e → at + length s ≤ length l → length l′ ≡ length l
-puts-long {l} {s} {l′} {at} {e} p h =
-    let a = length-append (take e l′) (drop e l′) in
-    let b = ap length (take-append-drop e l′) in
-    let c = ap length (p .held) in
-    let d = length-append (take at l) s in
-    let f = ap length (p .kept) in
-    let g = length-drop e l in
-    let i = length-take-le at l (omega arith) in
-    let j = p .end in
-    omega arith
-
 -- one behind the other
 pub puts-behind : {l s l′ t l″ : List ℕ} {at e f : ℕ} → Puts l at s l′ e → Puts l′ e t l″ f → Puts l at (s ++ t) l″ f
 puts-behind {l} {s} {l′} {t} {l″} {at} {e} {f} p q =

@@ -1,11 +1,10 @@
-// Bytes and numbers put behind one another into lent memory, from a place on.
-// Promised: the memory holds them, up to the place that is answered, behind what it held before (specs/Put.antt: `Puts`). Asked: that there
-// is room for them, 20 bytes for a number and 21 for a signed one.
+// Bytes and numbers put behind one another into lent memory, from a place on; and a line written there whole or not at all.
+// Promised: the memory holds what is put, up to the place that is answered, behind what it held before, and what is past it stays
+// (specs/Put.antt: `Puts`); of a line, what `written` of crate print says. Asked, of what is put alone: that there is room for it, 20 bytes
+// for a number and 21 for a signed one.
 ghost use mathlib.Core.Path.{_≡_};
-ghost use mathlib.Core.List.{List, [], _∷_};
 ghost use Prim.Native.Nat.{_+_, _%_, _≤_, _<_};
 ghost use lib.ListN.{length, drop};
-ghost use lib.IntN.{pos};
 ghost use Rattle.syntax.specs.Bits.{signed};
 ghost use Rattle.print.specs.Decimal.{digit, decimal, signedDecimal};
 ghost use Rattle.print.specs.Written.{written};

@@ -5,7 +5,7 @@
 pub mod line;
 
 ghost use mathlib.Core.Path.{_≡_};
-ghost use Prim.Native.Nat.{_+_, _≤_, _<_, min, max};
+ghost use Prim.Native.Nat.{_<_, min, max};
 ghost use lib.IntN.{subℕ};
 ghost use Rattle.syntax.specs.Bits.{modulus, half};
 ghost use Rattle.print_write.specs.Wide.{signed64};
@@ -50,6 +50,7 @@ fn raised(bits: u32) -> u64
     (bits as u64) - 2147483648
 }
 
+// The smaller of two numbers, and the larger.
 fn lesser(a: u64, b: u64) -> u64
     ensures { λ r. ⌜ r ≡ min a b ⌝ }
 {

@@ -1,5 +1,5 @@
-// The check program: reads a program's text from standard input and prints `accept,blocks,instructions` or `refuse,number,line`. Promised:
-// the line that it prints is that of the verdict of crate valid (`verdictLine` of crate print), on every text.
+// The check program: reads a program's text from standard input and prints `accept,blocks,instructions` or `refuse,number,line`. Promised
+// (`check_line`), on every text: the bytes to be printed are the line of the verdict of crate valid (`verdictLine` of crate print).
 use libc::STDIN_FILENO;
 use libc::STDOUT_FILENO;
 use print_write::Written;

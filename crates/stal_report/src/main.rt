@@ -1,5 +1,5 @@
-// The report program: reads a day's stop lines from standard input and prints the day's report, or `refuse,17,line`. What it prints is the
-// line of `report` of crate report, as `report_line` wrote it.
+// The report program: reads a day's stop lines from standard input and prints the day's report, or `refuse,17,line`. Promised
+// (`report_line`), on every text: the bytes to be printed are the line of the text's report (`reportLine`, `report` of crate report).
 use libc::STDIN_FILENO;
 use libc::STDOUT_FILENO;
 use print_write::Written;

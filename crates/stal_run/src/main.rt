@@ -1,6 +1,6 @@
 // The run program: reads program.txt and samples.txt from the current folder, starts with a budget of 1,000,000 and prints how the run
-// stopped, or the refusal. A file that cannot be opened counts as empty. Promised: the line that it prints is that of the answer to such
-// a start (`starting` of crate exec, `answerLine` of crate print), on every text and samples.
+// stopped, or the refusal. A file that cannot be opened counts as empty. Promised (`run_line`), on every text and samples: the bytes to be
+// printed are the line of the answer to such a start (`starting` of crate exec, `answerLine` of crate print).
 use exec_machine::Place;
 use exec_outcome::Answer;
 use libc::STDOUT_FILENO;
