@@ -32,7 +32,7 @@ static int resume(const uint8_t *t, size_t n, size_t budget) {
 static int agree(const uint8_t *t, size_t n, const uint8_t *s, size_t m) {
     stal_verdict v = stal_check_text(t, n), z = stal_check_with(t, n, &memory);
     plain_verdict w = plain_check(t, n);
-    int ok = v.code == w.code && v.first == w.a && (v.code || v.second == w.b) && (v.second == 100) == (w.b == 100);
+    int ok = v.code == w.code && v.first == w.a && v.second == w.b;
     ok &= v.code == z.code && v.first == z.first && v.second == z.second;
     memset(&a, 0, sizeof a);
     memset(&l, 0, sizeof l);

@@ -1,4 +1,5 @@
-/* What stal.h says of null, short, overlapping and damaged memory, tried. Prints each that fails, and how many there are. */
+/* What stal.h says of null, short, overlapping and damaged memory, and of the item of a faulty jump, tried. Prints each that fails, and how
+   many there are. */
 #include "stal.h"
 #include <stdio.h>
 #include <string.h>
@@ -168,6 +169,28 @@ static void damaged(void) {
     }
 }
 
+/* The rows of the program and `rest`: the check's number, line and item. */
+static int verdict_of(const char *rest, size_t code, size_t line, size_t item) {
+    static uint8_t other[400];
+    size_t n = join(other, "I\nU,0,0\nE\nC,-,2,1,-,-,-,-,-,-,-\nK,0,2\n", "", 0, rest);
+    stal_verdict v = stal_check_text(other, n), w = stal_check_with(other, n, &memory);
+    return v.code == code && v.first == line && v.second == item && w.code == code && w.first == line && w.second == item;
+}
+
+/* Where a jump or branch stands below, sp is empty and r1 is the tuple of samples; r2 is an integer if it was moved there, and nothing is
+   known of the others. */
+static void items(void) {
+    expect(verdict_of("C,-,4,0,0,-,-,-,-,-,-\nB,3\njmp,#1\nB,5\nhalt,0\n", 10, 8, 0), "a jump: sp, before r1 and r2");
+    expect(verdict_of("C,-,2,0,0,-,-,-,-,-,-\nB,3\njmp,#1\nB,5\nhalt,0\n", 10, 8, 1), "a jump: r1, before r2");
+    expect(verdict_of("C,-,2,1,0,-,-,-,-,-,0\nB,3\njmp,#1\nB,5\nhalt,0\n", 10, 8, 2), "a jump: r2, before r8");
+    expect(verdict_of("C,-,2,1,0,-,-,-,0,0,-\nB,3\nmov,r2,5\nbeq,r2,#1\nhalt,1\nB,5\nhalt,1\n", 10, 9, 6), "a branch: r6, before r7");
+    expect(verdict_of("C,-,2,1,0,-,-,-,-,-,0\nB,3\nmov,r2,5\nbeq,r2,#1\nhalt,1\nB,5\nhalt,1\n", 10, 9, 8), "a branch: r8");
+    expect(verdict_of("C,v,2,1,-,-,-,-,-,-,-\nC,-,4,0,0,-,-,-,-,-,-\nB,3\njmp,#1:0=6\nB,5\nhalt,1\n", 10, 9, 99),
+           "a jump: the resulting row, before its sp, r1 and r2");
+    expect(verdict_of("C,-,4,0,0,-,-,-,-,-,-\nB,3\nbeq,r1,#1\nhalt,1\nB,5\nhalt,0\n", 9, 8, 100), "a branch on a tuple: no item");
+    expect(verdict_of("B,3\nhalt,0\n", 10, 7, 100), "10 at a halt: no item");
+}
+
 /* the memory is full of 77, but for the n bytes of `line` at its start */
 static uint8_t bytes[200];
 
@@ -311,6 +334,7 @@ int main(void) {
     misused();
     too_short();
     damaged();
+    items();
     lines();
     reports();
     printf("%d cases, %d fail\n", cases, failed);

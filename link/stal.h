@@ -90,8 +90,9 @@ typedef struct {
     uint32_t plan[STAL_PLAN]; /* the machine's own table */
 } stal_memory;
 
-/* A check's answer: STAL_ACCEPTED, blocks and instructions; or the fault's number, its line, and for 10 at a jump or branch an item that
-   does not fit (0 for sp, 1 to 8 for a register, 99 for the resulting row), 100 where there is none to name. */
+/* A check's answer: STAL_ACCEPTED, blocks and instructions; or the fault's number, its line, and for 10 at a jump or branch the first item
+   that does not fit: sp (0) before r1 (1), r1 before r2 (2), and so on to r8 (8); 99 for the resulting row; 100 where there is none to
+   name. */
 typedef struct {
     size_t code, first, second;
 } stal_verdict;

@@ -74,7 +74,8 @@ pub enum Word {
 pub struct Refusal {
     pub number: usize,
     pub line: usize,
-    /// for 10 at a jump or branch an item that does not fit: 0 for sp, 1 to 8 for a register, 99 for the resulting row
+    /// for 10 at a jump or branch the first item that does not fit: sp (0) before r1 (1), r1 before r2 (2), and so on to r8 (8); 99 for the
+    /// resulting row; None where there is none to name
     pub item: Option<usize>,
 }
 

@@ -6,6 +6,8 @@
 
 static const char program[] = "I\nU,0,0\nE\nC,-,2,1,-,-,-,-,-,-,-\nB,3\nld,r2,r1,0\nld,r3,r1,1\nsub,r1,r2,r3\nhalt,0\n";
 static const char samples[] = "41200\n15600\n";
+/* jumps to a block that asks for integers in r1, which is a tuple there, and in r2, of which nothing is known */
+static const char faulty[] = "I\nU,0,0\nE\nC,-,2,1,-,-,-,-,-,-,-\nC,-,2,0,0,-,-,-,-,-,-\nB,3\njmp,#1\nB,4\nhalt,0\n";
 static const char correction[] = "halted,4,int,-7\n";
 static stal_memory memory;
 static stal_state state;
@@ -20,8 +22,11 @@ static void print(stal_line w) {
         puts("misuse");
 }
 
+/* the line, and of a faulty jump or branch the first item that does not fit */
 static void print_verdict(stal_verdict v) {
     print(stal_verdict_to(v, line, sizeof line));
+    if (v.code == 10 && v.second != 100)
+        printf("item %zu\n", v.second);
 }
 
 /* a stop is also kept for the day's report */
@@ -47,8 +52,9 @@ int main(void) {
     print_answer(stal_start_with(text, n, load, m, STAL_BUDGET, &memory, &state));
     print_answer(stal_start_with(text, n, load, m, 2, &memory, &state));
     print_answer(stal_continue_with(text, n, STAL_BUDGET, &memory, &state));
-    /* what the boundary answers: no text, a load that does not fit, a damaged state */
+    /* what the boundary answers: no text, a faulty jump, a load that does not fit, a damaged state */
     print_verdict(stal_check_with(NULL, 0, &memory));
+    print_verdict(stal_check_with((const uint8_t *)faulty, strlen(faulty), &memory));
     print_answer(stal_start_with(text, n, load, m - 1, 1, &memory, &state));
     state.depth = 257;
     print_answer(stal_continue_with(text, n, 1, &memory, &state));

@@ -5,6 +5,8 @@ use stal::{Counts, Memory, Refusal, State, Static, Stop};
 
 const PROGRAM: &[u8] = b"I\nU,0,0\nE\nC,-,2,1,-,-,-,-,-,-,-\nB,3\nld,r2,r1,0\nld,r3,r1,1\nsub,r1,r2,r3\nhalt,0\n";
 const SAMPLES: &[u8] = b"41200\n15600\n";
+/// Jumps to a block that asks for integers in r1, which is a tuple there, and in r2, of which nothing is known.
+const FAULTY: &[u8] = b"I\nU,0,0\nE\nC,-,2,1,-,-,-,-,-,-,-\nC,-,2,0,0,-,-,-,-,-,-\nB,3\njmp,#1\nB,4\nhalt,0\n";
 static MEMORY: Static<Memory> = Static::new(Memory::new());
 static STATE: Static<State> = Static::new(State::new());
 
@@ -13,8 +15,12 @@ fn show(line: Option<&[u8]>) {
     print!("{}", std::str::from_utf8(line.expect("LINE bytes are enough")).expect("ASCII"));
 }
 
+/// Prints a check's line, and of a faulty jump or branch the first item that does not fit.
 fn verdict(v: Result<Counts, Refusal>) {
     show(stal::verdict_line(v, &mut [0; stal::LINE]));
+    if let Err(Refusal { item: Some(item), .. }) = v {
+        println!("item {item}");
+    }
 }
 
 /// Prints an answer's line; a stop's is also kept for the day's report.
@@ -43,8 +49,9 @@ fn main() {
     print(stal::start_with(PROGRAM, SAMPLES, stal::BUDGET, memory, state), day);
     print(stal::start_with(PROGRAM, SAMPLES, 2, memory, state), day);
     print(stal::resume_with(PROGRAM, stal::BUDGET, memory, state), day);
-    // no text, a load that does not fit, a damaged state
+    // no text, a faulty jump, a load that does not fit, a damaged state
     verdict(stal::check_with(b"", memory));
+    verdict(stal::check_with(FAULTY, memory));
     print(stal::start_with(PROGRAM, &SAMPLES[..SAMPLES.len() - 1], 1, memory, state), day);
     state.depth = 257;
     print(stal::resume_with(PROGRAM, 1, memory, state), day);

@@ -19,7 +19,7 @@ typedef struct {
 
 enum { PLAIN_HALTED = 0, PLAIN_PAUSED = 17, PLAIN_STACK, PLAIN_HEAP, PLAIN_STUCK };
 
-/* code 0: accepted, a blocks, b instructions; else the fault's number, a its line, b an item that does not fit (100: none). */
+/* code 0: accepted, a blocks, b instructions; else the fault's number, a its line, b the first item that does not fit (100: none). */
 typedef struct {
     unsigned code;
     size_t a, b;

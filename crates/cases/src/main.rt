@@ -1,6 +1,6 @@
 // Runs packed cases (data/, written by tools/pack_cases, where their form is told) through check, start and resume, and compares every
-// answer and the whole lent state with what the cases say. Check: the counts of blocks and instructions, or number and line, and at fault
-// 10 of a jump or branch the item named is one of those listed. Start and resume: the stop, the steps and r1's word, or number and line.
+// answer and the whole lent state with what the cases say. Check: the counts of blocks and instructions, or number and line, and for fault
+// 10 at a jump or branch the first item that does not fit. Start and resume: the stop, the steps and r1's word, or number and line.
 // State: every lent word, the depth, the heap's use and the position. Then it runs packed days (data/days.txt, written by tools/pack_days)
 // through the day's report, and compares the line that is written with the packed one, byte by byte: into memory that is longer than the
 // line, whose bytes past it must stay, into memory of just its length, and into memory one byte shorter, which must be refused and left as
@@ -175,38 +175,12 @@ fn has_numbers(line: &[u8], k: usize, a: usize, b: usize, c: usize) -> bool
     field(line, k + 2) == c
 }
 
-// Mark i of field 3: of the ten marks those of the items that do not fit are 1.
-fn is_marked(line: &[u8], i: usize) -> bool {
-    let marks = part(line, field_start(line, 3), line.len());
-    byte(marks, i) == b'1'
-}
-
-fn is_listed(line: &[u8], item: usize) -> bool {
-    if item == 99 {
-        return is_marked(line, 9);
-    }
-    if item > 8 {
-        return false;
-    }
-    is_marked(line, item)
-}
-
-// Check's answer is that of the line.
+// Check's answer is that of the line; 100 stands for no item.
 fn is_answer(line: &[u8], answer: Answer) -> bool {
     match answer {
         Answer::Accepted(blocks, instructions) => has_numbers(line, 0, 0, blocks, instructions),
-        Answer::Refused(number, at) => {
-            if field(line, 3) != 0 {
-                return false;
-            }
-            has_numbers(line, 0, number, at, 0)
-        }
-        Answer::Unfit(at, item) => {
-            if !is_listed(line, item) {
-                return false;
-            }
-            has_numbers(line, 0, 10, at, 0)
-        }
+        Answer::Refused(number, at) => has_numbers(line, 0, number, at, 100),
+        Answer::Unfit(at, item) => has_numbers(line, 0, 10, at, item),
     }
 }
 
@@ -419,7 +393,7 @@ fn both_answer(line: &[u8], text: &[u8]) -> bool {
     false
 }
 
-// `a number line 0 marks`, or `a 0 blocks instructions`: what check answers.
+// `a number line item`, or `a 0 blocks instructions`: what check answers.
 fn try_check(line: &[u8], text: &[u8], b: Bench) -> Bench {
     let agrees = both_answer(line, text);
     let mut next = b;

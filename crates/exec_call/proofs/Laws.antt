@@ -4,7 +4,7 @@ use native.Mathlib.Omega.{arith}
 use mathlib.Core.Path.{_≡_, refl, ap, sym, _∙_}
 use mathlib.Core.Bool.{Bool, true, false, not, true≢false}
 use mathlib.Core.Option.{Option, none, some}
-use mathlib.Core.List.{List, []}
+use mathlib.Core.List.{List}
 use lib.Dec.{eqb, ltb}
 use lib.ListN.{length, replicate, length-replicate}
 use borrow.Author.Tests.{ne-eqb, ltb-true, ltb-false}
@@ -53,7 +53,7 @@ module _ {long : Bool} {text samples : List ℕ} {m : ℕ} {σ : State} {out : O
 -- ---- one attempt
 
 module _ {text ι os ns β : List ℕ} {r : Ready} (d : ReadyIs text ι os ns β r) where
-  refusal-is : (r .fault ≡ 0 → ⊥) → barred text ≡ some (record { number = r .fault; line = r .line; items = [] })
+  refusal-is : (r .fault ≡ 0 → ⊥) → barred text ≡ some (record { number = r .fault; line = r .line; item = none })
   refusal-is h = let e : eqb (r .fault) 0 ≡ false = ne-eqb (r .fault) 0 h in sym (d .fault) ∙ rw e refl
 
   none-is : r .fault ≡ 0 → barred text ≡ none

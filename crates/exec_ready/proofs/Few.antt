@@ -19,7 +19,7 @@ use Rattle.types_rows.proofs.Laws.{value-is}
 use Rattle.types_rows.proofs.Bridge.{type-at}
 use Rattle.valid.specs.Program.{asCode, blockOf}
 use Rattle.valid.specs.Rules.{declared}
-use Rattle.valid_context.specs.premises.Bounds.{SmallRow}
+use Rattle.valid.specs.Bounds.{SmallRow}
 use Rattle.valid_scope.proofs.entry.Laws.{items-parts}
 
 module _ (v : ℕ → Ty value) (s : ℕ → Ty stack) (ps : List ℕ) (h : ℕ) (g : Ty stack) where

@@ -10,8 +10,8 @@ use lib.Dec.{eqb, ltb}
 use lib.ListN.{length, replicate}
 use borrow.Author.Tests.{ne-eqb}
 use Rattle.syntax.specs.Syntax.{value, Instr}
-use Rattle.syntax.specs.Fault.{fault, numberOf, given, Pass, Refusal, itemsOf, lowest, lowestLine, orElse, earliest}
-use Rattle.syntax.proofs.Least.{leastOf, Numbered, numbered-given, numbered-append, line-next, line-here}
+use Rattle.syntax.specs.Fault.{fault, numberOf, given, Pass, Refusal, firstItem, lowest, lowestLine, orElse, earliest}
+use Rattle.syntax.proofs.Least.{leastOf, Numbered, numbered-given, numbered-append, refuse-plain, line-next, line-here}
 use Rattle.text.specs.PassOne.{passOne}
 use Rattle.types.specs.Types.{items, code, aStack, Arg}
 use Rattle.types.specs.Rows.{typeAt, typesOf}
@@ -22,6 +22,7 @@ use Rattle.valid.specs.Program.{Block, Program, blockOf, blocksOf, programOf, p
 use Rattle.valid.specs.Rules.{declared}
 use Rattle.valid.specs.Tests.{isFormed, isEntry}
 use Rattle.valid.specs.PassThree.{blockFaults}
+use Rattle.valid.proofs.Bare.{item-block}
 use Rattle.valid.specs.Verdict.{passTwoOf}
 use Rattle.exec.specs.Run.{wanted, barred}
 use Rattle.exec.proofs.Barred.{firstFaults, entryPass, barred-is}
@@ -64,44 +65,25 @@ barred-by text o e =
 numbered-three : (a b c : Bool) → Numbered (given a 7 ++ given b 8 ++ given c 13)
 numbered-three a b c = numbered-append (given a 7 ++ given b 8) (given c 13) (numbered-append (given a 7) (given b 8) (numbered-given a 6) (numbered-given b 7)) (numbered-given c 12)
 
-items-three : (a b c : Bool) → itemsOf (given a 7 ++ given b 8 ++ given c 13) ≡ []
-unfolding given itemsOf
-items-three true true true = refl
-items-three true true false = refl
-items-three true false true = refl
-items-three true false false = refl
-items-three false true true = refl
-items-three false true false = refl
-items-three false false true = refl
-items-three false false false = refl
-
 numbered-first : (B : Block) → Numbered (blockFaults true B)
 unfolding blockFaults
 numbered-first B = numbered-three (not (isFormed [] aStack (code (B .letters) (B .sp) (B .regs)))) (true && not (isEntry B)) (ltb 64 (items (B .sp)))
-
-no-items : (B : Block) → itemsOf (blockFaults true B) ≡ []
-unfolding blockFaults
-no-items B = items-three (not (isFormed [] aStack (code (B .letters) (B .sp) (B .regs)))) (true && not (isEntry B)) (ltb 64 (items (B .sp)))
 
 numbered-line : (Bs : List Block) → Numbered (firstFaults Bs)
 unfolding firstFaults leastOf lowest numberOf
 numbered-line [] e = absurd (omega arith)
 numbered-line (B ∷ Bs) e = numbered-first B e
 
-line-items : (Bs : List Block) → itemsOf (firstFaults Bs) ≡ []
-unfolding firstFaults itemsOf
-line-items [] = refl
-line-items (B ∷ Bs) = no-items B
+line-item : (Bs : List Block) → firstItem (firstFaults Bs) ≡ none
+unfolding firstFaults
+line-item [] = unfold firstItem in refl
+line-item (B ∷ Bs) = item-block true B
 
 -- a fault there is given with its line
-line-fault : (n f : ℕ) (Bs : List Block) → f ≡ leastOf (firstFaults Bs) → (f ≡ 0 → ⊥) → lowestLine n (firstFaults Bs ∷ []) ≡ some (record { number = f; line = n; items = [] })
+line-fault : (n f : ℕ) (Bs : List Block) → f ≡ leastOf (firstFaults Bs) → (f ≡ 0 → ⊥) → lowestLine n (firstFaults Bs ∷ []) ≡ some (record { number = f; line = n; item = none })
 line-fault n f Bs e h =
     line-here n (firstFaults Bs) [] (λ z. h (e ∙ z))
-    ∙ ap₂ (λ (x : ℕ) (y : List ℕ). some (record { number = x; line = n; items = y })) (sym e) (either (eqb (leastOf (firstFaults Bs)) 10) ∙ refl)
-  where
-    either : (b : Bool) → cond b (itemsOf (firstFaults Bs)) [] ≡ []
-    either true = line-items Bs
-    either false = refl
+    ∙ ap some (refuse-plain (leastOf (firstFaults Bs)) n (firstFaults Bs) (line-item Bs) ∙ ap (λ (x : ℕ). record { number = x; line = n; item = none }) (sym e))
 
 line-none : (n f : ℕ) (Bs : List Block) → f ≡ leastOf (firstFaults Bs) → f ≡ 0 → lowestLine n (firstFaults Bs ∷ []) ≡ none
 unfolding lowestLine
@@ -130,7 +112,7 @@ some-block-fault rows parts n c β f nb xs h ec e =
     rw k (e ∙ ap (λ (x : ℕ). leastOf (blockFaults true (blockOf (typeAt value (typesOf (rowsIn (tab rows parts) n)) x) xs))) ec)
 
 -- ---- the first block of the tables
-named : (n line : ℕ) → (n ≡ 0 → ⊥) → refusalOf (barredAt n line) ≡ some (record { number = n; line = line; items = [] })
+named : (n line : ℕ) → (n ≡ 0 → ⊥) → refusalOf (barredAt n line) ≡ some (record { number = n; line = line; item = none })
 named n line h = let e : eqb n 0 ≡ false = ne-eqb n 0 h in rw e refl
 
 module _ (text : List ℕ) (σ : Store) (uses tops : List ℕ) (r : Loaded) (l : LoadIs text σ uses tops r) where
@@ -138,7 +120,7 @@ module _ (text : List ℕ) (σ : Store) (uses tops : List ℕ) (r : Loaded) (l :
   pub bars-early : (out : Ready) (ι os ns β : List ℕ) → (r .fault ≡ 0 → ⊥) → out ≡ barredAt (r .fault) (r .line) → ReadyIs text ι os ns β out
   bars-early out ι os ns β h o =
       let e : eqb (r .fault) 0 ≡ false = ne-eqb (r .fault) 0 h in
-      let g : loadRefusal r ≡ some (record { number = r .fault; line = r .line; items = [] }) = rw e refl in
+      let g : loadRefusal r ≡ some (record { number = r .fault; line = r .line; item = none }) = rw e refl in
       record {
         fault = ap refusalOf o ∙ named (r .fault) (r .line) h ∙ sym (barred-by text _ (sym g ∙ l .fault));
         startable = λ w. absurd (h (ap (λ (x : Ready). x .fault) (sym o) ∙ w));
@@ -177,7 +159,7 @@ module _ (text : List ℕ) (σ : Store) (uses tops : List ℕ) (r : Loaded) (l :
       bars-first out ι os ns β line el h o =
           let e : line ≡ suc (r .rows) = omega arith in
           record {
-            fault = ap refusalOf o ∙ named f line h ∙ ap (λ (n : ℕ). some (record { number = f; line = n; items = [] })) e ∙ sym (barred-line ∙ line-fault (suc (r .rows)) f (P .blocks) least-is h);
+            fault = ap refusalOf o ∙ named f line h ∙ ap (λ (n : ℕ). some (record { number = f; line = n; item = none })) e ∙ sym (barred-line ∙ line-fault (suc (r .rows)) f (P .blocks) least-is h);
             startable = λ w. absurd (h (ap (λ (x : Ready). x .fault) (sym o) ∙ w));
           }
 

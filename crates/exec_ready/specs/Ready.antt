@@ -3,7 +3,7 @@ use Prim.Native.Nat.{ℕ, _*_, _≤_}
 use mathlib.Core.Path.{_≡_}
 use mathlib.Core.Bool.{true, false, cond}
 use mathlib.Core.Option.{Option, none, some}
-use mathlib.Core.List.{List, []}
+use mathlib.Core.List.{List}
 use lib.Dec.{eqb}
 use lib.ListN.{length}
 use Rattle.syntax.specs.Fault.{Refusal}
@@ -24,7 +24,7 @@ barredAt n line = record { fits = true; fault = n; line = line; blocks = 0; inst
 
 -- the fault that an answer names; 0 for none
 abbrev pub refusalOf : Ready → Option Refusal
-refusalOf r = cond (eqb (r .fault) 0) none (some (record { number = r .fault; line = r .line; items = [] }))
+refusalOf r = cond (eqb (r .fault) 0) none (some (record { number = r .fault; line = r .line; item = none }))
 
 -- the machine's tables are those of P, with some type arguments, the samples are counted, and the tables fit the machine
 pub record Startable (P : Program) (instrs operands numbers blocks : List ℕ) (r : Ready) : Type 0 where

@@ -30,7 +30,7 @@ use Rattle.text_decode.specs.store.Store.{Store, rowTable, operandsOf, storeIn}
 use Rattle.text_decode.proofs.state.Room.{lengths}
 use Rattle.text_decode.specs.declared.state.Read.{Read}
 use Rattle.text_decode.specs.Decoded as decode
-use Rattle.valid_context.specs.premises.Bounds.{SmallRow}
+use Rattle.valid.specs.Bounds.{SmallRow}
 use Rattle.valid_context.specs.premises.Answers.{Holds}
 use Rattle.valid_context.proofs.premises.Grammar.{rows-small, instrs-small}
 use Rattle.load.specs.prepare.Prepared.{Prepared, Kept}
@@ -39,7 +39,7 @@ use Rattle.load.specs.Loaded.{Space, SpaceFor, SmallRead, SpaceIn, fault
 use Rattle.load.proofs.Codes.{CodeOk, all-codes, holds-is}
 
 -- a fault that is named
-named : (n line : ℕ) → (n ≡ 0 → ⊥) → refusalOf (faulty n line) ≡ some (record { number = n; line = line; items = [] })
+named : (n line : ℕ) → (n ≡ 0 → ⊥) → refusalOf (faulty n line) ≡ some (record { number = n; line = line; item = none })
 named n line h = let e : eqb n 0 ≡ false = ne-eqb n 0 h in rw e refl
 
 -- ---- pass one
@@ -48,9 +48,9 @@ module _ (text : List ℕ) (r : Read) (e : decode.refusalOf r ≡ lowestLine 0 (
   found-one k out σ uses tops q h o =
       let z : r .fault ≡ 0 → ⊥ = λ w. h (q ∙ w) in
       let f : eqb (r .fault) 0 ≡ false = ne-eqb (r .fault) 0 z in
-      let g : decode.refusalOf r ≡ some (record { number = r .fault; line = r .line; items = [] }) = rw f refl in
+      let g : decode.refusalOf r ≡ some (record { number = r .fault; line = r .line; item = none }) = rw f refl in
       record {
-        fault = ap refusalOf o ∙ named k (r .line) h ∙ ap (λ (x : ℕ). some (record { number = x; line = r .line; items = [] })) q ∙ ap (λ (x : Option Refusal). orElse x (lowestLine 0 (passTwoOf text))) (sym g ∙ e);
+        fault = ap refusalOf o ∙ named k (r .line) h ∙ ap (λ (x : ℕ). some (record { number = x; line = r .line; item = none })) q ∙ ap (λ (x : Option Refusal). orElse x (lowestLine 0 (passTwoOf text))) (sym g ∙ e);
         loaded = λ w. absurd (h (ap (λ (x : Loaded). x .fault) (sym o) ∙ w));
       }
 
@@ -61,7 +61,7 @@ clear-none : (p : Pass) → lowestLine 0 p ≡ none → Clear p
 clear-none p e = earliest-clear (p ∷ []) (unfold earliest in rw e refl) .0
 
 -- ---- pass two
-found-some : (f : Found) → (f .number ≡ 0 → ⊥) → foundRefusal f ≡ some (record { number = f .number; line = f .line; items = [] })
+found-some : (f : Found) → (f .number ≡ 0 → ⊥) → foundRefusal f ≡ some (record { number = f .number; line = f .line; item = none })
 unfolding foundRefusal
 found-some f h = let k : eqb (f .number) 0 ≡ false = ne-eqb (f .number) 0 h in rw k refl
 

@@ -3,7 +3,7 @@ use Prim.Native.Nat.{ℕ, suc, _+_, _*_, _≤_, _<_}
 use mathlib.Core.Path.{_≡_}
 use mathlib.Core.Bool.{true, false, cond}
 use mathlib.Core.Option.{Option, none, some}
-use mathlib.Core.List.{List, []}
+use mathlib.Core.List.{List}
 use lib.Dec.{eqb}
 use lib.ListN.{length}
 use Rattle.syntax.specs.Fault.{Refusal, lowestLine, orElse}
@@ -19,7 +19,7 @@ use Rattle.image.specs.Layout.{placesOf}
 use Rattle.text_decode.specs.store.Store.{Store, rowTable, operandsOf, Room, stored}
 use Rattle.text_decode.specs.Decoded.{OperandsIn}
 use Rattle.text_decode.specs.declared.state.Read.{Read}
-use Rattle.valid_context.specs.premises.Bounds.{SmallRow, SmallInstr}
+use Rattle.valid.specs.Bounds.{SmallRow, SmallInstr}
 use Rattle.valid_context.specs.premises.Answers.{Holds}
 use Rattle.load.specs.declared.Loaded.{Loaded}
 
@@ -63,7 +63,7 @@ faulty n line = record { fits = true; fault = n; line = line; rows = 0; blocks =
 
 -- the fault that an answer names; 0 for none
 abbrev pub refusalOf : Loaded → Option Refusal
-refusalOf r = cond (eqb (r .fault) 0) none (some (record { number = r .fault; line = r .line; items = [] }))
+refusalOf r = cond (eqb (r .fault) 0) none (some (record { number = r .fault; line = r .line; item = none }))
 
 -- ---- the tables of a text that passes one and two have passed
 -- tables σ, uses and tops of the text, as counted in r

@@ -10,7 +10,7 @@ ghost use Rattle.tables.specs.Tables.{rowAt};
 ghost use Rattle.types_rows.specs.Clear.{RowsClear};
 ghost use Rattle.types_rows.specs.Read.{tab};
 ghost use Rattle.image.specs.Sections.{rowSection, partSection, useSection, topSection, Ordered};
-ghost use Rattle.valid_context.specs.premises.Bounds.{SmallRow};
+ghost use Rattle.valid.specs.Bounds.{SmallRow};
 ghost use Rattle.load.specs.Loaded.{SpaceFor};
 ghost use Rattle.load.specs.prepare.Prepared.{Prepared, Kept};
 

@@ -7,13 +7,12 @@ ghost use Prim.Native.Nat.{_+_, _≤_};
 ghost use lib.ListN.{length, take};
 ghost use Rattle.exec.specs.Run.{haltedAfter};
 ghost use Rattle.print.specs.Decimal.{decimal};
-ghost use Rattle.print.specs.Lines.{kindName, answerLine};
+ghost use Rattle.print.specs.Lines.{kindName, verdictLine, answerLine};
 ghost use Rattle.print.specs.Written.{written};
 ghost use Rattle.print_write.specs.Answers.{writtenIs};
 ghost use Rattle.print_write.specs.Put.{Puts};
-ghost use Rattle.valid_verdict.specs.Answers.{saidBy};
+ghost use Rattle.valid_verdict.specs.Answers.{verdictIs};
 ghost use Rattle.exec_outcome.specs.Answers.{answerIs};
-ghost use Rattle.print_lines.specs.Told.{saidLine};
 use print_write::Written;
 
 // A line of a word, given with its comma, and a number; where it ends.
@@ -84,7 +83,7 @@ fn answer_line(a: exec_outcome::Answer, out: &mut [u8]) -> usize
 // The line of a verdict; where it ends.
 fn verdict_line(a: valid_verdict::Answer, out: &mut [u8]) -> usize
     requires { ⌜ 64 ≤ length (now out) ⌝ }
-    ensures { λ r. ⌜ (r ≤ 64) × (take r (now (out .exit)) ≡ saidLine (saidBy a)) ⌝ }
+    ensures { λ r. ⌜ (r ≤ 64) × (take r (now (out .exit)) ≡ verdictLine (verdictIs a)) ⌝ }
 {
     match a {
         valid_verdict::Answer::Accepted(blocks, instructions) => two_numbers(
@@ -109,7 +108,7 @@ pub fn write_answer(a: exec_outcome::Answer, out: &mut [u8]) -> Written
 
 // Writes the line of an answer to a check.
 pub fn write_verdict(a: valid_verdict::Answer, out: &mut [u8]) -> Written
-    ensures { λ r. ⌜ (writtenIs r (now (out .exit)) ≡ written (saidLine (saidBy a)) (now (out .entry))) × (length (saidLine (saidBy a)) ≤ 64) ⌝ }
+    ensures { λ r. ⌜ (writtenIs r (now (out .exit)) ≡ written (verdictLine (verdictIs a)) (now (out .entry))) × (length (verdictLine (verdictIs a)) ≤ 64) ⌝ }
 {
     let mut line = [0u8; 64];
     let n = verdict_line(a, &mut line);

@@ -10,11 +10,12 @@ use Rattle.syntax.specs.Syntax.{value, stack}
 use Rattle.types.specs.Types.{Ty, items}
 use Rattle.valid.specs.Program.{Program}
 use Rattle.valid.specs.Rules.{At}
+use Rattle.valid.proofs.Reading.{at-lt}
 use Rattle.exec.specs.Machine.{Word, integer, junkWord, Memory, at}
 use Rattle.exec.specs.Run.{inUse}
 use Rattle.sound.specs.Values.{Tuples, Made, made, later, Has, Fits, Heap, empty, one}
 use Rattle.sound.proofs.Memory.{use-length, use-at}
-use Rattle.sound.proofs.Words.{fits-more, fits-len, fits-at, fits-put, at-lt, at-put}
+use Rattle.sound.proofs.Words.{fits-more, fits-len, fits-at, fits-put, at-put}
 
 set-append-add : {A : Type 0} (xs ys : List A) (k : ℕ) (a : A) → set (xs ++ ys) (length xs + k) a ≡ xs ++ set ys k a
 set-append-add [] ys k a = rw zero-add

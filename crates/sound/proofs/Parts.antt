@@ -11,12 +11,13 @@ use Rattle.types.specs.Types.{Ty, tuple, nil, join, items, aTuple, Wf}
 use Rattle.types.proofs.Filling.{items-join}
 use Rattle.valid.specs.Program.{Program, typeOf}
 use Rattle.valid.specs.Rules.{At, Put, Pops, junks}
+use Rattle.valid.proofs.Reading.{at-lt}
 use Rattle.exec.specs.Machine.{Word, integer, junkWord, Memory, at, put, puts, stackLimit, heapLimit}
 use Rattle.exec.specs.Run.{inUse}
 use Rattle.sound.specs.Values.{Tuples, Made, Has, Fits, Heap}
 use Rattle.sound.specs.Claim.{fromTop, AllClosed}
 use Rattle.sound.proofs.Memory.{Long, put-long, puts-long, use-length, use-at, use-put, use-puts, top-length, top-at, top-drop, top-put, top-junk}
-use Rattle.sound.proofs.Words.{g-int, AllGood, GoodIn, good-put, good-puts, good-junks, good-more, all-more, Holds, fits-more, fits-len, fits-at, fits-put, fits-pops, fits-junks, fits-drop, fits-putin, at-lt}
+use Rattle.sound.proofs.Words.{g-int, AllGood, GoodIn, good-put, good-puts, good-junks, good-more, all-more, Holds, fits-more, fits-len, fits-at, fits-put, fits-pops, fits-junks, fits-drop, fits-putin}
 use Rattle.sound.proofs.Heaps.{heap-more, heap-read, heap-set, heap-new, made-new}
 
 -- "tuple lengths integers 0 to 16"

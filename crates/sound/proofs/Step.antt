@@ -14,11 +14,13 @@ use Rattle.types.proofs.Equal.{so-true, to-so}
 use Rattle.types.proofs.Filling.{walk-join, get-lt, fill-wf}
 use Rattle.valid.specs.Program.{Program, typeOf}
 use Rattle.valid.specs.Rules.{At, Put, Context, withRegs, withSp, OfOperand, OfOperands, ⊢none, ⊢more, Target, target, Rule, ⊢aop, ⊢bop, ⊢ld, ⊢malloc, ⊢mov, ⊢get-sp, ⊢set-sp, ⊢salloc, ⊢sfree, ⊢sld1, ⊢sld2, ⊢sst1, ⊢sst2, ⊢st, Seq, ⊢seq, ⊢jmp, ⊢halt, start, next, atStart, Typed}
+use Rattle.valid.proofs.Reading.{at-lt}
+use Rattle.valid.proofs.Bound.{put-items}
 use Rattle.exec.specs.Machine.{Word, intKind, codeKind, tupleKind, heightKind, integer, label, handle, height, Memory, at, put, puts, State, fetch, stackLimit, heapLimit, Stop, halted, stackFull, heapFull, stuck, Result, go, stop, signOf, taken, wordOf, only, unless, setRegister, setStack, setPosition, lengthAt, jump, exec, step}
 use Rattle.exec.specs.Run.{bodies}
 use Rattle.sound.specs.Values.{Tuples, Made, Has}
 use Rattle.sound.specs.Claim.{Witness, Picks, kept, jumped, branched, Makes, none-made, one-made, Halts}
-use Rattle.sound.proofs.Words.{g-int, g-tuple, g-height, Holds, fits-len, at-lt, put-items, walk-at, walk-put, walk-pops, walk-junks}
+use Rattle.sound.proofs.Words.{g-int, g-tuple, g-height, Holds, fits-len, walk-at, walk-put, walk-pops, walk-junks}
 use Rattle.sound.proofs.Parts.{SmallTypes, Registers, register-write, register-retype, registers-more, Stacked, stacked-items, stack-read, stack-pop, stack-junk, stack-more, stack-cut, stack-write, stack-set, Heaped, tuple-length, tuple-read, tuple-write, tuple-made, tuple-new}
 use Rattle.sound.proofs.Invariant.{Inv}
 use Rattle.sound.proofs.Operands.{fill-code, register-holds, operand-holds, operands-hold, named-fits}

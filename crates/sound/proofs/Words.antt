@@ -154,23 +154,10 @@ module _ (P : Program) (Ψ : Tuples) where
   fits-putin (u ∷ ws) (gap a) {i = i} w f x h = rw suc-add (fits-putin ws a w f x h)
 
 -- ---- lists of items
-pub at-lt : {a : Ty stack} {i : ℕ} {t : Ty value} → At a i t → i < items a
-unfolding items
-at-lt here = omega arith
-at-lt (there x) = let h = at-lt x in omega arith
-at-lt (skip x) = let h = at-lt x in omega arith
-
 pub at-put : {a : Ty stack} {i : ℕ} {t : Ty value} → At a i t → Put a i t a
 at-put here = phere
 at-put (there x) = pthere (at-put x)
 at-put (skip x) = pskip (at-put x)
-
-pub put-items : {a b : Ty stack} {i : ℕ} {t : Ty value} → Put a i t b → items b ≡ items a
-unfolding items
-put-items phere = refl
-put-items pnew = refl
-put-items (pthere x) = ap suc (put-items x)
-put-items (pskip x) = ap suc (put-items x)
 
 -- ---- the rules' relations under a filling
 pub walk-at : (f : Act) (d : ℕ) {a : Ty stack} {i : ℕ} {t : Ty value} → At a i t → At (walk f d a) i (walk f d t)

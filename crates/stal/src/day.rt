@@ -2,12 +2,11 @@
 // report of the text (crate report), and the bytes those of the line (crate print) of the report, or of the verdict or answer whose numbers
 // are given; crate stal_lines has the code and the values of each case. Nothing is asked.
 ghost use mathlib.Core.Path.{_≡_};
-ghost use Rattle.print.specs.Lines.{answerLine};
+ghost use Rattle.print.specs.Lines.{verdictLine, answerLine};
 ghost use Rattle.print.specs.Written.{written};
-ghost use Rattle.print_lines.specs.Told.{saidLine};
 ghost use Rattle.report.specs.Day.{report, reportLine};
 ghost use Rattle.stal_numbers.specs.Numbers.{verdict, reply};
-ghost use Rattle.stal_numbers.specs.Back.{saidBack, answerBack};
+ghost use Rattle.stal_numbers.specs.Back.{verdictBack, answerBack};
 ghost use Rattle.stal_lines.specs.Day.{TellsDay};
 ghost use Rattle.stal_lines.specs.Line.{told, toldOf};
 
@@ -53,8 +52,8 @@ pub extern "C" fn stal_verdict_line(
     out: &mut [u8],
     length: &mut usize,
 ) -> usize
-    ensures { λ r. ⌜ told r (now (length .exit)) (now (out .exit)) ≡ toldOf (written (saidLine (saidBack (verdict code first second))) (now (out .entry))) ⌝ }
+    ensures { λ r. ⌜ told r (now (length .exit)) (now (out .exit)) ≡ toldOf (written (verdictLine (verdictBack (verdict code first second))) (now (out .entry))) ⌝ }
 {
-    let w = print_lines::write_verdict(stal_lines::said_of(code, first, second), out);
+    let w = print_lines::write_verdict(stal_lines::verdict_by(code, first, second), out);
     stal_lines::put_written(w, length)
 }

@@ -8,8 +8,9 @@ ghost use Prim.Native.Nat.{ℕ};
 ghost use mathlib.Core.List.{List};
 ghost use lib.ListN.{length};
 ghost use Rattle.image.specs.Enough.{enough, enoughToCheck, Left};
+ghost use Rattle.valid_check.specs.Lent.{checkIn};
 ghost use Rattle.exec_call.specs.Tries.{startingIn, continuingIn};
-ghost use Rattle.stal_numbers.specs.Numbers.{verdict, TellsIn, reply, call, callOf, stateIn};
+ghost use Rattle.stal_numbers.specs.Numbers.{verdict, verdictOf, reply, call, callOf, stateIn};
 
 // Check with working memory lent: 16, line 0, where it is too short.
 #[no_mangle]
@@ -22,7 +23,7 @@ pub extern "C" fn stal_check_in(
     first: &mut usize,
     second: &mut usize,
 ) -> usize
-    ensures { λ r. ⌜ TellsIn (enoughToCheck (length (now (image .entry))) (length (now (numbers .entry))) (length (now (plan .entry))) (length (now (work .entry)))) (now (text .entry)) (verdict r (now (first .exit)) (now (second .exit))) × Left {A = List ℕ × List ℕ × List ℕ × List ℕ} (enoughToCheck (length (now (image .entry))) (length (now (numbers .entry))) (length (now (plan .entry))) (length (now (work .entry)))) (now (image .entry), now (numbers .entry), now (plan .entry), now (work .entry)) (now (image .exit), now (numbers .exit), now (plan .exit), now (work .exit)) ⌝ }
+    ensures { λ r. ⌜ (verdict r (now (first .exit)) (now (second .exit)) ≡ verdictOf (checkIn (enoughToCheck (length (now (image .entry))) (length (now (numbers .entry))) (length (now (plan .entry))) (length (now (work .entry)))) (now (text .entry)))) × Left {A = List ℕ × List ℕ × List ℕ × List ℕ} (enoughToCheck (length (now (image .entry))) (length (now (numbers .entry))) (length (now (plan .entry))) (length (now (work .entry)))) (now (image .entry), now (numbers .entry), now (plan .entry), now (work .entry)) (now (image .exit), now (numbers .exit), now (plan .exit), now (work .exit)) ⌝ }
 {
     let a = checker::check_in(text, image, numbers, plan, work);
     stal_numbers::put_verdict(a, first, second)

@@ -8,13 +8,14 @@ pub mod lent;
 
 use exec_machine::Place;
 ghost use mathlib.Core.Path.{_≡_};
+ghost use Rattle.valid.specs.Verdict.{check};
 ghost use Rattle.exec.specs.Run.{starting, continuing};
-ghost use Rattle.stal_numbers.specs.Numbers.{verdict, Tells, reply, call, callOf, stateIn};
+ghost use Rattle.stal_numbers.specs.Numbers.{verdict, verdictOf, reply, call, callOf, stateIn};
 
-// Check: 0, and the counts of blocks and instructions; or a fault's number, its line and an item that does not fit (100: none to name).
+// Check: 0, and the counts of blocks and instructions; or a fault's number, its line and the first item that does not fit (100: none).
 #[no_mangle]
 pub extern "C" fn stal_check(text: &[u8], first: &mut usize, second: &mut usize) -> usize
-    ensures { λ r. ⌜ Tells (now (text .entry)) (verdict r (now (first .exit)) (now (second .exit))) ⌝ }
+    ensures { λ r. ⌜ verdict r (now (first .exit)) (now (second .exit)) ≡ verdictOf (check (now (text .entry))) ⌝ }
 {
     stal_numbers::put_verdict(checker::check(text), first, second)
 }

@@ -8,11 +8,11 @@ ghost use mathlib.Core.List.{List, _++_};
 ghost use Prim.Native.Nat.{ℕ, _≤_};
 ghost use lib.ListN.{length, drop};
 ghost use Rattle.exec_outcome.specs.Answers.{answerIs};
-ghost use Rattle.valid_verdict.specs.Answers.{saidBy};
+ghost use Rattle.valid_verdict.specs.Answers.{verdictIs};
 ghost use Rattle.print_write.specs.Answers.{writtenIs};
 ghost use Rattle.report_day.specs.Answers.{reportIs};
 ghost use Rattle.stal_numbers.specs.Numbers.{verdict, reply};
-ghost use Rattle.stal_numbers.specs.Back.{saidBack, answerBack};
+ghost use Rattle.stal_numbers.specs.Back.{verdictBack, answerBack};
 ghost use Rattle.stal_lines.specs.Day.{seven, without, TellsDay};
 ghost use Rattle.stal_lines.specs.Line.{told, toldOf};
 
@@ -30,14 +30,20 @@ pub fn answer_of(code: usize, first: usize, kind: u8, number: u32) -> Answer
     }
 }
 
-// An answer to check that has these numbers; an item that does not fit is left out.
-pub fn said_of(code: usize, first: usize, second: usize) -> valid_verdict::Answer
-    ensures { λ r. ⌜ saidBy r ≡ saidBack (verdict code first second) ⌝ }
+// The answer to check that has these numbers.
+pub fn verdict_by(code: usize, first: usize, second: usize) -> valid_verdict::Answer
+    ensures { λ r. ⌜ verdictIs r ≡ verdictBack (verdict code first second) ⌝ }
 {
     if code == 0 {
         return valid_verdict::Answer::Accepted(first, second);
     }
-    valid_verdict::Answer::Refused(code, first)
+    if code != 10 {
+        return valid_verdict::Answer::Refused(code, first);
+    }
+    if second == 100 {
+        return valid_verdict::Answer::Refused(10, first);
+    }
+    valid_verdict::Answer::Unfit(first, second)
 }
 
 // The figures of a day without integers.

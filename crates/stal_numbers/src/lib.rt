@@ -4,10 +4,11 @@
 use exec_machine::Place;
 use exec_outcome::Answer;
 ghost use mathlib.Core.Path.{_≡_};
+ghost use Rattle.valid_verdict.specs.Answers.{verdictIs};
 ghost use Rattle.exec_outcome.specs.Answers.{answerIs};
-ghost use Rattle.stal_numbers.specs.Numbers.{verdict, verdictBy, reply, replyOf};
+ghost use Rattle.stal_numbers.specs.Numbers.{verdict, verdictOf, reply, replyOf};
 
-// Check's answer in numbers: 0, blocks and instructions, or a fault's number, its line and an item.
+// Check's answer in numbers: 0, blocks and instructions, or a fault's number, its line and the first item that does not fit, 100 for none.
 pub struct Verdict {
     pub code: usize,
     pub first: usize,
@@ -54,7 +55,7 @@ pub fn reply_of(a: Answer) -> Reply
 
 // The numbers of an answer to check.
 pub fn verdict_of(a: valid_verdict::Answer) -> Verdict
-    ensures { λ r. ⌜ r ≡ verdictBy a ⌝ }
+    ensures { λ r. ⌜ r ≡ verdictOf (verdictIs a) ⌝ }
 {
     match a {
         valid_verdict::Answer::Accepted(blocks, instrs) => Verdict {
@@ -78,7 +79,7 @@ pub fn verdict_of(a: valid_verdict::Answer) -> Verdict
 // ---- at places of the caller's
 // Check's answer: its code is returned.
 pub fn put_verdict(a: valid_verdict::Answer, first: &mut usize, second: &mut usize) -> usize
-    ensures { λ r. ⌜ verdict r (now (first .exit)) (now (second .exit)) ≡ verdictBy a ⌝ }
+    ensures { λ r. ⌜ verdict r (now (first .exit)) (now (second .exit)) ≡ verdictOf (verdictIs a) ⌝ }
 {
     let v = verdict_of(a);
     *first = v.first;

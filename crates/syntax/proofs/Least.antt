@@ -1,13 +1,15 @@
 -- The least number of a line's faults, 0 for none, and how the lowest line with a fault is found in a pass.
-use Prim.Native.Nat.{ℕ, zero, suc, _+_, min}
-use native.Mathlib.Omega.{arith}
+use Prim.Native.Nat.{ℕ, zero, suc, _+_, _≤_, min}
+use native.Mathlib.Omega.{arith, min-cases}
 use native.Mathlib.Nat.{add-zero}
-use mathlib.Core.Path.{_≡_, refl, sym, ap, _∙_}
+use mathlib.Core.Path.{_≡_, refl, sym, ap, ap₂, _∙_}
 use mathlib.Core.Bool.{Bool, true, false, cond}
 use mathlib.Core.Option.{Option, none, some}
 use mathlib.Core.List.{List, [], _∷_, _++_}
+use lib.Dec.{eqb}
 use lib.ListN.{length}
-use Rattle.syntax.specs.Fault.{Fault, fault, unfit, numberOf, given, Pass, Clear, Refusal, itemsOf, lowest, refuse, lowestLine, orElse}
+use borrow.Author.Tests.{eqb-true}
+use Rattle.syntax.specs.Fault.{Fault, fault, unfit, numberOf, given, Pass, Clear, Refusal, firstItem, earlier, lowest, refuse, lowestLine, orElse}
 
 -- ---- numbers, where 0 stands for none
 -- the lower of two numbers
@@ -71,17 +73,83 @@ unfolding given
 given-none true n e = let z : _≡_ {A = ℕ} 0 1 = cc in absurd (omega arith)
 given-none false n e = refl
 
--- `given` names no items
-pub items-given : (b : Bool) (n : ℕ) → itemsOf (given b n) ≡ []
-unfolding given itemsOf
-items-given true n = refl
-items-given false n = refl
+-- ---- items
+-- `given` names none
+pub item-given : (b : Bool) (n : ℕ) → firstItem (given b n) ≡ none
+unfolding given firstItem
+item-given true n = refl
+item-given false n = refl
 
-pub items-append : (p q : List Fault) → itemsOf (p ++ q) ≡ itemsOf p ++ itemsOf q
-unfolding itemsOf
-items-append [] q = refl
-items-append (fault n ∷ p) q = items-append p q
-items-append (unfit i ∷ p) q = ap (_∷_ i) (items-append p q)
+-- the first of two, where there are any
+unfoldable pub firstOf : Option ℕ → Option ℕ → Option ℕ
+firstOf none b = b
+firstOf (some i) b = earlier i b
+
+earlier-first : (i : ℕ) (a b : Option ℕ) → earlier i (firstOf a b) ≡ firstOf (earlier i a) b
+unfolding earlier firstOf
+earlier-first i none b = refl
+earlier-first i (some j) none = refl
+earlier-first i (some j) (some k) = ap some (omega arith)
+
+pub item-append : (p q : List Fault) → firstItem (p ++ q) ≡ firstOf (firstItem p) (firstItem q)
+unfolding firstItem
+item-append [] q = unfold firstOf in refl
+item-append (fault n ∷ p) q = item-append p q
+item-append (unfit i ∷ p) q = ap (earlier i) (item-append p q) ∙ earlier-first i (firstItem p) (firstItem q)
+
+pub no-item-append : (p q : List Fault) → firstItem p ≡ none → firstItem q ≡ none → firstItem (p ++ q) ≡ none
+unfolding firstOf
+no-item-append p q e h = item-append p q ∙ ap₂ firstOf e h
+
+-- item i is that of one of the faults
+pub data Among (i : ℕ) : List Fault → Type 0 where
+  here : {k : ℕ} {fs : List Fault} → k ≡ i → Among i (unfit k ∷ fs)
+  there : {f : Fault} {fs : List Fault} → Among i fs → Among i (f ∷ fs)
+
+some-is : {a b : ℕ} → _≡_ {A = Option ℕ} (some a) (some b) → a ≡ b
+some-is e = cc
+
+first-among : (fs : List Fault) (i : ℕ) → firstItem fs ≡ some i → Among i fs
+unfolding firstItem earlier
+first-among [] i e = let z : _≡_ {A = ℕ} 0 1 = cc in absurd (omega arith)
+first-among (fault n ∷ fs) i e = there (first-among fs i e)
+first-among (unfit k ∷ fs) i e = go (firstItem fs) refl e (first-among fs)
+  where
+    go : (o : Option ℕ) → firstItem fs ≡ o → earlier k o ≡ some i → ((j : ℕ) → firstItem fs ≡ some j → Among j fs) → Among i (unfit k ∷ fs)
+    go none h e ih = here (some-is e)
+    go (some j) h e ih = min-cases k j (Among i (unfit k ∷ fs)) (λ l m. here (sym m ∙ some-is e)) (λ l m. there (rw (sym m ∙ some-is e) at (ih j h)))
+
+none-among : (fs : List Fault) {j : ℕ} → firstItem fs ≡ none → Among j fs → ⊥
+unfolding firstItem earlier
+none-among (fault n ∷ fs) e (there a) = none-among fs e a
+none-among (unfit k ∷ fs) e a = go (firstItem fs) e
+  where
+    go : (o : Option ℕ) → earlier k o ≡ none → ⊥
+    go none e = let z : _≡_ {A = ℕ} 0 1 = cc in omega arith
+    go (some j) e = let z : _≡_ {A = ℕ} 0 1 = cc in omega arith
+
+first-lowest : (fs : List Fault) (i j : ℕ) → firstItem fs ≡ some i → Among j fs → i ≤ j
+unfolding firstItem earlier
+first-lowest (fault n ∷ fs) i j e (there a) = first-lowest fs i j e a
+first-lowest (unfit k ∷ fs) i j e a = go (firstItem fs) refl e a (first-lowest fs)
+  where
+    go : (o : Option ℕ) → firstItem fs ≡ o → earlier k o ≡ some i → Among j (unfit k ∷ fs) → ((i j : ℕ) → firstItem fs ≡ some i → Among j fs → i ≤ j) → i ≤ j
+    go none h e (here p) ih = let q = some-is e in omega arith
+    go none h e (there a) ih = absurd (none-among fs h a)
+    go (some m) h e (here p) ih = let q = some-is e in omega arith
+    go (some m) h e (there a) ih = let q = some-is e in let l = ih m j h a in omega arith
+
+-- the first item is one of the faults' items, and no other of them is before it
+pub first-least : (fs : List Fault) (i : ℕ) → firstItem fs ≡ some i → Among i fs × ((j : ℕ) → Among j fs → i ≤ j)
+first-least fs i e = (first-among fs i e, λ j a. first-lowest fs i j e a)
+
+-- a refusal by faults without an item
+pub refuse-plain : (n line : ℕ) (fs : List Fault) → firstItem fs ≡ none → refuse n line fs ≡ record { number = n; line = line; item = none }
+refuse-plain n line fs e = ap (λ (i : Option ℕ). record { number = n; line = line; item = i }) (either (eqb n 10))
+  where
+    either : (b : Bool) → cond b (firstItem fs) none ≡ none
+    either true = e
+    either false = refl
 
 lowest-min : (m n : ℕ) (fs : List Fault) → lowest (min m n) fs ≡ min m (lowest n fs)
 unfolding lowest
@@ -129,7 +197,24 @@ numbered-append p q h k e =
     let z = least-zero (leastOf p) (leastOf q) (sym (least-append p q h k) ∙ e) in
     rw (h (z .0), k (z .1)) refl
 
+-- a refusal with an item is of number 10, and has the first of its faults
+pub refuse-item : (n line : ℕ) (fs : List Fault) (i : ℕ) → refuse n line fs .item ≡ some i → (n ≡ 10) × (firstItem fs ≡ some i)
+refuse-item n line fs i e = go (eqb n 10) refl e
+  where
+    go : (b : Bool) → eqb n 10 ≡ b → cond b (firstItem fs) none ≡ some i → (n ≡ 10) × (firstItem fs ≡ some i)
+    go true h e = (eqb-true n 10 h, e)
+    go false h e = let z : _≡_ {A = ℕ} 0 1 = cc in absurd (omega arith)
+
 -- ---- lines
+-- an item is named with 10 alone
+pub item-ten : (n : ℕ) (p : Pass) {r : Refusal} {i : ℕ} → lowestLine n p ≡ some r → r .item ≡ some i → r .number ≡ 10
+unfolding lowestLine
+item-ten n [] e h = let z : _≡_ {A = ℕ} 0 1 = cc in absurd (omega arith)
+item-ten n ([] ∷ p) e h = item-ten (suc n) p e h
+item-ten n ((f ∷ fs) ∷ p) {r} {i} e h =
+    let q : refuse (lowest (numberOf f) fs) n (f ∷ fs) ≡ r = cc in
+    sym (ap (λ (x : Refusal). x .number) q) ∙ refuse-item (lowest (numberOf f) fs) n (f ∷ fs) i (ap (λ (x : Refusal). x .item) q ∙ h) .0
+
 -- a line without a fault is passed
 pub line-next : (n : ℕ) (fs : List Fault) (p : Pass) → fs ≡ [] → lowestLine n (fs ∷ p) ≡ lowestLine (suc n) p
 unfolding lowestLine

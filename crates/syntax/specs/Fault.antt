@@ -28,17 +28,23 @@ abbrev pub Clear : Pass → Type 0
 Clear [] = Unit
 Clear (fs ∷ p) = (fs ≡ []) × Clear p
 
--- "number and line": what a refused text is told
+-- "number and line", and "fault 10 at a jump or branch names the first" item that does not fit (document 02, point 2): what a refused
+-- text is told
 pub record Refusal : Type 0 where
   pub number : ℕ
   pub line : ℕ
-  pub items : List ℕ  -- the items that do not fit, for 10 at a jump or branch
+  pub item : Option ℕ  -- for 10 at a jump or branch
 
--- the items among a line's faults
-unfoldable pub itemsOf : List Fault → List ℕ
-itemsOf [] = []
-itemsOf (fault n ∷ fs) = itemsOf fs
-itemsOf (unfit i ∷ fs) = i ∷ itemsOf fs
+-- the earlier of two items, if there is a second: "sp before r1, r1 before r2, and so on", as they are numbered
+unfoldable pub earlier : ℕ → Option ℕ → Option ℕ
+earlier i none = some i
+earlier i (some j) = some (min i j)
+
+-- the first of the items among a line's faults
+unfoldable pub firstItem : List Fault → Option ℕ
+firstItem [] = none
+firstItem (fault n ∷ fs) = firstItem fs
+firstItem (unfit i ∷ fs) = earlier i (firstItem fs)
 
 -- "then the lowest number"
 unfoldable pub lowest : ℕ → List Fault → ℕ
@@ -47,7 +53,7 @@ lowest n (f ∷ fs) = lowest (min n (numberOf f)) fs
 
 -- the refusal with number n on the line where the faults fs stand
 abbrev pub refuse : ℕ → ℕ → List Fault → Refusal
-refuse n line fs = record { number = n; line = line; items = cond (eqb n 10) (itemsOf fs) [] }
+refuse n line fs = record { number = n; line = line; item = cond (eqb n 10) (firstItem fs) none }
 
 -- "then the lowest line": the first line, counted from n, on which a fault stands
 unfoldable pub lowestLine : ℕ → Pass → Option Refusal

@@ -11,7 +11,7 @@ use lib.Dec.{eqb, leb}
 use lib.ListN.{length}
 use borrow.Author.Tests.{lt-ltb, le-ltb, ne-eqb}
 use Rattle.syntax.specs.Syntax.{Row, Instr, Entry, row, block, instr}
-use Rattle.syntax.specs.Fault.{Fault, numberOf, given, Pass, itemsOf, lowest, refuse, lowestLine}
+use Rattle.syntax.specs.Fault.{Fault, numberOf, given, Pass, firstItem, lowest, refuse, lowestLine}
 use Rattle.syntax.proofs.Least.{leastOf, line-next, line-here}
 use Rattle.text.specs.Bytes.{linesOf}
 use Rattle.text.specs.Grammar.{parse}
@@ -103,7 +103,7 @@ names n f fs ls e h k =
     let z : eqb f 0 ≡ false = ne-eqb f 0 h in
     let t : eqb (leastOf fs) 10 ≡ false = ne-eqb (leastOf fs) 10 (λ w. omega arith) in
     let there : lowestLine n (fs ∷ ls) ≡ some (refuse (leastOf fs) n fs) = line-here n fs ls (λ w. h (sym e ∙ w)) in
-    let same : refuse (leastOf fs) n fs ≡ record { number = f; line = n; items = [] } = ap (λ (b : Bool). record { number = leastOf fs; line = n; items = cond b (itemsOf fs) [] }) t ∙ ap (λ (k : ℕ). record { number = k; line = n; items = [] }) e in
+    let same : refuse (leastOf fs) n fs ≡ record { number = f; line = n; item = none } = ap (λ (b : Bool). record { number = leastOf fs; line = n; item = cond b (firstItem fs) none }) t ∙ ap (λ (k : ℕ). record { number = k; line = n; item = none }) e in
     simp z (sym (there ∙ ap some same))
 
 -- ---- the lines behind one

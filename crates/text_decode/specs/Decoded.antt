@@ -3,7 +3,7 @@ use Prim.Native.Nat.{ℕ, zero, suc, _+_, _*_, _≤_, _<_}
 use mathlib.Core.Path.{_≡_}
 use mathlib.Core.Bool.{Bool, true, cond}
 use mathlib.Core.Option.{Option, none, some}
-use mathlib.Core.List.{List, []}
+use mathlib.Core.List.{List}
 use lib.Dec.{eqb}
 use lib.ListN.{length}
 use Rattle.syntax.specs.Fault.{Refusal, lowestLine}
@@ -14,7 +14,7 @@ use Rattle.text_decode.specs.declared.state.Read.{Read}
 
 -- the fault that an answer names; 0 for none
 abbrev pub refusalOf : Read → Option Refusal
-refusalOf r = cond (eqb (r .fault) 0) none (some (record { number = r .fault; line = r .line; items = [] }))
+refusalOf r = cond (eqb (r .fault) 0) none (some (record { number = r .fault; line = r .line; item = none }))
 
 -- the operands of instruction j stand in the tables: entry 5 says where they start, entry 6 how many they are
 abbrev pub OperandsIn : Store → ℕ → Type 0

@@ -11,7 +11,7 @@ use lib.Dec.{ltb, leb, eqb}
 use borrow.Author.Tests.{ne-eqb, eqb-true, eqb-false, leb-true, leb-false, ltb-false}
 use Rattle.syntax.specs.Syntax.{Row}
 use Rattle.syntax.specs.Fault.{Fault, Clear, given, numberOf, lowest, Refusal, lowestLine, orElse}
-use Rattle.syntax.proofs.Least.{least, leastOf, given-none, line-next, line-here}
+use Rattle.syntax.proofs.Least.{least, leastOf, given-none, refuse-plain, line-next, line-here}
 use Rattle.text.specs.PassOne.{Listing}
 use Rattle.text.specs.Entries.{entriesIn}
 use Rattle.types.specs.Rows.{inTurn, Ref, rowRefs, allBelow, allOfSort, sizeOf, sizesOf, refsFaults, rowsFaults, entriesFaults, passTwo}
@@ -24,7 +24,7 @@ use Rattle.types_rows.specs.size.Size.{Measured}
 use Rattle.types_pass_two.specs.declared.refs.Found.{Found}
 use Rattle.types_pass_two.specs.row_refs.Rows.{rowRefsFaults}
 use Rattle.types_pass_two.specs.refs.Refs.{foundOf, refusalOf}
-use Rattle.types_pass_two.proofs.row_refs.References.{row-least, numbered-row, items-row}
+use Rattle.types_pass_two.proofs.row_refs.References.{row-least, numbered-row, item-row}
 use Rattle.types_pass_two.proofs.refs.Lines.{pass-two, whole-refusal}
 use Rattle.types_pass_two.specs.PassTwo.{faultsAt}
 
@@ -106,16 +106,11 @@ module _ (τ : RowTable) (n : ℕ) where
       let k : eqb f 0 ≡ false = ne-eqb f 0 z in
       let l : line ≡ suc r = omega arith in
       rw k
-      (ap₂ (λ (x y : ℕ). some (record { number = x; line = y; items = [] })) e l
+      (ap₂ (λ (x y : ℕ). some (record { number = x; line = y; item = none })) e l
       ∙ sym
       (here r h
       ∙ line-here (suc r) (faultsAt τ r) _ (λ d. z (e ∙ d))
-      ∙ ap (λ (is : List ℕ). some (record { number = leastOf (faultsAt τ r); line = suc r; items = cond (eqb (leastOf (faultsAt τ r)) 10) is [] })) (items-row τ (sizesOf (rowsIn τ r)) r)
-      ∙ ap (λ (is : List ℕ). some (record { number = leastOf (faultsAt τ r); line = suc r; items = is })) (either (eqb (leastOf (faultsAt τ r)) 10))))
-    where
-      either : (b : Bool) → _≡_ {A = List ℕ} (cond b [] []) []
-      either true = refl
-      either false = refl
+      ∙ ap some (refuse-plain (leastOf (faultsAt τ r)) (suc r) (faultsAt τ r) (item-row τ (sizesOf (rowsIn τ r)) r))))
 
   pub rows-end : (r : ℕ) → n ≤ r → none ≡ rowsLeft r
   unfolding rowsLeft rowsFrom rowsFaultsFrom lowestLine

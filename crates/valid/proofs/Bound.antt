@@ -11,7 +11,7 @@ use Rattle.valid.specs.Rules.{Put, phere, pnew, pthere, pskip, Pops, pop
 use Rattle.valid.specs.Claims.{SpWithin}
 
 -- an item for another leaves as many
-put-items : {a b : Ty stack} {i : ℕ} {t : Ty value} → Put a i t b → items b ≡ items a
+pub put-items : {a b : Ty stack} {i : ℕ} {t : Ty value} → Put a i t b → items b ≡ items a
 unfolding items
 put-items phere = refl
 put-items pnew = refl

@@ -25,7 +25,7 @@ use Rattle.valid.proofs.Reading.{at-sound, at-complete, put-sound, put-
 -- ---- from no fault to the rules
 -- If the premise holds, what it gives has the property Q. The proofs below have the shape of the definitions that they follow: `▸`
 -- stands for `▹`, `⊗` for `&`.
-data Gives {A : Type 0} (Q : A → Type 0) : Judged A → Type 0 where
+pub data Gives {A : Type 0} (Q : A → Type 0) : Judged A → Type 0 where
   gives : {x : A} → Q x → Gives Q (holds x)
   faulty : {f : Fault} {fs : List Fault} → Gives Q (fails f fs)
 
@@ -44,12 +44,12 @@ faulty ⊗ gives s = faulty
 faulty ⊗ faulty = faulty
 
 -- the laws of the single premises
-read : {A : Type 0} {Q : A → Type 0} (n : ℕ) (o : Option A) → ((x : A) → o ≡ some x → Q x) → Gives Q (orFault n o)
+pub read : {A : Type 0} {Q : A → Type 0} (n : ℕ) (o : Option A) → ((x : A) → o ≡ some x → Q x) → Gives Q (orFault n o)
 unfolding orFault
 read n none h = faulty
 read n (some x) h = gives (h x refl)
 
-needed : {X : Type 0} (f : Fault) (b : Bool) → (b ≡ true → X) → Gives (λ u. X) (need f b)
+pub needed : {X : Type 0} (f : Fault) (b : Bool) → (b ≡ true → X) → Gives (λ u. X) (need f b)
 unfolding need
 needed f true h = gives (h refl)
 needed f false h = faulty
@@ -79,7 +79,7 @@ above-given : (b a : Ty stack) → Gives (λ c. a ≡ join c b) (orFault 12 (abo
 above-given b a = read 12 (above b a) (above-sound b a)
 
 module _ (P : Program) (Δ : List Kind) where
-  formed-given : (t : ℕ) → Gives (λ u. WfType Δ (typeOf P t)) (formed P Δ t)
+  pub formed-given : (t : ℕ) → Gives (λ u. WfType Δ (typeOf P t)) (formed P Δ t)
   unfolding formed
   formed-given t = needed (fault 7) (isFormed Δ aStack (typeOf P t)) (formed-sound Δ aStack (typeOf P t))
 
@@ -87,7 +87,7 @@ module _ (P : Program) (Δ : List Kind) where
   unfolding known
   known-given g r = at-given 9 g r
 
-  int-given : (g : Ty stack) (r : ℕ) → Gives (λ u. At g r int) (integerAt P Δ g r)
+  pub int-given : (g : Ty stack) (r : ℕ) → Gives (λ u. At g r int) (integerAt P Δ g r)
   unfolding integerAt
   int-given g r = known-given g r ▸ λ t h. read 9 (asInt t) (λ u e. rw (int-sound t u e) at h)
 
@@ -109,7 +109,7 @@ module _ (P : Program) (Δ : List Kind) where
       go (some g) e = unfold orFault in gives (h g (put-sound (Γ .regs) d t g e))
 
   -- ---- operands
-  base-given : (g : Ty stack) (b : Base) → Gives (OfBase P Δ g b) (base P Δ g b)
+  pub base-given : (g : Ty stack) (b : Base) → Gives (OfBase P Δ g b) (base P Δ g b)
   unfolding base
   base-given g (reg r) = weaken (λ t h. ⊢reg h) (known-given g r)
   base-given g (lit n) = gives ⊢int
@@ -136,7 +136,7 @@ module _ (P : Program) (Δ : List Kind) where
       needed f (isFilled (typeOf P t) (filled θ q (c .sp) (c .regs))) λ k.
       record { type = c; left = q; carries = rw e at h; splits = j; fills = filled-sound (typeOf P t) (filled θ q (c .sp) (c .regs)) k }
 
-  operand-given : (f : Fault) (g : Ty stack) (v : Operand) → Gives (OfOperand P Δ g v) (operand P Δ f g v)
+  pub operand-given : (f : Fault) (g : Ty stack) (v : Operand) → Gives (OfOperand P Δ g v) (operand P Δ f g v)
   unfolding operand
   operand-given f g (plain b) = weaken (λ t h. ⊢plain h) (base-given g b)
   operand-given f g (inst b ts t) =
@@ -255,7 +255,7 @@ module _ (P : Program) (Δ : List Kind) where
       e
 
   -- ---- from the rules to no fault
-  base-complete : {g : Ty stack} {b : Base} {t : Ty value} → OfBase P Δ g b t → base P Δ g b ≡ holds t
+  pub base-complete : {g : Ty stack} {b : Base} {t : Ty value} → OfBase P Δ g b t → base P Δ g b ≡ holds t
   unfolding base known orFault labelType
   base-complete (⊢reg x) = rw (at-complete x)
   base-complete ⊢int = refl

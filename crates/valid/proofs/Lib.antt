@@ -10,3 +10,8 @@ pub mod Verdicts
 pub mod Bound
 pub mod FirstFault
 pub mod Lines
+pub mod Grammar
+pub mod Shape
+pub mod Bare
+pub mod Unfit
+pub mod Item

@@ -1,5 +1,5 @@
 -- The tests on types say what the rules' relations say: each answers exactly where its relation holds.
-use Prim.Native.Nat.{ℕ, zero, suc, _-_, _≤_}
+use Prim.Native.Nat.{ℕ, zero, suc, _-_, _≤_, _<_}
 use native.Mathlib.Omega.{arith}
 use mathlib.Core.Path.{_≡_, refl, ap, sym}
 use mathlib.Core.Bool.{Bool, true, false, _&&_, cond}
@@ -44,6 +44,13 @@ unfolding itemAt
 at-complete here = refl
 at-complete (there x) = at-complete x
 at-complete (skip x) = at-complete x
+
+-- it is one of the items
+pub at-lt : {a : Ty stack} {i : ℕ} {t : Ty value} → At a i t → i < items a
+unfolding items
+at-lt here = omega arith
+at-lt (there x) = let h = at-lt x in omega arith
+at-lt (skip x) = let h = at-lt x in omega arith
 
 pub put-sound : (a : Ty stack) (i : ℕ) (t : Ty value) (b : Ty stack) → replaced a i t ≡ some b → Put a i t b
 unfolding replaced

@@ -5,3 +5,5 @@ pub mod PassThree
 pub mod Verdict
 pub mod Claims
 pub mod FirstFault
+pub mod FirstItem
+pub mod Bounds

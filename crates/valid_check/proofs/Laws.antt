@@ -3,14 +3,13 @@ use Prim.Native.Nat.{ℕ, zero, suc, _+_, _-_, _≤_, _<_}
 use native.Mathlib.Omega.{arith}
 use native.Mathlib.Nat.{le-refl}
 use mathlib.Core.Path.{_≡_, refl, ap, ap₂, sym, _∙_}
-use mathlib.Core.Bool.{Bool, true, false, cond, true≢false}
-use mathlib.Core.Option.{Option, none, some}
-use mathlib.Core.List.{List, [], _∷_}
+use mathlib.Core.Bool.{Bool, true, false, cond}
+use mathlib.Core.Option.{none, some}
+use mathlib.Core.List.{List, _∷_}
 use lib.Dec.{eqb, ltb}
 use lib.ListN.{length}
 use borrow.Author.Tests.{eq-eqb, lt-ltb, le-ltb, ltb-true, ltb-false}
 use Rattle.syntax.specs.Syntax.{value, stack}
-use Rattle.syntax.specs.Fault.{Refusal}
 use Rattle.text.specs.PassOne.{Listing}
 use Rattle.types.specs.Types.{items, Arg}
 use Rattle.types.specs.Rows.{typeAt, typesOf}
@@ -18,7 +17,8 @@ use Rattle.tables.specs.Tables.{RowTable, cell, rowsIn, OperandTable, instrsFro
 use Rattle.tables.proofs.Steps.{length-instrs, endOf, end-inner, end-last, listingAt, blocks-step}
 use Rattle.types_rows.specs.Read.{tab}
 use Rattle.valid.specs.Program.{blocksOf, programFrom, programOf}
-use Rattle.valid.specs.Verdict.{instrCount}
+use Rattle.valid.specs.Verdict.{instrCount, check}
+use Rattle.valid.proofs.Clear.{some-none}
 use Rattle.valid.proofs.Order.{body-of}
 use Rattle.valid_context.specs.premises.Answers.{Holds}
 use Rattle.image.specs.declared.Places.{Places}
@@ -30,15 +30,15 @@ use Rattle.load.specs.declared.Loaded.{Loaded}
 use Rattle.load.specs.Loaded.{IsLoaded}
 use Rattle.valid_share.specs.Shared.{SharedFor, Shared}
 use Rattle.valid_verdict.specs.declared.finding.Finding.{Finding}
-use Rattle.valid_verdict.specs.finding.Found.{Refuses}
+use Rattle.valid_verdict.specs.finding.Found.{refusalSaid}
 use Rattle.valid_pass_three.specs.body.Tables.{Tables}
 use Rattle.valid_check.proofs.Few.{few-items}
 use Rattle.valid_pass_three.proofs.Blocks.{no-block, length-all}
-use Rattle.valid_verdict.proofs.finding.Laws.{refuses-none}
-use Rattle.valid_verdict.specs.Answers.{low, third, Answers}
+use Rattle.valid_verdict.proofs.finding.Laws.{says-none, says-some}
+use Rattle.valid_verdict.specs.Answers.{verdictIs, low, third}
 use Rattle.valid_verdict.specs.declared.Answer.{Answer}
 use Rattle.valid_verdict.specs.declared.Answer.the-variants.{Refused}
-use Rattle.valid_check.specs.Lent.{AnswersIn}
+use Rattle.valid_check.specs.Lent.{checkIn}
 
 -- ---- counts
 module _ (T : List Arg) (β ι : List ℕ) (ω : OperandTable) (ni nb : ℕ) where
@@ -91,14 +91,6 @@ module _ (T : List Arg) (β ι : List ℕ) (ω : OperandTable) (ni nb : ℕ) whe
   pub count-blocks : length (blocksOf T (blocksFrom β ι ω ni 0 nb)) ≡ nb
   count-blocks = length-blocks 0 nb
 
--- the number of an answer where there is no refusal
-refuses-number : (f : Finding) (o : Option Refusal) → Refuses f o → o ≡ none → f .number ≡ 0
-refuses-number f none h e = h
-refuses-number f (some r) h e = absurd (some-none e)
-  where
-    some-none : some r ≡ none → ⊥
-    some-none w = let z : _≡_ {A = ℕ} 0 1 = cc in omega arith
-
 -- ---- the tables of a loaded text
 module _ (text : List ℕ) (σ : Store) (uses tops : List ℕ) (r : Loaded) (d : IsLoaded text σ uses tops r) where
   abbrev β : List ℕ
@@ -128,7 +120,7 @@ module _ (text : List ℕ) (σ : Store) (uses tops : List ℕ) (r : Loaded) (d :
   unfolding programOf programFrom
   blocks-are T e = ap₂ blocksOf (ap typesOf (sym (d .rows)) ∙ sym e) (sym (d .blocks))
 
-  pub counts : (f : Finding) → Refuses f (third text) → f .number ≡ 0 → (r .blocks ≡ length (programOf text .blocks)) × (r .instrs ≡ instrCount (programOf text .blocks))
+  pub counts : (f : Finding) → refusalSaid f ≡ third text → f .number ≡ 0 → (r .blocks ≡ length (programOf text .blocks)) × (r .instrs ≡ instrCount (programOf text .blocks))
   counts f q z = go (r .blocks) refl
     where
       e : programOf text .blocks ≡ blocksOf (typesOf (rowsIn (rowTable σ) (r .rows))) bs
@@ -143,8 +135,7 @@ module _ (text : List ℕ) (σ : Store) (uses tops : List ℕ) (r : Loaded) (d :
       none-ends : r .blocks ≡ 0 → ⊥
       none-ends w =
           let k = no-block (programOf text) (typesOf (rowsIn (rowTable σ) (r .rows))) (σ .blocks) (σ .instrs) (operandsOf σ) (r .instrs) (r .rows) (r .blocks) (length-all (rowTable σ) (r .rows)) (d .holds .types) e w in
-          let m : _≡_ {A = ℕ} 8 0 = refuses-number (record { number = 8; line = r .rows + 1; item = 100 }) (third text) k (refuses-none f (third text) q z) in
-          omega arith
+          some-none (sym (says-some (record { number = 8; line = r .rows + 1; item = 100 }) (λ v. omega arith)) ∙ k ∙ sym q ∙ says-none f z)
 
       go : (n : ℕ) → r .blocks ≡ n → (r .blocks ≡ length (programOf text .blocks)) × (r .instrs ≡ instrCount (programOf text .blocks))
       go zero w = absurd (none-ends w)
@@ -163,8 +154,8 @@ module _ (text : List ℕ) (σ : Store) (uses tops : List ℕ) (r : Loaded) (d :
     pub shared-holds : Holds (tab rows₂ parts₂) (r .rows) (σ .blocks) (r .blocks) (programOf text)
     shared-holds = record { types = d .holds .types ∙ sym (s .types); labels = d .holds .labels }
 
-pub none-low : (text : List ℕ) (r : Loaded) → cond (eqb (r .fault) 0) none (some (record { number = r .fault; line = r .line; items = [] })) ≡ low text → r .fault ≡ 0 → none ≡ low text
-none-low text r e z = ap (λ (b : Bool). cond b none (some (record { number = r .fault; line = r .line; items = [] }))) (sym (eq-eqb (r .fault) 0 z)) ∙ e
+pub none-low : (text : List ℕ) (r : Loaded) → cond (eqb (r .fault) 0) none (some (record { number = r .fault; line = r .line; item = none })) ≡ low text → r .fault ≡ 0 → none ≡ low text
+none-low text r e z = ap (λ (b : Bool). cond b none (some (record { number = r .fault; line = r .line; item = none }))) (sym (eq-eqb (r .fault) 0 z)) ∙ e
 
 -- ---- in an image: only the rows once more were written
 module _ (p : Places) (l l′ : List ℕ) (o : Ordered p (length l)) (w : Outside (p .shared) (p .end) l l′) where
@@ -195,8 +186,10 @@ pub shared-for : (i n : ℕ) → 161694 ≤ i → n ≤ 512 → SharedFor n (pla
 shared-for i n g h = rw (large-shared i g) (record { rows = omega arith; parts = omega arith })
 
 -- the answer with working memory lent, by whether it is long enough
-pub lent-short : (long : Bool) (text : List ℕ) → long ≡ false → AnswersIn long text (Refused 16 0)
-lent-short long text e = record { answered = λ w. absurd (true≢false (sym w ∙ e)); short = λ w. refl }
+pub lent-short : (long : Bool) (text : List ℕ) → long ≡ false → verdictIs (Refused 16 0) ≡ checkIn long text
+unfolding verdictIs checkIn
+lent-short long text e = rw e
 
-pub lent-long : (long : Bool) (text : List ℕ) (a : Answer) → long ≡ true → Answers text a → AnswersIn long text a
-lent-long long text a e h = record { answered = λ w. h; short = λ w. absurd (true≢false (sym e ∙ w)) }
+pub lent-long : (long : Bool) (text : List ℕ) (a : Answer) → long ≡ true → verdictIs a ≡ check text → verdictIs a ≡ checkIn long text
+unfolding checkIn
+lent-long long text a e h = rw e h

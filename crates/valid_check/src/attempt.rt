@@ -7,13 +7,14 @@ ghost use mathlib.Core.Path.{_≡_};
 ghost use mathlib.Core.Bool.{true};
 ghost use Prim.Native.Nat.{_≤_};
 ghost use lib.ListN.{length};
-ghost use Rattle.valid_verdict.specs.Answers.{Answers};
+ghost use Rattle.valid.specs.Verdict.{check};
+ghost use Rattle.valid_verdict.specs.Answers.{verdictIs};
 
 // With an image for small texts. No text is as long as asked first, so the call there is not reached; by it the compiler sees a function that
 // calls itself, and keeps the stack that it takes out of the calls for large texts.
 fn small(text: &[u8], hash: &mut [u32], work: &mut [u16]) -> Tried
     requires { ⌜ (4096 ≤ length (now work)) × (2567 ≤ length (now hash)) ⌝ }
-    ensures { λ out. ⌜ (out .fits ≡ true → Answers (now (text .entry)) (out .answer)) ⌝ }
+    ensures { λ out. ⌜ (out .fits ≡ true → verdictIs (out .answer) ≡ check (now (text .entry))) ⌝ }
 {
     if 9223372036854775807 < text.len() {
         return small(text, hash, work);
@@ -27,7 +28,7 @@ fn small(text: &[u8], hash: &mut [u32], work: &mut [u16]) -> Tried
 // stack that it takes, out of the calls for small texts.
 fn large(text: &[u8], hash: &mut [u32], work: &mut [u16]) -> Answer
     requires { ⌜ (4096 ≤ length (now work)) × (2567 ≤ length (now hash)) ⌝ }
-    ensures { λ out. ⌜ Answers (now (text .entry)) out ⌝ }
+    ensures { λ out. ⌜ verdictIs out ≡ check (now (text .entry)) ⌝ }
 {
     let mut image = [0u16; 161694];
     let mut numbers = [0u32; 16400];
@@ -40,7 +41,7 @@ fn large(text: &[u8], hash: &mut [u32], work: &mut [u16]) -> Answer
 
 // With the image that the text fits. Hashes, what a comparison keeps pending and what the typing of a block needs are lent to both.
 pub fn check(text: &[u8]) -> Answer
-    ensures { λ out. ⌜ Answers (now (text .entry)) out ⌝ }
+    ensures { λ out. ⌜ verdictIs out ≡ check (now (text .entry)) ⌝ }
 {
     let mut hash = [0u32; 2567];
     let mut work = [0u16; 4096];

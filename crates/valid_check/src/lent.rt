@@ -3,11 +3,13 @@
 // changed. Nothing is asked.
 use crate::check_in;
 use valid_verdict::Answer;
+ghost use mathlib.Core.Path.{_≡_};
 ghost use Prim.Native.Nat.{ℕ};
 ghost use mathlib.Core.List.{List};
 ghost use lib.ListN.{length};
 ghost use Rattle.image.specs.Enough.{enoughToCheck, Left};
-ghost use Rattle.valid_check.specs.Lent.{AnswersIn};
+ghost use Rattle.valid_verdict.specs.Answers.{verdictIs};
+ghost use Rattle.valid_check.specs.Lent.{checkIn};
 
 // A check with working memory lent. The plan, which a check does not need, holds the hashes of rows and what a
 // comparison keeps pending. The last line is not reached.
@@ -18,7 +20,7 @@ pub fn check(
     plan: &mut [u32],
     work: &mut [u16],
 ) -> Answer
-    ensures { λ out. ⌜ AnswersIn (enoughToCheck (length (now (image .entry))) (length (now (numbers .entry))) (length (now (plan .entry))) (length (now (work .entry)))) (now (text .entry)) out × Left {A = List ℕ × List ℕ × List ℕ × List ℕ} (enoughToCheck (length (now (image .entry))) (length (now (numbers .entry))) (length (now (plan .entry))) (length (now (work .entry)))) (now (image .entry), now (numbers .entry), now (plan .entry), now (work .entry)) (now (image .exit), now (numbers .exit), now (plan .exit), now (work .exit)) ⌝ }
+    ensures { λ out. ⌜ (verdictIs out ≡ checkIn (enoughToCheck (length (now (image .entry))) (length (now (numbers .entry))) (length (now (plan .entry))) (length (now (work .entry)))) (now (text .entry))) × Left {A = List ℕ × List ℕ × List ℕ × List ℕ} (enoughToCheck (length (now (image .entry))) (length (now (numbers .entry))) (length (now (plan .entry))) (length (now (work .entry)))) (now (image .entry), now (numbers .entry), now (plan .entry), now (work .entry)) (now (image .exit), now (numbers .exit), now (plan .exit), now (work .exit)) ⌝ }
 {
     if !image::lent::is_enough_to_check(image.len(), numbers.len(), plan.len(), work.len()) {
         return Answer::Refused(16, 0);

@@ -19,12 +19,13 @@ ghost use Rattle.tables.specs.Tables.{rowsIn};
 ghost use Rattle.image.specs.Sections.{Ordered};
 ghost use Rattle.valid.specs.Program.{Program, blocksOf};
 ghost use Rattle.valid.specs.PassThree.{passThree};
+ghost use Rattle.valid.specs.Verdict.{check};
 ghost use Rattle.valid_typing.specs.Image.{rowTable, HoldsAt};
 ghost use Rattle.valid_pass_three.specs.body.Tables.{Tabled};
 ghost use Rattle.valid_pass_three.specs.Blocks.{blocksIn, BlocksWithin};
-ghost use Rattle.valid_verdict.specs.finding.Found.{Refuses};
+ghost use Rattle.valid_verdict.specs.finding.Found.{refusalSaid};
 ghost use Rattle.text_decode.specs.Decoded.{Fitting};
-ghost use Rattle.valid_verdict.specs.Answers.{Answers};
+ghost use Rattle.valid_verdict.specs.Answers.{verdictIs};
 ghost use Rattle.valid_share.specs.Shared.{SharedFor};
 ghost use Rattle.valid_check.specs.Lent.{Roomy};
 
@@ -55,7 +56,7 @@ fn third_pass(
     pending: &mut [u32],
 ) -> Finding
     requires { ⌜ Tabled p (now image) (c .rows) × BlocksWithin p (now image) (now numbers) c × (4096 ≤ length (now work)) × (1543 ≤ length (now pending)) ⌝ }
-    ensures { λ out. ⌜ ((P : Program) → HoldsAt p (now (image .entry)) c P → P .blocks ≡ blocksOf (typesOf (rowsIn (rowTable p (now (image .entry))) (c .rows))) (blocksIn p (now (image .entry)) (now (numbers .entry)) c) → Refuses out (lowestLine 0 (passThree P))) ⌝ }
+    ensures { λ out. ⌜ ((P : Program) → HoldsAt p (now (image .entry)) c P → P .blocks ≡ blocksOf (typesOf (rowsIn (rowTable p (now (image .entry))) (c .rows))) (blocksIn p (now (image .entry)) (now (numbers .entry)) c) → refusalSaid out ≡ lowestLine 0 (passThree P)) ⌝ }
 {
     let mut regs = [0u16; 8];
     let mut sp = [0u16; 64];
@@ -72,7 +73,7 @@ pub(crate) fn check_in(
     work: &mut [u16],
 ) -> Tried
     requires { ⌜ (4096 ≤ length (now work)) × (2567 ≤ length (now hash)) ⌝ }
-    ensures { λ out. ⌜ Fitting (Roomy (now (image .entry)) (now (numbers .entry))) (out .fits) (Answers (now (text .entry)) (out .answer)) ⌝ }
+    ensures { λ out. ⌜ Fitting (Roomy (now (image .entry)) (now (numbers .entry))) (out .fits) (verdictIs (out .answer) ≡ check (now (text .entry))) ⌝ }
 {
     let r = load::load(text, image, numbers);
     if !r.fits {

@@ -5,10 +5,12 @@ use mathlib.Core.Path.{_≡_, refl, ap, sym, _∙_}
 use mathlib.Core.Bool.{Bool, true, false, cond}
 use mathlib.Core.Option.{none, some}
 use mathlib.Core.List.{List, [], _∷_, _++_}
+use borrow.Author.Tests.{eq-eqb, ne-eqb}
 use Rattle.syntax.specs.Fault.{Fault, numberOf, lowest}
 use Rattle.valid.specs.PassThree.{Judged, holds, fails, _▹_, _&_, orFault, need}
 use Rattle.syntax.proofs.Least.{least, least-none}
 use Rattle.valid_context.specs.Told.{gives, lacks, toldOf, answer}
+use Rattle.valid_context.specs.premises.Answers.{itemSaid}
 
 absurd-told : {A B : Type 0} {x : A} {n : ℕ} → gives x ≡ lacks n → B
 absurd-told e = let z : _≡_ {A = ℕ} 0 1 = cc in absurd (omega arith)
@@ -93,3 +95,13 @@ pub told-need : (f : Fault) (b : Bool) (n : ℕ) → numberOf f ≡ suc n → to
 unfolding toldOf answer need lowest
 told-need f true n e = refl
 told-need f false n e = ap lacks e
+
+-- ---- items
+-- the number 100 says none, any other the item
+pub said-none : (i : ℕ) → i ≡ 100 → itemSaid i ≡ none
+unfolding itemSaid
+said-none i e = rw (eq-eqb i 100 e)
+
+pub said-some : (i : ℕ) → (i ≡ 100 → ⊥) → itemSaid i ≡ some i
+unfolding itemSaid
+said-some i h = rw (ne-eqb i 100 h)

@@ -3,31 +3,33 @@ use Prim.Native.Nat.{ℕ, _≤_, _<_}
 use native.Mathlib.Omega.{arith}
 use mathlib.Core.Path.{_≡_, refl, sym, subst}
 use mathlib.Core.Bool.{Bool, true, false, cond}
-use mathlib.Core.List.{List, []}
+use mathlib.Core.Option.{Option, none}
+use mathlib.Core.List.{List}
 use mathlib.Core.Logic.{_⊎_, inl, inr}
 use lib.Dec.{eqb}
 use borrow.Author.Tests.{eqb-true, eqb-false}
 use Rattle.syntax.specs.Syntax.{Kind}
-use Rattle.syntax.specs.Fault.{itemsOf}
 use Rattle.tables.specs.Tables.{OperandTable, cell, instrFrom, instrAt}
 use Rattle.tables.proofs.Cases.{_&_, instr-cases}
 use Rattle.valid.specs.Program.{Program}
 use Rattle.valid.specs.Rules.{Context}
-use Rattle.valid.specs.PassThree.{faultsOf, judge}
+use Rattle.valid.specs.PassThree.{judge}
 use Rattle.valid_context.specs.Told.{toldOf, answer}
-use Rattle.valid_context.specs.premises.Answers.{ItemIs, Answered}
+use Rattle.valid_context.specs.premises.Answers.{itemSaid, Answered}
 use Rattle.types.proofs.Equal.{none-true}
-use Rattle.valid_typing.proofs.Items.{Aims, bare-judge}
+use Rattle.valid.proofs.Bare.{Aims, bare-judge}
+use Rattle.valid_typing.proofs.Items.{itemIn}
 use Rattle.valid_judge.specs.Codes.{OperandCode, TargetCode}
 
-none-named : (l : List ℕ) (b : Bool) → l ≡ [] → ItemIs 100 (cond b l [])
-none-named l true e = subst (λ (m : List ℕ). ItemIs 100 m) (sym e) refl
-none-named l false e = refl
+none-named : (o : Option ℕ) (b : Bool) → o ≡ none → itemSaid 100 ≡ cond b o none
+unfolding itemSaid
+none-named o true e = sym e
+none-named o false e = refl
 
 module _ (P : Program) (Δ : List Kind) (ω : OperandTable) where
-  aimless : (a b c d v m k : ℕ) → (3 ≤ k → 9 ≤ k) → (k ≡ 21 → ⊥) → Aims P Δ (instrFrom ω k a b c d v m) ≡ false
+  aimless : (a b c d v m k : ℕ) → (3 ≤ k → 9 ≤ k) → (k ≡ 21 → ⊥) → Aims (instrFrom ω k a b c d v m) ≡ false
   aimless a b c d v m k h n =
-      instr-cases (λ k x. (3 ≤ k → 9 ≤ k) → (k ≡ 21 → ⊥) → Aims P Δ x ≡ false) ω a b c d v m
+      instr-cases (λ k x. (3 ≤ k → 9 ≤ k) → (k ≡ 21 → ⊥) → Aims x ≡ false) ω a b c d v m
       (tt & no & no & no & (λ h n. absurd (omega (arith, h (omega arith)))) & (λ h n. absurd (omega (arith, h (omega arith)))) &
       (λ h n. absurd (omega (arith, h (omega arith)))) & (λ h n. absurd (omega (arith, h (omega arith)))) &
       (λ h n. absurd (omega (arith, h (omega arith)))) & (λ h n. absurd (omega (arith, h (omega arith)))) & no & no & no & no & no & no &
@@ -39,10 +41,10 @@ module _ (P : Program) (Δ : List Kind) (ω : OperandTable) where
 
   pub plain : (ι : List ℕ) (j k f : ℕ) (Γ Γ′ : Context) → k ≡ cell 8 ι j 0 → (3 ≤ k → 9 ≤ k) → (k ≡ 21 → ⊥) → toldOf (judge P Δ Γ (instrAt ι ω j)) ≡ answer f Γ′ → Answered (judge P Δ Γ (instrAt ι ω j)) f Γ′ 100
   plain ι j k f Γ Γ′ ek h n e =
-      let z : Aims P Δ (instrAt ι ω j) ≡ false = unfold instrAt in subst (λ (x : ℕ). Aims P Δ (instrFrom ω x (cell 8 ι j 1) (cell 8 ι j 2)
+      let z : Aims (instrAt ι ω j) ≡ false = unfold instrAt in subst (λ (x : ℕ). Aims (instrFrom ω x (cell 8 ι j 1) (cell 8 ι j 2)
       (cell 8 ι j 3) (cell 8 ι j 4) (cell 8 ι j 5) (cell 8 ι j 6)) ≡ false) ek (aimless (cell 8 ι j 1) (cell 8 ι j 2) (cell 8 ι j 3)
       (cell 8 ι j 4) (cell 8 ι j 5) (cell 8 ι j 6) k h n) in
-      record { told = e; named = none-named (itemsOf (faultsOf (judge P Δ Γ (instrAt ι ω j)))) (eqb f 10) (bare-judge P Δ Γ (instrAt ι ω j) z) }
+      record { told = e; named = none-named (itemIn (judge P Δ Γ (instrAt ι ω j))) (eqb f 10) (bare-judge P Δ Γ (instrAt ι ω j) z) }
 
 -- a code with operands and no target is that of arithmetic, `mov` or `malloc`
 pub value-code : (k : ℕ) → (k < 10) ⊎ ((k ≡ 12) ⊎ (k ≡ 21)) → (k ≡ 21 → ⊥) → 10 ≤ k → k ≡ 12

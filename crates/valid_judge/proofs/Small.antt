@@ -13,7 +13,7 @@ use Rattle.types_rows.specs.Read.{tab, lower, stackWith, stackAt, buildS, meanV
 use Rattle.types_rows.specs.declared.Stk.{Stk}
 use Rattle.types_rows.specs.declared.Stk.the-variants.{Nil, StkVar, StkFill, Push, Join}
 use Rattle.types_rows.proofs.Laws.{stack-is, lowS-at, LowS}
-use Rattle.valid_context.specs.premises.Bounds.{SmallRow}
+use Rattle.valid.specs.Bounds.{SmallRow}
 use Rattle.valid_typing.specs.Typing.{Ready, SmallVars}
 use Rattle.valid_judge.specs.through.Forms.{Flat}
 

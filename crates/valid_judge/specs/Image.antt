@@ -9,7 +9,7 @@ use Rattle.image.specs.Sections.{blockSection, sharedSection, slotSection}
 use Rattle.types.specs.Types.{items}
 use Rattle.tables.specs.Tables.{rowAt}
 use Rattle.types_rows.specs.Read.{meanS}
-use Rattle.valid_context.specs.premises.Bounds.{SmallRow, AllShort}
+use Rattle.valid.specs.Bounds.{SmallRow, AllShort}
 use Rattle.valid_typing.specs.declared.Listed.{Listed}
 use Rattle.valid_typing.specs.Image.{rowTable, listedIn}
 use Rattle.valid_judge.specs.heap.Forms.{InRegs}

@@ -1,7 +1,7 @@
 // One instruction of pass three that goes to a target: a branch, `jmp`. It changes no types; its target's are looked at whether a branch
 // is taken or not.
-// Promised of each: the least fault that `judge` of crate valid gives the instruction, 0 if it has none, and for fault 10 an item that
-// does not fit: 0 for sp, 1 to 8 for a register, 99 for the operand's resulting row; 100 stands for none.
+// Promised of each: the least fault that `judge` of crate valid gives the instruction, 0 if it has none, and for fault 10 the first
+// item that does not fit: 0 for sp, 1 to 8 for a register, 99 for the operand's resulting row; 100 stands for none.
 use image::Counts;
 use image::Places;
 use valid_typing::BlockLetters;
@@ -11,7 +11,7 @@ ghost use Rattle.syntax.specs.Syntax.{Branch, bop, jmp};
 ghost use Rattle.valid.specs.Program.{Program};
 ghost use Rattle.valid.specs.PassThree.{judge};
 ghost use Rattle.valid_context.specs.Context.{contextOf};
-ghost use Rattle.valid_context.specs.premises.Bounds.{Short};
+ghost use Rattle.valid.specs.Bounds.{Short};
 ghost use Rattle.valid_context.specs.premises.Answers.{Answered};
 ghost use Rattle.valid_typing.specs.Image.{typesAt, Prepared, operandIn, HoldsAt, lettersIn};
 

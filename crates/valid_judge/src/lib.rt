@@ -3,8 +3,8 @@
 // operands (values), targets (jumps). Of an instruction is told its least fault, and the types known after it. The types known before it,
 // of the registers and of sp, stand in two of the checker's arrays (crate valid_context), and are changed there; two more are lent: `work`
 // for the items behind a pointer, `pending` for what a comparison keeps pending. Promised: the least fault that `judge` of crate valid gives
-// the instruction, 0 if it has none, and then the types after it, sp within 64 items; for fault 10 at a branch or jump one of the items
-// that do not fit, and 100 for none. The tables are sections of one image (crate image).
+// the instruction, 0 if it has none, and then the types after it, sp within 64 items; for fault 10 at a branch or jump the first item
+// that does not fit, and 100 for none. The tables are sections of one image (crate image).
 pub mod codes;
 pub mod heap;
 pub mod jumps;
@@ -26,7 +26,7 @@ ghost use Rattle.types.specs.Rows.{typesOf};
 ghost use Rattle.valid.specs.Program.{Program};
 ghost use Rattle.valid.specs.PassThree.{judge};
 ghost use Rattle.valid_context.specs.Context.{contextOf};
-ghost use Rattle.valid_context.specs.premises.Bounds.{SmallInstr};
+ghost use Rattle.valid.specs.Bounds.{SmallInstr};
 ghost use Rattle.valid_context.specs.premises.Answers.{Answered};
 ghost use Rattle.valid_judge.specs.Codes.{OperandCode, TargetCode, OperandForm, PlainForm};
 ghost use Rattle.image.specs.Sections.{instrSection};
@@ -45,7 +45,7 @@ pub struct Reached {
     pub depth: usize,
 }
 
-// The least fault, 0 if there is none; the item that does not fit, 100 if there is none; how many items sp has after the line.
+// The least fault, 0 if there is none; the first item that does not fit, 100 if there is none; how many items sp has after the line.
 pub struct Judgement {
     pub fault: usize,
     pub item: usize,

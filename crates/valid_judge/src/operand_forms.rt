@@ -14,7 +14,7 @@ ghost use lib.ListN.{length};
 ghost use Rattle.valid.specs.Program.{Program};
 ghost use Rattle.valid.specs.PassThree.{judge};
 ghost use Rattle.valid_context.specs.Context.{contextOf};
-ghost use Rattle.valid_context.specs.premises.Bounds.{SmallInstr};
+ghost use Rattle.valid.specs.Bounds.{SmallInstr};
 ghost use Rattle.valid_context.specs.premises.Answers.{Answered};
 ghost use Rattle.valid_typing.specs.Image.{typesAt, Prepared, instrIn, HoldsAt, lettersIn};
 ghost use Rattle.valid_judge.specs.Codes.{ValueForm, JumpForm};

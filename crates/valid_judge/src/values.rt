@@ -14,7 +14,7 @@ ghost use Rattle.types.specs.Rows.{typeAt};
 ghost use Rattle.valid.specs.Tests.{asInt};
 ghost use Rattle.valid.specs.PassThree.{Judged, _▹_, orFault};
 ghost use Rattle.valid_context.specs.Told.{toldOf, answer};
-ghost use Rattle.valid_context.specs.premises.Bounds.{Short};
+ghost use Rattle.valid.specs.Bounds.{Short};
 ghost use Rattle.valid_typing.specs.Typing.{typesIn, Ready};
 ghost use Rattle.valid_typing.specs.Image.{Prepared, operandIn, listedIn, lettersIn};
 ghost use Rattle.valid_judge.specs.Image.{ListedIn, InFileAt};

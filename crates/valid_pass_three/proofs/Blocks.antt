@@ -1,38 +1,38 @@
 -- The lowest line of pass three, block by block.
 use Prim.Native.Nat.{ℕ, zero, suc, _+_, _-_, _*_, _≤_, _<_}
 use native.Mathlib.Omega.{arith}
-use mathlib.Core.Path.{_≡_, refl, ap, ap₂, sym, subst, _∙_}
-use mathlib.Core.Bool.{Bool, true, false, not, _&&_, cond}
+use mathlib.Core.Path.{_≡_, refl, ap, ap₂, sym, _∙_}
+use mathlib.Core.Bool.{Bool, true, false, cond}
 use mathlib.Core.Option.{Option, none, some}
 use mathlib.Core.List.{List, [], _∷_, _++_, append-nil, append-eq-nil-iff}
 use lib.Dec.{eqb, ltb}
 use lib.ListN.{length, getD, replicate, length-replicate}
 use borrow.Author.Tests.{ne-eqb, lt-ltb, ltb-false}
 use Rattle.syntax.specs.Syntax.{value, Instr}
-use Rattle.syntax.specs.Fault.{Fault, given, numberOf, lowest, Pass, Refusal, itemsOf, refuse, lowestLine, orElse}
-use Rattle.syntax.proofs.Least.{leastOf, given-none, Numbered, numbered-given, numbered-append, items-given, items-append, line-next, line-here, line-append, line-after}
+use Rattle.syntax.specs.Fault.{Fault, given, numberOf, lowest, Pass, Refusal, lowestLine, orElse}
+use Rattle.syntax.proofs.Least.{leastOf, given-none, Numbered, numbered-given, numbered-append, refuse-plain, line-next, line-here, line-append, line-after}
 use Rattle.text.specs.PassOne.{Listing}
-use Rattle.types.specs.Types.{code, items, Arg, aStack}
+use Rattle.types.specs.Types.{code, items, Arg}
 use Rattle.types.specs.Rows.{typeAt, typesOf}
 use Rattle.tables.specs.Tables.{RowTable, cell, lettersAt, rowsIn, OperandTable, instrsFrom, blocksFrom}
 use Rattle.tables.proofs.Steps.{length-rows, length-instrs, endOf, blocks-step}
 use Rattle.types.proofs.Meaning.{length-types}
 use Rattle.valid.specs.Program.{Block, Program, blockOf, blocksOf}
 use Rattle.valid.specs.Rules.{atStart}
-use Rattle.valid.specs.Tests.{isFormed, isEntry}
 use Rattle.valid.specs.PassThree.{holds, bodyFaults, blockFaults, blocksFaults, hasNone, passThree}
 use Rattle.valid.proofs.Clear.{clear-replicate}
+use Rattle.valid.proofs.Bare.{item-block}
 use Rattle.valid.proofs.Order.{body-of}
 use Rattle.types_rows.specs.Read.{tab, lower, valueAt, placeV, meanS}
 use Rattle.types_rows.specs.declared.Val.{Val}
 use Rattle.types_rows.specs.declared.Val.the-variants.{Code}
 use Rattle.valid_scope.specs.entry.Entry.{blockAt}
 use Rattle.valid_scope.proofs.entry.Laws.{block-is}
-use Rattle.valid_context.specs.premises.Answers.{In, ItemIs}
+use Rattle.valid_context.specs.premises.Answers.{itemSaid}
 use Rattle.valid_verdict.specs.declared.finding.Finding.{Finding}
-use Rattle.valid_verdict.specs.finding.Found.{Refuses}
+use Rattle.valid_verdict.specs.finding.Found.{refusalSaid}
 use Rattle.valid_pass_three.specs.Blocks.{blockPass, theBlock}
-use Rattle.valid_verdict.proofs.finding.Laws.{refuses-as, refuses-none, in-some}
+use Rattle.valid_verdict.proofs.finding.Laws.{says-none, says-some}
 use Rattle.valid_pass_three.proofs.body.Lines.{length-body}
 
 -- ---- one block
@@ -40,26 +40,20 @@ numbered-block : (first : Bool) (B : Block) → Numbered (blockFaults first B)
 unfolding blockFaults
 numbered-block first B = numbered-append (given _ 7 ++ given _ 8) (given _ 13) (numbered-append (given _ 7) (given _ 8) (numbered-given _ 6) (numbered-given _ 7)) (numbered-given _ 12)
 
-items-three : (a b c : Bool) → itemsOf (given a 7 ++ given b 8 ++ given c 13) ≡ []
-items-three a b c = items-append (given a 7 ++ given b 8) (given c 13) ∙ ap₂ _++_ (items-append (given a 7) (given b 8) ∙ ap₂ _++_ (items-given a 7) (items-given b 8)) (items-given c 13)
-
-items-block : (first : Bool) (B : Block) → itemsOf (blockFaults first B) ≡ []
-unfolding blockFaults
-items-block first B = items-three (not (isFormed [] aStack (code (B .letters) (B .sp) (B .regs)))) (first && not (isEntry B)) (ltb 64 (items (B .sp)))
-
-either : (b : Bool) → _≡_ {A = List ℕ} (cond b [] []) []
-either true = refl
-either false = refl
+-- a finding without an item
+unitem : (k n : ℕ) → (k ≡ 0 → ⊥) → refusalSaid (record { number = k; line = n; item = 100 }) ≡ some (record { number = k; line = n; item = none })
+unfolding itemSaid
+unitem k n z = says-some (record { number = k; line = n; item = 100 }) z
 
 module _ (P : Program) (first : Bool) (B : Block) (n k : ℕ) (e : k ≡ leastOf (blockFaults first B)) where
-  pub block-line : (k ≡ 0 → ⊥) → Refuses (record { number = k; line = n; item = 100 }) (lowestLine n (blockPass P first B))
+  pub block-line : (k ≡ 0 → ⊥) → refusalSaid (record { number = k; line = n; item = 100 }) ≡ lowestLine n (blockPass P first B)
   block-line z =
-      let l : lowestLine n (blockPass P first B) ≡ some (refuse (leastOf (blockFaults first B)) n (blockFaults first B)) = line-here n (blockFaults first B) (bodyFaults P (B .letters) (holds (atStart B)) (B .body)) (λ w. z (e ∙ w)) in
-      let i : cond (eqb (leastOf (blockFaults first B)) 10) (itemsOf (blockFaults first B)) [] ≡ [] = ap (λ (is : List ℕ). cond (eqb (leastOf (blockFaults first B)) 10) is []) (items-block first B) ∙ either (eqb (leastOf (blockFaults first B)) 10) in
-      refuses-as (record { number = k; line = n; item = 100 }) (sym l) (record { number = e; line = refl; item = subst (ItemIs 100) (sym i) refl; some = z; low = λ j k. absurd (in-some (subst (In j) i k)); ten = λ w. i })
+      unitem k n z ∙ ap (λ (m : ℕ). some (record { number = m; line = n; item = none })) e
+      ∙ ap some (sym (refuse-plain (leastOf (blockFaults first B)) n (blockFaults first B) (item-block first B)))
+      ∙ sym (line-here n (blockFaults first B) (bodyFaults P (B .letters) (holds (atStart B)) (B .body)) (λ w. z (e ∙ w)))
 
-  pub block-body : (f : Finding) → k ≡ 0 → Refuses f (lowestLine (suc n) (bodyFaults P (B .letters) (holds (atStart B)) (B .body))) → Refuses f (lowestLine n (blockPass P first B))
-  block-body f z = refuses-as f (sym (line-next n (blockFaults first B) (bodyFaults P (B .letters) (holds (atStart B)) (B .body)) (numbered-block first B (sym e ∙ z))))
+  pub block-body : k ≡ 0 → lowestLine (suc n) (bodyFaults P (B .letters) (holds (atStart B)) (B .body)) ≡ lowestLine n (blockPass P first B)
+  block-body z = sym (line-next n (blockFaults first B) (bodyFaults P (B .letters) (holds (atStart B)) (B .body)) (numbered-block first B (sym e ∙ z)))
 
 -- ---- the blocks from block b on, of nb
 module _ (P : Program) (T : List Arg) (β ι : List ℕ) (ω : OperandTable) (ni n nb : ℕ) where
@@ -103,16 +97,15 @@ module _ (P : Program) (T : List Arg) (β ι : List ℕ) (ω : OperandTable) (ni
       ∙ line-append L (blockPass P (eqb b 0) (theBlock T β ι ω ni nb b)) Y
       ∙ ap₂ (λ (x : ℕ) (f : Bool). orElse (lowestLine L (blockPass P (eqb b 0) (theBlock T β ι ω ni nb b))) (lowestLine x (blocksFaults P f (blocksOf T (blocksFrom β ι ω ni (b + 1) (nb - (b + 1))))))) q z
 
-  module _ (b : ℕ) (h : b < nb) (l : cell 2 β b 1 ≤ endOf β ni nb b) (f : Finding) (r : Refuses f (lowestLine (n + b + cell 2 β b 1 + 1) (blockPass P (eqb b 0) (theBlock T β ι ω ni nb b)))) where
-    pub block-next : f .number ≡ 0 → blocksLeft b ≡ blocksLeft (b + 1)
-    block-next z = step b h l ∙ ap (λ (o : Option Refusal). orElse o (blocksLeft (b + 1))) (refuses-none f (lowestLine (n + b + cell 2 β b 1 + 1) (blockPass P (eqb b 0) (theBlock T β ι ω ni nb b))) r z)
+  module _ (b : ℕ) (h : b < nb) (l : cell 2 β b 1 ≤ endOf β ni nb b) (f : Finding) (r : refusalSaid f ≡ lowestLine (n + b + cell 2 β b 1 + 1) (blockPass P (eqb b 0) (theBlock T β ι ω ni nb b))) where
+    after-block : blocksLeft b ≡ orElse (refusalSaid f) (blocksLeft (b + 1))
+    after-block = step b h l ∙ ap (λ (o : Option Refusal). orElse o (blocksLeft (b + 1))) (sym r)
 
-    pub block-found : (f .number ≡ 0 → ⊥) → Refuses f (blocksLeft b)
-    block-found z = refuses-as f (sym (step b h l)) (go (lowestLine (n + b + cell 2 β b 1 + 1) (blockPass P (eqb b 0) (theBlock T β ι ω ni nb b))) r)
-      where
-        go : (o : Option Refusal) → Refuses f o → Refuses f (orElse o (blocksLeft (b + 1)))
-        go none k = absurd (z k)
-        go (some x) k = k
+    pub block-next : f .number ≡ 0 → blocksLeft b ≡ blocksLeft (b + 1)
+    block-next z = after-block ∙ ap (λ (o : Option Refusal). orElse o (blocksLeft (b + 1))) (says-none f z)
+
+    pub block-found : (f .number ≡ 0 → ⊥) → refusalSaid f ≡ blocksLeft b
+    block-found z = says-some f z ∙ sym (after-block ∙ ap (λ (o : Option Refusal). orElse o (blocksLeft (b + 1))) (says-some f z))
 
   pub blocks-end : (b : ℕ) → nb ≤ b → blocksLeft b ≡ none
   unfolding blocksLeft blocksFrom blocksOf blocksFaults lowestLine
@@ -159,7 +152,7 @@ module _ (P : Program) (T : List Arg) (β ι : List ℕ) (ω : OperandTable) (ni
       ∙ ap₂ (λ (x : ℕ) (Bs : List Block). lowestLine x (blocksFaults P true Bs)) q (e ∙ ap (λ (x : ℕ). blocksOf T (blocksFrom β ι ω ni 0 x)) (sym y))
 
   -- no block at all
-  eight : (m : ℕ) → lowestLine m (given true 8 ∷ []) ≡ some (record { number = 8; line = m; items = [] })
+  eight : (m : ℕ) → lowestLine m (given true 8 ∷ []) ≡ some (record { number = 8; line = m; item = none })
   unfolding lowestLine given lowest numberOf
   eight m = refl
 
@@ -167,7 +160,7 @@ module _ (P : Program) (T : List Arg) (β ι : List ℕ) (ω : OperandTable) (ni
   unfolding blocksOf blocksFrom
   none-there z = rw z refl
 
-  last-eight : lowestLine 0 ((blanks ++ []) ++ given true 8 ∷ []) ≡ some (record { number = 8; line = n + 1; items = [] })
+  last-eight : lowestLine 0 ((blanks ++ []) ++ given true 8 ∷ []) ≡ some (record { number = 8; line = n + 1; item = none })
   last-eight =
       let q : 0 + length blanks ≡ n + 1 = omega (arith, length-blanks) in
       ap (λ (p : Pass). lowestLine 0 (p ++ given true 8 ∷ [])) (append-nil blanks)
@@ -175,14 +168,14 @@ module _ (P : Program) (T : List Arg) (β ι : List ℕ) (ω : OperandTable) (ni
       ∙ ap (λ (m : ℕ). lowestLine m (given true 8 ∷ [])) q
       ∙ eight (n + 1)
 
-  no-line : length T ≡ n → P .types ≡ T → P .blocks ≡ [] → lowestLine 0 (passThree P) ≡ some (record { number = 8; line = n + 1; items = [] })
+  no-line : length T ≡ n → P .types ≡ T → P .blocks ≡ [] → lowestLine 0 (passThree P) ≡ some (record { number = 8; line = n + 1; item = none })
   unfolding passThree blocksFaults hasNone
   no-line c t e =
       let r : length (P .types) ≡ n = ap length t ∙ c in
       ap₂ (λ (x : ℕ) (Bs : List Block). lowestLine 0 (replicate (suc x) [] ++ blocksFaults P true Bs ++ given (hasNone Bs) 8 ∷ [])) r e ∙ last-eight
 
-  pub no-block : length T ≡ n → P .types ≡ T → P .blocks ≡ blocksOf T (blocksFrom β ι ω ni 0 nb) → nb ≡ 0 → Refuses (record { number = 8; line = n + 1; item = 100 }) (lowestLine 0 (passThree P))
-  no-block c t e z = refuses-as (record { number = 8; line = n + 1; item = 100 }) (sym (no-line c t (e ∙ none-there z))) (record { number = refl; line = refl; item = refl; some = λ w. omega arith; low = λ j k. absurd (in-some k); ten = λ w. refl })
+  pub no-block : length T ≡ n → P .types ≡ T → P .blocks ≡ blocksOf T (blocksFrom β ι ω ni 0 nb) → nb ≡ 0 → refusalSaid (record { number = 8; line = n + 1; item = 100 }) ≡ lowestLine 0 (passThree P)
+  no-block c t e z = unitem 8 (n + 1) (λ w. omega arith) ∙ sym (no-line c t (e ∙ none-there z))
 
 -- ---- a block of a code row
 module _ (rows parts : List ℕ) (n c h : ℕ) {v : Val} {x p : ℕ} (e : h ≡ lower (n + 1) c) (f : v ≡ valueAt rows (placeV 0 0 0) h) (q : v ≡ Code x p) where
@@ -213,23 +206,22 @@ module _ (P : Program) (rows parts β ι : List ℕ) (ω : OperandTable) (ni n n
   the-line : line ≡ n + b + cell 2 β b 1 + 1
   the-line = omega (arith, ls, ss)
 
-  pub found-line : (k : ℕ) (out : Finding) → k ≡ leastOf (blockFaults (eqb b 0) (blockOf (typeAt value T c) xs)) → (k ≡ 0 → ⊥) → out ≡ record { number = k; line = line; item = 100 } → Refuses out (lowestLine (n + b + cell 2 β b 1 + 1) (blockPass P (eqb b 0) (theBlock T β ι ω ni nb b)))
+  pub found-line : (k : ℕ) (out : Finding) → k ≡ leastOf (blockFaults (eqb b 0) (blockOf (typeAt value T c) xs)) → (k ≡ 0 → ⊥) → out ≡ record { number = k; line = line; item = 100 }
+      → refusalSaid out ≡ lowestLine (n + b + cell 2 β b 1 + 1) (blockPass P (eqb b 0) (theBlock T β ι ω ni nb b))
   found-line k out e z o =
-      subst (λ (f : Finding). Refuses f (lowestLine (n + b + cell 2 β b 1 + 1) (blockPass P (eqb b 0) (theBlock T β ι ω ni nb b)))) (sym (o ∙ ap (λ (y : ℕ). record { number = k; line = y; item = 100 }) the-line))
-      (block-line P (eqb b 0) (theBlock T β ι ω ni nb b) (n + b + cell 2 β b 1 + 1) k (e ∙ ap (λ (B : Block). leastOf (blockFaults (eqb b 0) B)) the-block) z)
+      ap refusalSaid (o ∙ ap (λ (y : ℕ). record { number = k; line = y; item = 100 }) the-line)
+      ∙ block-line P (eqb b 0) (theBlock T β ι ω ni nb b) (n + b + cell 2 β b 1 + 1) k (e ∙ ap (λ (B : Block). leastOf (blockFaults (eqb b 0) B)) the-block) z
 
   pub found-body : (k h x p en base : ℕ) (out : Finding) → k ≡ leastOf (blockFaults (eqb b 0) (blockOf (typeAt value T c) xs)) → k ≡ 0
       → blockOf (typeAt value T c) xs ≡ blockAt (tab rows parts) h x p xs → en ≡ endOf β ni nb b → base ≡ n + b + 2
-      → Refuses out (lowestLine (base + s) (bodyFaults P (lettersAt parts p)
-      (holds (atStart (blockAt (tab rows parts) h x p (instrsFrom ι ω s (en - s))))) (instrsFrom ι ω s (en - s))))
-      → Refuses out (lowestLine (n + b + cell 2 β b 1 + 1) (blockPass P (eqb b 0) (theBlock T β ι ω ni nb b)))
+      → refusalSaid out ≡ lowestLine (base + s) (bodyFaults P (lettersAt parts p)
+      (holds (atStart (blockAt (tab rows parts) h x p (instrsFrom ι ω s (en - s))))) (instrsFrom ι ω s (en - s)))
+      → refusalSaid out ≡ lowestLine (n + b + cell 2 β b 1 + 1) (blockPass P (eqb b 0) (theBlock T β ι ω ni nb b))
   found-body k h x p en base out e z bl ee be r =
       let m : base + s ≡ suc (n + b + cell 2 β b 1 + 1) = omega (arith, be, ss) in
-      block-body P (eqb b 0) (theBlock T β ι ω ni nb b) (n + b + cell 2 β b 1 + 1) k (e ∙ ap (λ (B : Block). leastOf (blockFaults (eqb b 0) B)) the-block) out z
-      (refuses-as out
-      (ap₂ (λ (j : ℕ) (ys : List Instr). lowestLine j (bodyFaults P (lettersAt parts p) (holds (atStart (blockAt (tab rows parts) h x p ys))) ys)) m (ap₂ (λ (i w : ℕ). instrsFrom ι ω i (w - i)) ss ee)
-      ∙ ap (λ (B : Block). lowestLine (suc (n + b + cell 2 β b 1 + 1)) (bodyFaults P (B .letters) (holds (atStart B)) (B .body))) (sym bl ∙ the-block))
-      r)
+      r ∙ ap₂ (λ (j : ℕ) (ys : List Instr). lowestLine j (bodyFaults P (lettersAt parts p) (holds (atStart (blockAt (tab rows parts) h x p ys))) ys)) m (ap₂ (λ (i w : ℕ). instrsFrom ι ω i (w - i)) ss ee)
+      ∙ ap (λ (B : Block). lowestLine (suc (n + b + cell 2 β b 1 + 1)) (bodyFaults P (B .letters) (holds (atStart B)) (B .body))) (sym bl ∙ the-block)
+      ∙ block-body P (eqb b 0) (theBlock T β ι ω ni nb b) (n + b + cell 2 β b 1 + 1) k (e ∙ ap (λ (B : Block). leastOf (blockFaults (eqb b 0) B)) the-block) z
 
 -- as many types as rows
 pub length-all : (τ : RowTable) (n : ℕ) → length (typesOf (rowsIn τ n)) ≡ n

@@ -1,4 +1,3 @@
-pub mod Items
 pub mod Lines
 pub mod Registers
 pub mod Flat

@@ -16,7 +16,7 @@ use Rattle.image.specs.Sections.{blockSection, instrSection}
 use Rattle.valid.specs.Program.{Block, Program, blockOf}
 use Rattle.valid.specs.Rules.{atStart}
 use Rattle.valid.specs.PassThree.{holds, bodyFaults, blockFaults}
-use Rattle.valid_context.specs.premises.Bounds.{SmallInstr}
+use Rattle.valid.specs.Bounds.{SmallInstr}
 use Rattle.valid_typing.specs.Image.{rowTable, operandsIn, instrIn}
 
 -- a block's line, and its instructions' lines

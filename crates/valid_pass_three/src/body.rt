@@ -1,7 +1,7 @@
 // A block's instructions, from the types that its code row says on: the registers (`enter`) and the stack written out (crate valid_typing),
 // then one instruction after the other (crate valid_judge), the types before each kept in two arrays (crate valid_context). Behind a line
 // with a fault nothing is looked at, so the first one found is the lowest. Promised: the lowest line with a fault, its least fault and, for
-// 10 at a jump or branch, an item that does not fit, as `bodyFaults` of crate valid has them. Asked: what crate load leaves in the tables
+// 10 at a jump or branch, the first item that does not fit, as `bodyFaults` of crate valid has them. Asked: what crate load leaves in the tables
 // (specs/body/Tables.antt), and room in the arrays.
 use image::Counts;
 use image::Places;
@@ -27,7 +27,7 @@ ghost use Rattle.valid_context.specs.Context.{onLink, regsOf, contextOf};
 ghost use Rattle.valid_typing.specs.Typing.{typesIn, Ready, RowParts};
 ghost use Rattle.valid_typing.specs.Image.{rowTable, typesAt, HoldsAt, lettersIn};
 ghost use Rattle.valid_scope.specs.entry.Entry.{blockAt};
-ghost use Rattle.valid_verdict.specs.finding.Found.{Refuses};
+ghost use Rattle.valid_verdict.specs.finding.Found.{refusalSaid};
 ghost use Rattle.valid_pass_three.specs.body.Tables.{Tabled, SmallInstrs, Arrays, CodeRow, instrsIn};
 
 // A block of a code row: the row's link, its stack's, where its registers start; its instructions from first to end - 1, of which
@@ -88,7 +88,7 @@ fn body(
     pending: &mut [u32],
 ) -> Finding
     requires { ⌜ Tabled p (now image) (c .rows) × SmallInstrs p (now image) (now literals) (x .first) (x .end) (x .base) × Arrays (now regs) (now sp) (now work) (now pending) × (x .depth ≤ 64) ⌝ }
-    ensures { λ out. ⌜ ((P : Program) → HoldsAt p (now (image .entry)) c P → Refuses out (lowestLine (x .base + x .first) (bodyFaults P (lettersIn p (now (image .entry)) w) (holds (contextOf (typesAt p (now (image .entry)) (c .rows)) (now (regs .entry)) (now (sp .entry)) (x .depth))) (instrsIn p (now (image .entry)) (now (literals .entry)) (x .first) (x .end - x .first))))) ⌝ }
+    ensures { λ out. ⌜ ((P : Program) → HoldsAt p (now (image .entry)) c P → refusalSaid out ≡ lowestLine (x .base + x .first) (bodyFaults P (lettersIn p (now (image .entry)) w) (holds (contextOf (typesAt p (now (image .entry)) (c .rows)) (now (regs .entry)) (now (sp .entry)) (x .depth))) (instrsIn p (now (image .entry)) (now (literals .entry)) (x .first) (x .end - x .first)))) ⌝ }
 {
     // The loop's invariant speaks of locals, and of no parameter that is a struct.
     let t = p;
@@ -125,7 +125,7 @@ pub(crate) fn code_block(
     pending: &mut [u32],
 ) -> Finding
     requires { ⌜ Tabled p (now image) (c .rows) × SmallInstrs p (now image) (now literals) (x .first) (x .end) (x .base) × Arrays (now regs) (now sp) (now work) (now pending) × CodeRow p (now image) (c .rows) x ⌝ }
-    ensures { λ out. ⌜ ((P : Program) → HoldsAt p (now (image .entry)) c P → Refuses out (lowestLine (x .base + x .first) (bodyFaults P (lettersAt (slotSection p (now (image .entry))) (x .start)) (holds (atStart (blockAt (rowTable p (now (image .entry))) (x .link) (x .stack) (x .start) (instrsIn p (now (image .entry)) (now (literals .entry)) (x .first) (x .end - x .first))))) (instrsIn p (now (image .entry)) (now (literals .entry)) (x .first) (x .end - x .first))))) ⌝ }
+    ensures { λ out. ⌜ ((P : Program) → HoldsAt p (now (image .entry)) c P → refusalSaid out ≡ lowestLine (x .base + x .first) (bodyFaults P (lettersAt (slotSection p (now (image .entry))) (x .start)) (holds (atStart (blockAt (rowTable p (now (image .entry))) (x .link) (x .stack) (x .start) (instrsIn p (now (image .entry)) (now (literals .entry)) (x .first) (x .end - x .first))))) (instrsIn p (now (image .entry)) (now (literals .entry)) (x .first) (x .end - x .first)))) ⌝ }
 {
     let shared = p.shared;
     let slots = p.slots;

@@ -1,6 +1,6 @@
 // Pass three over the tables, which are sections of one image (crate image), the rows as the checker shares them: each block's line (module
 // entry of valid_scope), and its instructions (module body). Behind a line with a fault nothing is looked at, so the first one found is the
-// lowest. Promised: the lowest line with a fault, its least fault and, for 10 at a jump or branch, an item that does not fit, as
+// lowest. Promised: the lowest line with a fault, its least fault and, for 10 at a jump or branch, the first item that does not fit, as
 // `passThree` of crate valid has them. Asked: what crate load leaves in the tables.
 pub mod body;
 
@@ -24,7 +24,7 @@ ghost use Rattle.valid.specs.Program.{Program, blockOf, blocksOf};
 ghost use Rattle.valid.specs.PassThree.{blockFaults, passThree};
 ghost use Rattle.image.specs.Sections.{blockSection};
 ghost use Rattle.valid_typing.specs.Image.{rowTable, HoldsAt};
-ghost use Rattle.valid_verdict.specs.finding.Found.{Refuses};
+ghost use Rattle.valid_verdict.specs.finding.Found.{refusalSaid};
 ghost use Rattle.valid_pass_three.specs.body.Tables.{Tabled, Arrays};
 ghost use Rattle.valid_pass_three.specs.Blocks.{blockPass, blockIn, blocksIn, BlockWithin, BlocksWithin};
 
@@ -73,7 +73,7 @@ fn block(
     pending: &mut [u32],
 ) -> Finding
     requires { ⌜ Tabled p (now image) (c .rows) × BlockWithin p (now image) (now literals) c b × Arrays (now regs) (now sp) (now work) (now pending) ⌝ }
-    ensures { λ out. ⌜ ((P : Program) → HoldsAt p (now (image .entry)) c P → Refuses out (lowestLine (c .rows + b + cell 2 (blockSection p (now (image .entry))) b 1 + 1) (blockPass P (eqb b 0) (blockIn p (now (image .entry)) (now (literals .entry)) c b)))) ⌝ }
+    ensures { λ out. ⌜ ((P : Program) → HoldsAt p (now (image .entry)) c P → refusalSaid out ≡ lowestLine (c .rows + b + cell 2 (blockSection p (now (image .entry))) b 1 + 1) (blockPass P (eqb b 0) (blockIn p (now (image .entry)) (now (literals .entry)) c b))) ⌝ }
 {
     let blocks = p.blocks;
     let instrs = p.instrs;
@@ -118,7 +118,7 @@ pub fn pass_three(
     pending: &mut [u32],
 ) -> Finding
     requires { ⌜ Tabled p (now image) (c .rows) × BlocksWithin p (now image) (now literals) c × Arrays (now regs) (now sp) (now work) (now pending) ⌝ }
-    ensures { λ out. ⌜ ((P : Program) → HoldsAt p (now (image .entry)) c P → P .blocks ≡ blocksOf (typesOf (rowsIn (rowTable p (now (image .entry))) (c .rows))) (blocksIn p (now (image .entry)) (now (literals .entry)) c) → Refuses out (lowestLine 0 (passThree P))) ⌝ }
+    ensures { λ out. ⌜ ((P : Program) → HoldsAt p (now (image .entry)) c P → P .blocks ≡ blocksOf (typesOf (rowsIn (rowTable p (now (image .entry))) (c .rows))) (blocksIn p (now (image .entry)) (now (literals .entry)) c) → refusalSaid out ≡ lowestLine 0 (passThree P)) ⌝ }
 {
     if c.blocks == 0 {
         return on_line(8, c.rows + 1);

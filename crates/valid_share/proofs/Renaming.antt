@@ -25,7 +25,7 @@ use Rattle.types_rows.proofs.Bridge.{rows-snoc, row-nine, type-in}
 use Rattle.valid_scope.specs.variables.Free.{freeIn}
 use Rattle.valid_scope.specs.Scoped.{rowType, topIn, Scoped}
 use Rattle.valid_scope.proofs.Rows.{row-getD, row-type}
-use Rattle.valid_context.specs.premises.Bounds.{SmallRow}
+use Rattle.valid.specs.Bounds.{SmallRow}
 use Rattle.valid_share.specs.rename.Renamed.{firstOf, newA, newB, newSlot, newPart, entryAt, partAt, FilledRows, FilledParts, HasParts}
 use Rattle.valid_share.specs.Shared.{Firsts, renamedOption, renamed, Alike, Lower, Shared}
 

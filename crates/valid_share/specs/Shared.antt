@@ -12,7 +12,7 @@ use Rattle.tables.specs.Tables.{RowTable, cell, rowFrom, rowAt, rowsIn}
 use Rattle.types_rows.specs.Read.{mean, Counted}
 use Rattle.image.specs.declared.Places.{Places}
 use Rattle.valid_scope.specs.Scoped.{Scoped}
-use Rattle.valid_context.specs.premises.Bounds.{SmallRow}
+use Rattle.valid.specs.Bounds.{SmallRow}
 use Rattle.valid_share.specs.rename.Renamed.{firstOf}
 
 -- each of the first n rows has the type of the row that `first` names, m rows being there

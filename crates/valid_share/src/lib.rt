@@ -18,7 +18,7 @@ ghost use Rattle.tables.specs.Tables.{cell, rowAt, rowsIn};
 ghost use Rattle.types_rows.specs.Clear.{RowsClear};
 ghost use Rattle.types_rows.specs.Read.{tab, Counted};
 ghost use Rattle.image.specs.Sections.{rowSection, partSection, sharedSection, slotSection, Ordered, Outside};
-ghost use Rattle.valid_context.specs.premises.Bounds.{SmallRow};
+ghost use Rattle.valid.specs.Bounds.{SmallRow};
 ghost use Rattle.valid_share.specs.rename.Renamed.{newPart};
 ghost use Rattle.valid_share.specs.Shared.{Firsts, Alike, Lower, SmallForms, RowsTo, WorkFor, SharedFor, Shared};
 use image::Places;

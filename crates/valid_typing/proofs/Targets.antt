@@ -1,33 +1,31 @@
--- The least fault of a target, by what its premises answer, and an item that does not fit.
-use Prim.Native.Nat.{ℕ, suc, _-_}
+-- The least fault of a target, by what its premises answer, and the first item that does not fit.
+use Prim.Native.Nat.{ℕ, suc}
 use native.Mathlib.Omega.{arith}
 use mathlib.Core.Path.{_≡_, refl, ap, sym, _∙_}
 use mathlib.Core.Bool.{Bool, true, false, cond}
-use mathlib.Core.Option.{none, some}
-use mathlib.Core.List.{List, [], _∷_, _++_, List·Memᴰ, List·Memᴰ·head}
-use lib.ListN.{getD}
+use mathlib.Core.Option.{Option, none, some}
+use mathlib.Core.List.{List, [], _∷_, _++_}
 use Rattle.syntax.specs.Syntax.{Kind, value, stack, Operand}
-use Rattle.syntax.specs.Fault.{Fault, fault, unfit, numberOf, lowest, itemsOf}
+use Rattle.syntax.specs.Fault.{Fault, fault, unfit, numberOf, earlier, firstItem, lowest}
 use Rattle.types.specs.Types.{Ty, nil, push, svar, gap}
 use Rattle.types.specs.Equal.{same}
 use Rattle.valid.specs.Program.{Program, CodeType, asCode}
 use Rattle.valid.specs.Rules.{Context}
 use Rattle.valid.specs.PassThree.{Judged, holds, faultsOf, _▹_, _&_, orFault, need, noneOf, operand, unfits, targetOf}
 use Rattle.valid.specs.Tests.{noneLeft}
-use Rattle.syntax.proofs.Least.{least}
+use Rattle.syntax.proofs.Least.{least, firstOf}
 use Rattle.valid_context.specs.Told.{lacks, toldOf, answer}
 use Rattle.valid_context.proofs.Told.{told-and, told-stop, told-some, told-none, told-need}
-use Rattle.valid_typing.specs.target.Fits.{firstItem}
 use Rattle.valid_typing.proofs.Judging.{told-map, told-next, needs, stops}
-use Rattle.valid_typing.proofs.Items.{itemsIn, item-then, item-after, item-beside, item-before, shows-operand}
+use Rattle.valid_typing.proofs.Items.{itemIn, item-stop, item-after, item-map, item-beside, shows-operand}
 
 -- ---- registers that do not fit
--- every fault is one of a register
+-- every fault is one of an item
 abbrev Unfit : List Fault → Type 0
 Unfit [] = Unit
-Unfit (f ∷ fs) = ((i : ℕ) × (f ≡ unfit (suc i))) × Unfit fs
+Unfit (f ∷ fs) = ((i : ℕ) × (f ≡ unfit i)) × Unfit fs
 
-differs-unfit : (n : ℕ) (b : Bool) (fs : List Fault) → Unfit fs → Unfit (cond b [] (unfit (suc n) ∷ []) ++ fs)
+differs-unfit : (n : ℕ) (b : Bool) (fs : List Fault) → Unfit fs → Unfit (cond b [] (unfit n ∷ []) ++ fs)
 differs-unfit n true fs h = h
 differs-unfit n false fs h = ((n, refl), h)
 
@@ -36,22 +34,22 @@ unfolding lowest
 lowest-unfit [] h = refl
 lowest-unfit (f ∷ fs) h = let p : numberOf f ≡ 10 = rw (h .0 .1) (unfold numberOf in refl) in rw p (lowest-unfit fs (h .1))
 
-first-none : (fs : List Fault) → Unfit fs → firstItem fs ≡ 0 → fs ≡ []
-unfolding firstItem itemsOf
-first-none [] h e = refl
-first-none (fault n ∷ fs) h e = let q = h .0 .1 in let z : _≡_ {A = ℕ} 0 1 = unit-fit n (h .0 .0) q in absurd (omega arith)
-  where
-    unit-fit : (n i : ℕ) → fault n ≡ unfit (suc i) → _≡_ {A = ℕ} 0 1
-    unit-fit n i e = cc
-first-none (unfit i ∷ fs) h e = let q : i ≡ suc (h .0 .0) = cc (h .0 .1) in absurd (omega arith)
+earlier-some : (i : ℕ) (o : Option ℕ) → earlier i o ≡ none → ⊥
+unfolding earlier
+earlier-some i none e = let z : _≡_ {A = ℕ} 0 1 = cc in omega arith
+earlier-some i (some j) e = let z : _≡_ {A = ℕ} 0 1 = cc in omega arith
 
-first-in : (fs : List Fault) → (firstItem fs ≡ 0 → ⊥) → List·Memᴰ (firstItem fs) (itemsOf fs)
+first-none : (fs : List Fault) → Unfit fs → firstItem fs ≡ none → fs ≡ []
 unfolding firstItem
-first-in fs h = go (itemsOf fs) h
-  where
-    go : (l : List ℕ) → (getD l 0 0 ≡ 0 → ⊥) → List·Memᴰ (getD l 0 0) l
-    go [] h = absurd (h refl)
-    go (i ∷ l) h = List·Memᴰ·head refl
+first-none [] h e = refl
+first-none (fault n ∷ fs) h e = let q = h .0 .1 in let z : _≡_ {A = ℕ} 0 1 = cc in absurd (omega arith)
+first-none (unfit i ∷ fs) h e = absurd (earlier-some i (firstItem fs) e)
+
+-- sp is before every other item
+earlier-sp : (o : Option ℕ) → earlier 0 o ≡ some 0
+unfolding earlier
+earlier-sp none = refl
+earlier-sp (some j) = ap some (omega arith)
 
 none-faults : (fs : List Fault) → faultsOf (noneOf fs) ≡ fs
 unfolding noneOf faultsOf
@@ -65,16 +63,16 @@ nothing-told = refl
 cons-none : {f : Fault} {fs : List Fault} → f ∷ fs ≡ [] → ⊥
 cons-none e = let z : _≡_ {A = ℕ} 0 1 = cc in omega arith
 
-none-told : (fs : List Fault) → Unfit fs → firstItem fs ≡ 0 → toldOf (noneOf fs) ≡ answer 0 tt
+none-told : (fs : List Fault) → Unfit fs → firstItem fs ≡ none → toldOf (noneOf fs) ≡ answer 0 tt
 none-told fs h e = rw (first-none fs h e) (unfold noneOf toldOf answer in refl)
 
-some-told : (fs : List Fault) → Unfit fs → (firstItem fs ≡ 0 → ⊥) → toldOf (noneOf fs) ≡ answer 10 tt
+some-told : (fs : List Fault) → Unfit fs → (firstItem fs ≡ none → ⊥) → toldOf (noneOf fs) ≡ answer 10 tt
 unfolding noneOf toldOf answer
-some-told [] h n = absurd (n (unfold firstItem itemsOf in refl))
+some-told [] h n = absurd (n (unfold firstItem in refl))
 some-told (f ∷ fs) h n = let p : numberOf f ≡ 10 = rw (h .0 .1) (unfold numberOf in refl) in rw p (ap lacks (lowest-unfit fs (h .1)))
 
 module _ (P : Program) (Δ : List Kind) where
-  unfits-unfit : (n : ℕ) (r g : Ty stack) → Unfit (unfits P Δ (suc n) r g)
+  unfits-unfit : (n : ℕ) (r g : Ty stack) → Unfit (unfits P Δ n r g)
   unfolding unfits
   unfits-unfit n nil nil = tt
   unfits-unfit n nil (push u g) = ((n, refl), tt)
@@ -105,9 +103,9 @@ module _ (P : Program) (Δ : List Kind) where
     unfolding targetOf aiming closing matching
     target-stops f u p h = stops _ aiming f u tt p h
 
-    pub target-unequal : (f : ℕ) (u : Ty value) → toldOf (operand P Δ (unfit 99) (Γ .regs) v) ≡ answer f u → f ≡ 10 → List·Memᴰ 99 (itemsIn (targetOf P Δ Γ v))
+    pub target-unequal : (f : ℕ) (u : Ty value) → toldOf (operand P Δ (unfit 99) (Γ .regs) v) ≡ answer f u → f ≡ 10 → itemIn (targetOf P Δ Γ v) ≡ some 99
     unfolding targetOf aiming closing matching
-    target-unequal f u p e = item-then _ aiming (shows-operand 99 P Δ (Γ .regs) v (p ∙ rw e (unfold answer in refl)))
+    target-unequal f u p e = item-stop _ aiming f u p (λ z. absurd (omega arith)) ∙ shows-operand 99 P Δ (Γ .regs) v (p ∙ rw e (unfold answer in refl))
 
     module _ (f : ℕ) (u : Ty value) (p : toldOf (operand P Δ (unfit 99) (Γ .regs) v) ≡ answer f u) (z : f ≡ 0) where
       -- it is no code
@@ -131,8 +129,8 @@ module _ (P : Program) (Δ : List Kind) where
           sp-told : (b : Bool) → b ≡ same (c .sp) (Γ .sp) → toldOf (need (unfit 0) (same (c .sp) (Γ .sp))) ≡ answer (cond b 0 10) tt
           sp-told b s = rw s (told-need (unfit 0) (same (c .sp) (Γ .sp)) 9 (unfold numberOf in refl))
 
-          pub target-fits : same (c .sp) (Γ .sp) ≡ true → firstItem (unfits P Δ 1 (c .regs) (Γ .regs)) ≡ 0 → toldOf (targetOf P Δ Γ v) ≡ answer 0 tt
-          target-fits s n = to-match 0 (unfold matching least in told-map _ 0 (tt, tt) tt (told-and _ _ 0 0 tt tt (sp-told true (sym s)) (none-told _ (unfits-unfit 0 (c .regs) (Γ .regs)) n)))
+          pub target-fits : same (c .sp) (Γ .sp) ≡ true → firstItem (unfits P Δ 1 (c .regs) (Γ .regs)) ≡ none → toldOf (targetOf P Δ Γ v) ≡ answer 0 tt
+          target-fits s n = to-match 0 (unfold matching least in told-map _ 0 (tt, tt) tt (told-and _ _ 0 0 tt tt (sp-told true (sym s)) (none-told _ (unfits-unfit 1 (c .regs) (Γ .regs)) n)))
 
           -- sp differs
           pub target-sp : same (c .sp) (Γ .sp) ≡ false → toldOf (targetOf P Δ Γ v) ≡ answer 10 tt
@@ -140,18 +138,21 @@ module _ (P : Program) (Δ : List Kind) where
             where
               go : (fs : List Fault) → unfits P Δ 1 (c .regs) (Γ .regs) ≡ fs → toldOf (matching c) ≡ answer 10 tt
               go [] q = unfold matching least in told-map _ 10 (tt, tt) tt (told-and _ _ 10 0 tt tt (sp-told false (sym s)) (ap (λ l. toldOf (noneOf l)) q ∙ nothing-told))
-              go (f ∷ fs) q = unfold matching least in told-map _ 10 (tt, tt) tt (told-and _ _ 10 10 tt tt (sp-told false (sym s)) (some-told _ (unfits-unfit 0 (c .regs) (Γ .regs)) (λ n. cons-none (sym q ∙ first-none _ (unfits-unfit 0 (c .regs) (Γ .regs)) n))))
+              go (f ∷ fs) q = unfold matching least in told-map _ 10 (tt, tt) tt (told-and _ _ 10 10 tt tt (sp-told false (sym s)) (some-told _ (unfits-unfit 1 (c .regs) (Γ .regs)) (λ n. cons-none (sym q ∙ first-none _ (unfits-unfit 1 (c .regs) (Γ .regs)) n))))
 
           -- a register differs
-          pub target-reg : same (c .sp) (Γ .sp) ≡ true → (firstItem (unfits P Δ 1 (c .regs) (Γ .regs)) ≡ 0 → ⊥) → toldOf (targetOf P Δ Γ v) ≡ answer 10 tt
-          target-reg s n = to-match 10 (unfold matching least in told-map _ 10 (tt, tt) tt (told-and _ _ 0 10 tt tt (sp-told true (sym s)) (some-told _ (unfits-unfit 0 (c .regs) (Γ .regs)) n)))
+          pub target-reg : same (c .sp) (Γ .sp) ≡ true → (firstItem (unfits P Δ 1 (c .regs) (Γ .regs)) ≡ none → ⊥) → toldOf (targetOf P Δ Γ v) ≡ answer 10 tt
+          target-reg s n = to-match 10 (unfold matching least in told-map _ 10 (tt, tt) tt (told-and _ _ 0 10 tt tt (sp-told true (sym s)) (some-told _ (unfits-unfit 1 (c .regs) (Γ .regs)) n)))
 
-          to-item : {i : ℕ} → List·Memᴰ i (itemsIn (need (unfit 0) (same (c .sp) (Γ .sp)) & noneOf (unfits P Δ 1 (c .regs) (Γ .regs)))) → List·Memᴰ i (itemsIn (targetOf P Δ Γ v))
+          to-item : itemIn (targetOf P Δ Γ v) ≡ firstOf (itemIn (need (unfit 0) (same (c .sp) (Γ .sp)))) (firstItem (unfits P Δ 1 (c .regs) (Γ .regs)))
           unfolding targetOf aiming closing matching
-          to-item h = item-after _ aiming f u p z (rw e (item-after (orFault 9 (some c)) closing 0 c (told-some 9 c) refl (item-after (need (fault 9) (noneLeft c)) (λ z. matching c) 0 tt (needs 8 _ true (sym o)) refl (item-then _ (λ y. holds tt) h))))
+          to-item =
+              item-after _ aiming f u p z ∙ rw e (item-after (orFault 9 (some c)) closing 0 c (told-some 9 c) refl)
+              ∙ item-after (need (fault 9) (noneLeft c)) (λ z. matching c) 0 tt (needs 8 _ true (sym o)) refl ∙ item-map _ tt ∙ item-beside _ _
+              ∙ ap (λ l. firstOf (itemIn (need (unfit 0) (same (c .sp) (Γ .sp)))) (firstItem l)) (none-faults (unfits P Δ 1 (c .regs) (Γ .regs)))
 
-          pub target-sp-item : same (c .sp) (Γ .sp) ≡ false → List·Memᴰ 0 (itemsIn (targetOf P Δ Γ v))
-          target-sp-item s = to-item (item-before _ _ (rw s (unfold need faultsOf itemsOf in List·Memᴰ·head refl)))
+          pub target-sp-item : same (c .sp) (Γ .sp) ≡ false → itemIn (targetOf P Δ Γ v) ≡ some 0
+          target-sp-item s = to-item ∙ rw s (unfold need faultsOf firstItem firstOf earlier in earlier-sp (firstItem (unfits P Δ 1 (c .regs) (Γ .regs))))
 
-          pub target-reg-item : (firstItem (unfits P Δ 1 (c .regs) (Γ .regs)) ≡ 0 → ⊥) → List·Memᴰ (firstItem (unfits P Δ 1 (c .regs) (Γ .regs))) (itemsIn (targetOf P Δ Γ v))
-          target-reg-item n = to-item (item-beside _ _ (rw none-faults (first-in (unfits P Δ 1 (c .regs) (Γ .regs)) n)))
+          pub target-reg-item : same (c .sp) (Γ .sp) ≡ true → itemIn (targetOf P Δ Γ v) ≡ firstItem (unfits P Δ 1 (c .regs) (Γ .regs))
+          target-reg-item s = to-item ∙ rw s (unfold need faultsOf firstItem firstOf in refl)

@@ -18,7 +18,7 @@ ghost use Rattle.valid.specs.Program.{Program};
 ghost use Rattle.types_rows.specs.Read.{tab, partsOf, meanV};
 ghost use Rattle.valid_context.specs.Context.{regsOf};
 ghost use Rattle.valid_context.specs.Told.{toldOf, answer};
-ghost use Rattle.valid_context.specs.premises.Bounds.{AllShort};
+ghost use Rattle.valid.specs.Bounds.{AllShort};
 ghost use Rattle.valid_typing.specs.Typing.{typesIn, Ready, RowParts};
 ghost use Rattle.valid_typing.specs.Image.{typesAt, Prepared, listedIn, HoldsAt, lettersIn};
 ghost use Rattle.valid_typing.specs.components.Components.{typesFrom, components};

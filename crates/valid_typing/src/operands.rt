@@ -22,7 +22,7 @@ ghost use Rattle.valid.specs.PassThree.{applied, operand};
 ghost use Rattle.image.specs.Sections.{Ordered, argSection};
 ghost use Rattle.valid_context.specs.Context.{regsOf};
 ghost use Rattle.valid_context.specs.Told.{toldOf, answer};
-ghost use Rattle.valid_context.specs.premises.Bounds.{Short};
+ghost use Rattle.valid.specs.Bounds.{Short};
 ghost use Rattle.valid_typing.specs.Typing.{givenRow};
 ghost use Rattle.valid_typing.specs.Image.{typesAt, ScopedAt, Prepared, operandIn, HoldsAt, lettersIn};
 

@@ -1,7 +1,7 @@
 // Pass three's look at the target of a jump or branch: an operand that is code with no variable left, whose stack is sp and whose
 // registers, where the code names one, have the same types now.
-// Promised: the premise's least fault as crate valid defines it, 0 if the target fits, and for fault 10 one of the items that do not fit:
-// 99 for the resulting row, 0 for sp, 1 to 8 for a register.
+// Promised: the premise's least fault as crate valid defines it, 0 if the target fits, and for fault 10 the first item that does not fit:
+// 0 for sp, 1 to 8 for a register, 99 for the resulting row.
 use crate::BlockLetters;
 use image::Counts;
 use image::Places;
@@ -11,20 +11,20 @@ ghost use mathlib.Core.List.{List};
 ghost use Prim.Native.Nat.{ℕ, _+_, _≤_};
 ghost use lib.ListN.{length};
 ghost use Rattle.syntax.specs.Syntax.{Kind, value, Operand};
-ghost use Rattle.syntax.specs.Fault.{unfit};
+ghost use Rattle.syntax.specs.Fault.{unfit, firstItem};
 ghost use Rattle.types.specs.Rows.{typeAt};
 ghost use Rattle.valid.specs.Program.{Program};
 ghost use Rattle.valid.specs.PassThree.{operand, unfits, targetOf};
 ghost use Rattle.types_rows.specs.Read.{tab, slotAt, partsOf, meanV};
 ghost use Rattle.valid_context.specs.Context.{regsOf, contextOf};
 ghost use Rattle.valid_context.specs.Told.{toldOf, answer};
-ghost use Rattle.valid_context.specs.premises.Bounds.{Short};
-ghost use Rattle.valid_context.specs.premises.Answers.{Answered};
+ghost use Rattle.valid.specs.Bounds.{Short};
+ghost use Rattle.valid_context.specs.premises.Answers.{itemSaid, Answered};
 ghost use Rattle.valid_typing.specs.Typing.{typesIn, Ready};
 ghost use Rattle.valid_typing.specs.Image.{typesAt, Prepared, operandIn, HoldsAt, lettersIn};
-ghost use Rattle.valid_typing.specs.target.Fits.{slotFits, firstItem};
+ghost use Rattle.valid_typing.specs.target.Fits.{slotFits};
 
-// The least fault of a target, 0 for none, and for fault 10 an item that does not fit, else 100.
+// The least fault of a target, 0 for none, and for fault 10 the first item that does not fit, else 100.
 pub struct Fitted {
     pub fault: usize,
     pub item: usize,
@@ -59,7 +59,7 @@ fn register_fits(
     )
 }
 
-// The first register, counted from 1, that does not fit the code row of link h, whose registers start at p; 0 if all fit.
+// The first register, counted from 1, that does not fit the code row of link h, whose registers start at p; 100 if all fit.
 fn unfit_register(
     rows: &[u16],
     parts: &[u16],
@@ -70,7 +70,7 @@ fn unfit_register(
     pending: &mut [u32],
 ) -> usize
     requires { ⌜ Ready (now rows) (now parts) n × (h ≤ n + 2) × (p ≤ 65535) × (1543 ≤ length (now pending)) ⌝ }
-    ensures { λ out. ⌜ ((P : Program) (Δ : List Kind) → out ≡ firstItem (unfits P Δ 1 (partsOf (meanV (tab (now (rows .entry)) (now (parts .entry)))) (now (parts .entry)) true h p 8) (regsOf (typesIn (now (rows .entry)) (now (parts .entry)) n) (now (regs .entry))))) ⌝ }
+    ensures { λ out. ⌜ ((P : Program) (Δ : List Kind) → itemSaid out ≡ firstItem (unfits P Δ 1 (partsOf (meanV (tab (now (rows .entry)) (now (parts .entry)))) (now (parts .entry)) true h p 8) (regsOf (typesIn (now (rows .entry)) (now (parts .entry)) n) (now (regs .entry))))) ⌝ }
 {
     let mut i = 0;
     while i < 8 {
@@ -87,7 +87,7 @@ fn unfit_register(
         }
         i += 1;
     }
-    0
+    100
 }
 
 // A target whose operand has the type of row t.
@@ -121,7 +121,7 @@ fn aimed(
         return Fitted { fault: 10, item: 0 };
     }
     let i = unfit_register(rows, parts, n, c.link, c.start, regs, pending);
-    if i != 0 {
+    if i != 100 {
         return Fitted { fault: 10, item: i };
     }
     Fitted {

@@ -1,8 +1,8 @@
-// What pass three answers: a finding, with or without a fault. Promised: what is put in; `Refuses` (specs/finding/Found.antt) says when a
-// finding is a pass's refusal. Nothing is asked.
+// What pass three answers: a finding, with or without a fault. Promised: what is put in; `refusalSaid` (specs/finding/Found.antt) is the
+// refusal that a finding says. Nothing is asked.
 ghost use mathlib.Core.Path.{_≡_};
 
-// A fault's number and line, 0 and 0 for none, and an item that does not fit, 100 for none.
+// A fault's number and line, 0 and 0 for none, and the first item that does not fit, 100 for none.
 pub struct Finding {
     pub number: usize,
     pub line: usize,

@@ -1,5 +1,5 @@
 // What check answers, and the answer by what pass three found.
-// Promised: where passes one and two refuse nothing, an answer that is the verdict of crate valid (specs/Answers.antt: `Answers`), given
+// Promised: where passes one and two refuse nothing, an answer that is the verdict of crate valid (specs/Answers.antt: `verdictIs`), given
 // a finding that is pass three's refusal and the counts of blocks and instructions. Nothing is asked.
 pub mod finding;
 
@@ -10,12 +10,12 @@ ghost use mathlib.Core.List.{List};
 ghost use Prim.Native.Nat.{ℕ};
 ghost use lib.ListN.{length};
 ghost use Rattle.valid.specs.Program.{programOf};
-ghost use Rattle.valid.specs.Verdict.{instrCount};
-ghost use Rattle.valid_verdict.specs.finding.Found.{Refuses};
-ghost use Rattle.valid_verdict.specs.Answers.{Answers, low, third};
+ghost use Rattle.valid.specs.Verdict.{instrCount, check};
+ghost use Rattle.valid_verdict.specs.finding.Found.{refusalSaid};
+ghost use Rattle.valid_verdict.specs.Answers.{verdictIs, low, third};
 
 // Accepted with the counts of blocks and instructions; refused with number and line; refused with 10 at a jump or branch, with the line
-// and an item that does not fit (0 for sp, 1 to 8 for a register, 99 for the resulting row).
+// and the first item that does not fit (0 for sp, 1 to 8 for a register, 99 for the resulting row).
 pub enum Answer {
     Accepted(usize, usize),
     Refused(usize, usize),
@@ -24,7 +24,7 @@ pub enum Answer {
 
 // The answer by what pass three found.
 pub fn answer_by(f: Finding, nb: usize, ni: usize) -> Answer
-    ensures { λ out. ⌜ ((text : List ℕ) → none ≡ low text → Refuses f (third text) → (f .number ≡ 0 → (nb ≡ length (programOf text .blocks)) × (ni ≡ instrCount (programOf text .blocks))) → Answers text out) ⌝ }
+    ensures { λ out. ⌜ ((text : List ℕ) → none ≡ low text → refusalSaid f ≡ third text → (f .number ≡ 0 → (nb ≡ length (programOf text .blocks)) × (ni ≡ instrCount (programOf text .blocks))) → verdictIs out ≡ check text) ⌝ }
 {
     let number = f.number;
     let item = f.item;

@@ -22,7 +22,7 @@ use Rattle.image.proofs.Laws.{part-length, back, lent, then, before, behind}
 use Rattle.valid_scope.specs.Scoped.{SmallVariable, Scoped, Checked}
 use Rattle.valid_scope.proofs.Callers.{checked}
 use Rattle.types_pass_two.proofs.Laws.{size-clear}
-use Rattle.valid_context.specs.premises.Bounds.{SmallRow}
+use Rattle.valid.specs.Bounds.{SmallRow}
 use Rattle.load.specs.prepare.Prepared.{Prepared, Kept}
 
 -- ---- rows of which the entries agree

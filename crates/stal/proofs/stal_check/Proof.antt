@@ -1,4 +1,5 @@
-use Rattle.stal.proofs.Laws.{tells}
+use mathlib.Core.Path.{ap, _∙_}
+use Rattle.stal_numbers.specs.Numbers.{verdictOf}
 use borrow.Author.Needs.{needs}
 use Rattle.stal.proofs.stal_check.Statement.{statement}
 use Rattle.stal.proofs.stal_check.Tie as tie
@@ -7,7 +8,7 @@ returns : tie.Need-returns
 returns c =
     let t : tie.After-check = search in
     let v : tie.After-put-verdict = search in
-    tells _ _ _ (t .check .ensures) (v .put-verdict .ensures)
+    v .put-verdict .ensures ∙ ap verdictOf (t .check .ensures)
 
 pub stal-check-spec : {M : Type 1} → statement M
 stal-check-spec = tie.close (tie.spec (λ c κs. search needs) (λ c κs. search needs) returns)

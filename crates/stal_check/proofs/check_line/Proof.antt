@@ -1,6 +1,5 @@
 use borrow.Author.Needs.{needs}
 use native.Mathlib.Omega.{arith}
-use Rattle.print_lines.proofs.Said.{verdict-said}
 use Rattle.print_write.proofs.Laws.{all-written, never-short}
 use Rattle.stal_check.proofs.check_line.Statement.{statement}
 use Rattle.stal_check.proofs.check_line.Tie as tie
@@ -13,7 +12,7 @@ returns c =
     let k : tie.After-n = search in
     let a = s .pre in
     let b = w .write-verdict .ensures .1 in
-    rw (← verdict-said _ _ (r .check .ensures)) (all-written _ _ _ _ (w .write-verdict .ensures .0) (omega arith) _ (k .n .given .1))
+    rw (← (r .check .ensures)) (all-written _ _ _ _ (w .write-verdict .ensures .0) (omega arith) _ (k .n .given .1))
 
 returns-2 : tie.Need-returns-2
 returns-2 c =

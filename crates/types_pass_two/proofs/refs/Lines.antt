@@ -2,15 +2,15 @@
 use Prim.Native.Nat.{ℕ, suc, _+_, _-_, _≤_, _<_}
 use native.Mathlib.Omega.{arith}
 use mathlib.Core.Path.{_≡_, refl, sym, ap, ap₂, _∙_}
-use mathlib.Core.Bool.{Bool, true, false, not, cond}
+use mathlib.Core.Bool.{Bool, true, false, not}
 use mathlib.Core.Option.{Option, none, some}
 use mathlib.Core.List.{List, [], _∷_, _++_, map}
 use lib.Dec.{eqb, ltb}
 use lib.ListN.{length}
 use borrow.Author.Tests.{ltb-true, ltb-false, ne-eqb}
 use Rattle.syntax.specs.Syntax.{Row, Instr, Entry, row, block, instr}
-use Rattle.syntax.specs.Fault.{Fault, given, Pass, Refusal, itemsOf, lowestLine, orElse}
-use Rattle.syntax.proofs.Least.{leastOf, Numbered, numbered-given, numbered-append, items-given, items-append, line-next, line-here, line-append}
+use Rattle.syntax.specs.Fault.{Fault, given, Pass, Refusal, firstItem, lowestLine, orElse}
+use Rattle.syntax.proofs.Least.{leastOf, Numbered, numbered-given, numbered-append, item-given, no-item-append, refuse-plain, line-next, line-here, line-append}
 use Rattle.text.specs.PassOne.{Listing}
 use Rattle.text.specs.Entries.{blocksEntries, entriesIn}
 use Rattle.tables.specs.Tables.{cell, RowTable, rowsIn, OperandTable, instrAt, instrsFrom, blocksFrom}
@@ -18,23 +18,23 @@ use Rattle.tables.proofs.Steps.{length-instrs, length-rows, instrs-step, endOf,
 use Rattle.types.specs.Rows.{Ref, ref, valueRow, codeRow, operandsRefs, labels, names, allBelow, refsFaults, rowsFaults, instrFaults, entriesFaults, passTwo}
 use Rattle.types_pass_two.specs.refs.Refs.{foundOf, refusalOf, Rising}
 use Rattle.types_pass_two.specs.declared.refs.Found.{Found}
-use Rattle.types_pass_two.proofs.row_refs.References.{numbered-refs, items-refs}
+use Rattle.types_pass_two.proofs.row_refs.References.{numbered-refs, item-refs}
 
 -- ---- faults
--- a line's faults are numbered, and name no items
+-- a line's faults are numbered, and name no item
 pub record Plain (fs : List Fault) : Type 0 where
   pub numbered : Numbered fs
-  pub no-items : itemsOf fs ≡ []
+  pub no-item : firstItem fs ≡ none
 
 plain-refs : (rows : List Row) (refs : List Ref) → Plain (refsFaults rows refs)
-plain-refs rows refs = record { numbered = numbered-refs rows refs; no-items = items-refs rows refs }
+plain-refs rows refs = record { numbered = numbered-refs rows refs; no-item = item-refs rows refs }
 
 plain-instr : (rows : List Row) (nb : ℕ) (x : Instr) → Plain (instrFaults rows nb x)
 unfolding instrFaults
 plain-instr rows nb x =
     let a = given (not (allBelow nb (labels (names x .operands)))) 4 in
     let b = refsFaults rows (map (ref valueRow) (names x .valueRows) ++ operandsRefs (names x .operands)) in
-    record { numbered = numbered-append a b (numbered-given _ 3) (numbered-refs rows _); no-items = items-append a b ∙ rw (items-given, items-refs) refl }
+    record { numbered = numbered-append a b (numbered-given _ 3) (numbered-refs rows _); no-item = no-item-append a b (item-given _ 4) (item-refs rows _) }
 
 abbrev AllPlain : Pass → Type 0
 AllPlain [] = Unit
@@ -183,16 +183,10 @@ module _ (rows : List Row) (nb : ℕ) (β ι : List ℕ) (ω : OperandTable) (ni
   blocks-end b h = rw (pass-none b h) refl
 
 -- ---- the whole refusal
--- a number that is not 0, without items
-refusal-plain : (m n : ℕ) (is : List ℕ) → (m ≡ 0 → ⊥) → is ≡ [] → some (record { number = m; line = n; items = cond (eqb m 10) is [] }) ≡ refusalOf (record { number = m; line = n })
+-- a number that is not 0, without an item
+refusal-plain : (m n : ℕ) → (m ≡ 0 → ⊥) → some (record { number = m; line = n; item = none }) ≡ refusalOf (record { number = m; line = n })
 unfolding refusalOf
-refusal-plain m n is h e =
-    let z : eqb m 0 ≡ false = ne-eqb m 0 h in
-    rw z (rw e (ap (λ (l : List ℕ). some (record { number = m; line = n; items = l })) (either (eqb m 10))))
-  where
-    either : (b : Bool) → _≡_ {A = List ℕ} (cond b [] []) []
-    either true = refl
-    either false = refl
+refusal-plain m n h = let z : eqb m 0 ≡ false = ne-eqb m 0 h in rw z
 
 refusal-found : (n : ℕ) (p : Pass) → AllPlain p → lowestLine n p ≡ refusalOf (foundOf (lowestLine n p))
 unfolding lowestLine foundOf refusalOf
@@ -200,7 +194,7 @@ refusal-found n [] h = refl
 refusal-found n ([] ∷ p) h = refusal-found (suc n) p (h .1)
 refusal-found n ((f ∷ fs) ∷ p) h =
     let e = line-here n (f ∷ fs) p (λ e. cons-nil (h .0 .numbered e)) in
-    e ∙ (refusal-plain (leastOf (f ∷ fs)) n (itemsOf (f ∷ fs)) (λ e. cons-nil (h .0 .numbered e)) (h .0 .no-items) ∙ ap (λ (o : Option Refusal). refusalOf (foundOf o)) (sym e))
+    e ∙ ap some (refuse-plain (leastOf (f ∷ fs)) n (f ∷ fs) (h .0 .no-item)) ∙ refusal-plain (leastOf (f ∷ fs)) n (λ e. cons-nil (h .0 .numbered e)) ∙ ap (λ (o : Option Refusal). refusalOf (foundOf o)) (sym e)
   where
     cons-nil : f ∷ fs ≡ [] → ⊥
     cons-nil e = let z : _≡_ {A = ℕ} 0 1 = cc in omega arith

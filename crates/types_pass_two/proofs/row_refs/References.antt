@@ -9,8 +9,8 @@ use lib.Dec.{eqb, ltb}
 use lib.ListN.{length, getD, List·getD-eq-default}
 use borrow.Author.Tests.{le-ltb, ne-eqb}
 use Rattle.syntax.specs.Syntax.{Row}
-use Rattle.syntax.specs.Fault.{given, numberOf, itemsOf, lowest}
-use Rattle.syntax.proofs.Least.{least, leastOf, least-none, least-assoc, least-turn, Numbered, least-given, least-append, numbered-given, numbered-append, items-given, items-append}
+use Rattle.syntax.specs.Fault.{given, numberOf, firstItem, lowest}
+use Rattle.syntax.proofs.Least.{least, leastOf, least-none, least-assoc, least-turn, Numbered, least-given, least-append, numbered-given, numbered-append, item-given, no-item-append}
 use Rattle.tables.specs.Tables.{cell, span, knownOf, RowTable, codeRowAt, rowFrom, rowAt, rowsIn}
 use Rattle.tables.proofs.Cases.{_&_, row-last, row-cases}
 use Rattle.tables.proofs.Steps.{length-rows, row-in, span-step}
@@ -90,9 +90,9 @@ pub numbered-refs : (rows : List Row) (refs : List Ref) → Numbered (refsFaults
 unfolding refsFaults
 numbered-refs rows refs = numbered-append _ _ (numbered-given _ 3) (numbered-given _ 4)
 
-pub items-refs : (rows : List Row) (refs : List Ref) → itemsOf (refsFaults rows refs) ≡ []
+pub item-refs : (rows : List Row) (refs : List Ref) → firstItem (refsFaults rows refs) ≡ none
 unfolding refsFaults
-items-refs rows refs = items-append (given (not (allBelow (length rows) (rowsNamed refs))) 4) (given (not (allOfSort rows refs)) 5) ∙ ap₂ _++_ (items-given _ 4) (items-given _ 5)
+item-refs rows refs = no-item-append _ _ (item-given _ 4) (item-given _ 5)
 
 module _ (rs : List ℕ) (n : ℕ) where
   pub one-ref : (s : Sort) (t : ℕ) → refsLeast rs n (ref s t ∷ []) ≡ refLeast rs n s t
@@ -230,9 +230,9 @@ module _ (τ : RowTable) (sizes : List ℕ) (r : ℕ) where
   unfolding rowFaultsBy refsFaults
   numbered-row = numbered-append (rowRefsFaults τ r) (given _ 6) (numbered-refs (rowsIn τ r) (rowRefs (rowAt τ r))) (numbered-given _ 5)
 
-  pub items-row : itemsOf (rowFaultsBy (rowsIn τ r) sizes (rowAt τ r)) ≡ []
+  pub item-row : firstItem (rowFaultsBy (rowsIn τ r) sizes (rowAt τ r)) ≡ none
   unfolding rowFaultsBy refsFaults
-  items-row = items-append (rowRefsFaults τ r) (given _ 6) ∙ ap₂ _++_ (items-refs (rowsIn τ r) (rowRefs (rowAt τ r))) (items-given _ 6)
+  item-row = no-item-append (rowRefsFaults τ r) (given _ 6) (item-refs (rowsIn τ r) (rowRefs (rowAt τ r))) (item-given _ 6)
 
 -- ---- blocks
 pub block-least : (rs ps : List ℕ) (n c out : ℕ) → out ≡ refLeast rs n codeRow c → out ≡ leastOf (refsFaults (rowsIn (tab rs ps) n) (ref codeRow c ∷ []))

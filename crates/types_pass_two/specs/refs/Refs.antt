@@ -24,7 +24,7 @@ foundOf (some r) = record { number = r .number; line = r .line }
 
 -- the other way, for faults that name no items
 unfoldable pub refusalOf : Found → Option Refusal
-refusalOf f = cond (eqb (f .number) 0) none (some (record { number = f .number; line = f .line; items = [] }))
+refusalOf f = cond (eqb (f .number) 0) none (some (record { number = f .number; line = f .line; item = none }))
 
 -- ---- blocks
 -- the starts of nb blocks rise from 0

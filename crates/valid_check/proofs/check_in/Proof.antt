@@ -14,7 +14,7 @@ use Rattle.text_decode.proofs.AnswerLaws.{fits, fits-not, failed}
 use Rattle.load.specs.Loaded.{IsLoaded, LoadIs}
 use Rattle.load.proofs.Laws as load
 use Rattle.valid_share.specs.Shared.{SharedFor, Shared}
-use Rattle.valid_verdict.specs.finding.Found.{Refuses}
+use Rattle.valid_verdict.specs.finding.Found.{refusalSaid}
 use Rattle.valid_verdict.specs.Answers.{third}
 use Rattle.valid_verdict.proofs.Laws.{answers-low}
 use Rattle.valid_check.proofs.Laws.{ends, blocks-are, counts, shared-tables, shared-holds, none-low, loaded-still, shared-still, shared-for}
@@ -135,7 +135,7 @@ returns-4 c =
     let s = share-of f in
     let p = laid s in
     let h = shared-holds _ _ _ _ _ (loaded₂ s) _ _ (shared₂ s) in
-    let q : Refuses (f .third-pass .result) (third (text p)) = f .third-pass .ensures (programOf (text p)) h (blocks-are _ _ _ _ _ (loaded₂ s) _ (shared₂ s .types)) in
+    let q : refusalSaid (f .third-pass .result) ≡ third (text p) = f .third-pass .ensures (programOf (text p)) h (blocks-are _ _ _ _ _ (loaded₂ s) _ (shared₂ s .types)) in
     fits refl (a .answer-by .ensures (text p) (none-low (text p) (done p .load .result) (answer p .fault) (no-fault p)) q (counts _ _ _ _ _ (loaded₂ s) _ q))
 
 pub check-in-spec : {M : Type 1} → statement M

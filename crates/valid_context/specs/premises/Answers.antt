@@ -2,12 +2,13 @@
 use Prim.Native.Nat.{ℕ}
 use mathlib.Core.Path.{_≡_}
 use mathlib.Core.Bool.{cond}
-use mathlib.Core.List.{List, [], _∷_}
+use mathlib.Core.Option.{Option, none, some}
+use mathlib.Core.List.{List}
 use lib.Dec.{ltb, eqb}
 use lib.ListN.{getElem?}
 use Rattle.syntax.specs.Partial.{guarded}
 use Rattle.syntax.specs.Syntax.{value}
-use Rattle.syntax.specs.Fault.{itemsOf}
+use Rattle.syntax.specs.Fault.{firstItem}
 use Rattle.types.specs.Rows.{typeAt, typesOf}
 use Rattle.tables.specs.Tables.{cell, RowTable, rowsIn}
 use Rattle.valid.specs.Program.{Program}
@@ -22,17 +23,11 @@ pub record Holds (τ : RowTable) (n : ℕ) (β : List ℕ) (nb : ℕ) (P : Progr
   pub labels : (l : ℕ) → labelType (getElem? (P .blocks) l) ≡ guarded (ltb l nb) (typeAt value (P .types) (cell 2 β l 0))
 
 -- ---- items
--- i is one of the list
-pub data In (i : ℕ) : List ℕ → Type 0 where
-  first : {xs : List ℕ} → In i (i ∷ xs)
-  later : {x : ℕ} {xs : List ℕ} → In i xs → In i (x ∷ xs)
+-- the item that a number of the code says: 100 for none
+unfoldable pub itemSaid : ℕ → Option ℕ
+itemSaid i = cond (eqb i 100) none (some i)
 
--- 100 stands for no item
-abbrev pub ItemIs : ℕ → List ℕ → Type 0
-ItemIs i [] = i ≡ 100
-ItemIs i (x ∷ xs) = In i (x ∷ xs)
-
--- the code's answer to a premise: its least fault k, 0 if it holds and gives x; and an item of fault 10 at a jump or branch
+-- the code's answer to a premise: its least fault k, 0 if it holds and gives x; and the first item of fault 10 at a jump or branch
 pub record Answered {A : Type 0} (J : Judged A) (k : ℕ) (x : A) (item : ℕ) : Type 0 where
   pub told : toldOf J ≡ answer k x
-  pub named : ItemIs item (cond (eqb k 10) (itemsOf (faultsOf J)) [])
+  pub named : itemSaid item ≡ cond (eqb k 10) (firstItem (faultsOf J)) none

@@ -15,7 +15,7 @@ use Rattle.valid.specs.Program.{Program}
 use Rattle.valid.specs.Rules.{Context}
 use Rattle.valid.specs.PassThree.{judge}
 use Rattle.valid_context.specs.Told.{toldOf, answer}
-use Rattle.valid_context.specs.premises.Bounds.{Short, AllShort, SmallInstr}
+use Rattle.valid.specs.Bounds.{Short, AllShort, SmallInstr}
 use Rattle.valid_context.specs.premises.Answers.{Answered}
 
 pub past : (l : List ℕ) (i : ℕ) → length l ≤ i → 0 ≡ getD l i 0

@@ -1,35 +1,25 @@
 -- A target's answer is that of the jump or branch to it.
 use Prim.Native.Nat.{ℕ, zero, suc}
 use native.Mathlib.Omega.{arith}
-use mathlib.Core.Path.{_≡_, refl, ap, sym, _∙_, subst}
-use mathlib.Core.Bool.{Bool, cond}
+use mathlib.Core.Path.{_≡_, refl, ap, sym, _∙_}
+use mathlib.Core.Bool.{cond}
 use mathlib.Core.Option.{Option, none, some}
-use mathlib.Core.List.{List, [], _∷_, _++_}
+use mathlib.Core.List.{List}
 use lib.Dec.{eqb}
 use borrow.Author.Tests.{ne-eqb}
 use Rattle.syntax.specs.Syntax.{Kind, value, stack, Operand, Branch, jmp, bop}
-use Rattle.syntax.specs.Fault.{numberOf, itemsOf, lowest}
-use Rattle.syntax.proofs.Least.{least, items-append}
+use Rattle.syntax.specs.Fault.{numberOf, lowest}
+use Rattle.syntax.proofs.Least.{least, firstOf}
 use Rattle.types.specs.Types.{Ty}
 use Rattle.valid.specs.Program.{Program}
 use Rattle.valid.specs.Rules.{Context}
 use Rattle.valid.specs.Tests.{itemAt, asInt}
-use Rattle.valid.specs.PassThree.{Judged, holds, fails, faultsOf, _▹_, _&_, orFault, known, integerAt, targetOf, judge}
+use Rattle.valid.specs.PassThree.{_▹_, _&_, orFault, known, integerAt, targetOf, judge}
 use Rattle.valid_context.specs.Told.{Told, gives, lacks, toldOf, answer}
-use Rattle.valid_context.specs.premises.Answers.{ItemIs, Answered}
+use Rattle.valid_context.specs.premises.Answers.{itemSaid, Answered}
 use Rattle.valid_typing.proofs.Judging.{jmp-told, bop-told}
-
-items-then : {A B : Type 0} (m : Judged A) (y : B) → itemsOf (faultsOf (m ▹ λ z. holds y)) ≡ itemsOf (faultsOf m)
-unfolding _▹_ faultsOf
-items-then (holds x) y = refl
-items-then (fails f fs) y = refl
-
-items-beside : {A B : Type 0} (a : Judged A) (b : Judged B) → itemsOf (faultsOf a) ≡ [] → itemsOf (faultsOf (a & b)) ≡ itemsOf (faultsOf b)
-unfolding _&_ faultsOf
-items-beside (holds x) (holds y) e = refl
-items-beside (holds x) (fails g gs) e = refl
-items-beside (fails f fs) (holds y) e = e ∙ unfold itemsOf in refl
-items-beside (fails f fs) (fails g gs) e = items-append (f ∷ fs) (g ∷ gs) ∙ ap (λ (l : List ℕ). l ++ itemsOf (g ∷ gs)) e
+use Rattle.valid.proofs.Bare.{no-int}
+use Rattle.valid_typing.proofs.Items.{itemIn, item-map, item-beside}
 
 -- an integer's premise has the fault 9, or none; no item
 said-nine : (f : ℕ) → _≡_ {A = Told (Unit {0})} (lacks 9) (answer f tt) → f ≡ 9
@@ -54,48 +44,37 @@ int-nine P Δ g r f e n = go (itemAt g r) e
     go none q = said-nine f q
     go (some t) q = last (asInt t) q
 
-int-bare : (P : Program) (Δ : List Kind) (g : Ty stack) (r : ℕ) → itemsOf (faultsOf (integerAt P Δ g r)) ≡ []
-unfolding integerAt known orFault _▹_ faultsOf itemsOf
-int-bare P Δ g r = go (itemAt g r)
-  where
-    last : (o : Option (Unit {0})) → itemsOf (faultsOf (orFault 9 o)) ≡ []
-    last none = refl
-    last (some u) = refl
-
-    go : (o : Option (Ty value)) → itemsOf (faultsOf (orFault 9 o ▹ λ t. orFault 9 (asInt t))) ≡ []
-    go none = refl
-    go (some t) = last (asInt t)
-
 nine-low : (k : ℕ) → least 9 k ≡ 10 → ⊥
 unfolding least
 nine-low zero e = omega arith
 nine-low (suc k) e = omega arith
 
 module _ (P : Program) (Δ : List Kind) (Γ : Context) (v : Operand) (k i : ℕ) (a : Answered (targetOf P Δ Γ v) k tt i) where
-  jump-items : itemsOf (faultsOf (judge P Δ Γ (jmp v))) ≡ itemsOf (faultsOf (targetOf P Δ Γ v))
+  jump-item : itemIn (judge P Δ Γ (jmp v)) ≡ itemIn (targetOf P Δ Γ v)
   unfolding judge
-  jump-items = items-then (targetOf P Δ Γ v) Γ
+  jump-item = item-map (targetOf P Δ Γ v) Γ
 
   pub jumps : Answered (judge P Δ Γ (jmp v)) k Γ i
-  jumps = record { told = jmp-told P Δ Γ v k (a .told); named = subst (λ (l : List ℕ). ItemIs i (cond (eqb k 10) l [])) (sym jump-items) (a .named) }
+  jumps = record { told = jmp-told P Δ Γ v k (a .told); named = a .named ∙ ap (λ (o : Option ℕ). cond (eqb k 10) o none) (sym jump-item) }
 
   module _ (o : Branch) (r f : ℕ) (e : toldOf (integerAt P Δ (Γ .regs) r) ≡ answer f tt) where
-    branch-items : itemsOf (faultsOf (judge P Δ Γ (bop o r v))) ≡ itemsOf (faultsOf (targetOf P Δ Γ v))
-    unfolding judge
-    branch-items = items-then (integerAt P Δ (Γ .regs) r & targetOf P Δ Γ v) Γ ∙ items-beside (integerAt P Δ (Γ .regs) r) (targetOf P Δ Γ v) (int-bare P Δ (Γ .regs) r)
+    branch-item : itemIn (judge P Δ Γ (bop o r v)) ≡ itemIn (targetOf P Δ Γ v)
+    unfolding judge firstOf
+    branch-item = item-map (integerAt P Δ (Γ .regs) r & targetOf P Δ Γ v) Γ ∙ item-beside (integerAt P Δ (Γ .regs) r) (targetOf P Δ Γ v) ∙ ap (λ (n : Option ℕ). firstOf n (itemIn (targetOf P Δ Γ v))) (no-int P Δ (Γ .regs) r .bare)
 
     pub branches : f ≡ 0 → Answered (judge P Δ Γ (bop o r v)) k Γ i
     unfolding least
     branches z =
         record {
           told = bop-told P Δ Γ o r v f k e (a .told) ∙ ap (λ (x : ℕ). answer (least x k) Γ) z;
-          named = subst (λ (l : List ℕ). ItemIs i (cond (eqb k 10) l [])) (sym branch-items) (a .named);
+          named = a .named ∙ ap (λ (o : Option ℕ). cond (eqb k 10) o none) (sym branch-item);
         }
 
     pub branches-none : (h : ℕ) → (f ≡ 0 → ⊥) → h ≡ least f k → Answered (judge P Δ Γ (bop o r v)) h Γ 100
+    unfolding itemSaid
     branches-none h n q =
         let j : h ≡ least 9 k = q ∙ ap (λ (x : ℕ). least x k) (int-nine P Δ (Γ .regs) r f e n) in
         record {
           told = bop-told P Δ Γ o r v f k e (a .told) ∙ ap (λ (x : ℕ). answer x Γ) (sym q);
-          named = subst (λ (b : Bool). ItemIs 100 (cond b (itemsOf (faultsOf (judge P Δ Γ (bop o r v)))) [])) (sym (ne-eqb h 10 (λ z. nine-low k (sym j ∙ z)))) refl;
+          named = rw (ne-eqb h 10 (λ z. nine-low k (sym j ∙ z))) refl;
         }

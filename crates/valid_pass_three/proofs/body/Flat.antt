@@ -14,7 +14,7 @@ use Rattle.types_rows.specs.Read.{tab, lower, stackWith, stackAt, buildS, meanV
 use Rattle.types_rows.specs.declared.Stk.the-variants.{Nil, StkVar, Push, Join}
 use Rattle.types_rows.proofs.Laws.{lower-low, stack-is}
 use Rattle.types_rows.proofs.Bridge.{kind-value}
-use Rattle.valid_context.specs.premises.Bounds.{SmallRow}
+use Rattle.valid.specs.Bounds.{SmallRow}
 use Rattle.valid_typing.specs.Typing.{SmallVars}
 
 small-join : (a b : Ty stack) → SmallVars a → SmallVars b → SmallVars (join a b)

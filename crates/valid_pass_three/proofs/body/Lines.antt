@@ -1,35 +1,22 @@
 -- The lowest line of a block's instructions, one after the other.
 use Prim.Native.Nat.{ℕ, zero, suc, _+_, _-_, _≤_, _<_}
 use native.Mathlib.Omega.{arith}
-use mathlib.Core.Path.{_≡_, refl, ap, sym, subst, _∙_}
-use mathlib.Core.Bool.{Bool, true, false, cond}
+use mathlib.Core.Path.{_≡_, refl, ap, sym, _∙_}
 use mathlib.Core.Option.{Option, none, some}
 use mathlib.Core.List.{List, [], _∷_}
-use lib.Dec.{eqb}
-use lib.ListN.{length, getD}
+use lib.ListN.{length}
 use Rattle.syntax.specs.Syntax.{Kind, Instr}
-use Rattle.syntax.specs.Fault.{Refusal, itemsOf, refuse, lowestLine}
+use Rattle.syntax.specs.Fault.{Refusal, refuse, lowestLine}
 use Rattle.syntax.proofs.Least.{leastOf, line-here}
-use Rattle.types.specs.Types.{items, Arg}
 use Rattle.tables.specs.Tables.{OperandTable, instrAt, instrsFrom}
 use Rattle.tables.proofs.Steps.{instrs-step}
 use Rattle.valid.specs.Program.{Program}
 use Rattle.valid.specs.Rules.{Context}
 use Rattle.valid.specs.PassThree.{Judged, holds, fails, faultsOf, judge, bodyFaults}
-use Rattle.valid_context.specs.Context.{onLink, regsFrom, contextOf}
 use Rattle.valid_context.specs.Told.{Told, gives, lacks, toldOf, answer}
-use Rattle.valid_context.specs.premises.Answers.{In, ItemIs, Answered}
-use Rattle.valid_verdict.specs.finding.Found.{Refuses}
-use Rattle.valid_verdict.proofs.finding.Laws.{refuses-as, in-some}
-use Rattle.valid_pass_three.proofs.body.Items.{judge-low}
-
--- ---- items below 100
-abbrev Below : List ℕ → Type 0
-Below is = (i : ℕ) → In i is → i < 100
-
-chosen : (b : Bool) (is : List ℕ) → Below is → Below (cond b is [])
-chosen true is h = h
-chosen false is h = λ i k. absurd (in-some k)
+use Rattle.valid_context.specs.premises.Answers.{Answered}
+use Rattle.valid_verdict.specs.finding.Found.{refusalSaid}
+use Rattle.valid_verdict.proofs.finding.Laws.{says-some}
 
 -- ---- one instruction
 never : {X : Type 0} → _≡_ {A = ℕ} 0 1 → X
@@ -70,20 +57,16 @@ module _ (P : Program) (Δ : List Kind) where
       let e : judge P Δ Γ x ≡ holds Γ′ = told-holds (judge P Δ Γ x) k Γ′ (a .told) z in
       ap (λ J. lowestLine n (faultsOf J ∷ bodyFaults P Δ J xs)) e ∙ (unfold faultsOf lowestLine in refl)
 
-  pub body-found : (n : ℕ) (Γ Γ′ : Context) (x : Instr) (xs : List Instr) (k item : ℕ) → items (Γ .regs) ≤ 8 → Answered (judge P Δ Γ x) k Γ′ item → (k ≡ 0 → ⊥) → Refuses (record { number = k; line = n; item = item }) (lowestLine n (bodyFaults P Δ (holds Γ) (x ∷ xs)))
+  pub body-found : (n : ℕ) (Γ Γ′ : Context) (x : Instr) (xs : List Instr) (k item : ℕ) → Answered (judge P Δ Γ x) k Γ′ item → (k ≡ 0 → ⊥)
+      → refusalSaid (record { number = k; line = n; item = item }) ≡ lowestLine n (bodyFaults P Δ (holds Γ) (x ∷ xs))
   unfolding bodyFaults
-  body-found n Γ Γ′ x xs k item g a z =
+  body-found n Γ Γ′ x xs k item a z =
       let J : Judged Context = judge P Δ Γ x in
       let q : k ≡ leastOf (faultsOf J) = told-fails J k Γ′ (a .told) z in
-      let l : lowestLine n (faultsOf J ∷ bodyFaults P Δ J xs) ≡ some (refuse (leastOf (faultsOf J)) n (faultsOf J)) = line-here n (faultsOf J) (bodyFaults P Δ J xs) (λ w. z (q ∙ w)) in
-      subst (Refuses (record { number = k; line = n; item = item })) (sym l) (record {
-        number = q;
-        line = refl;
-        item = subst (λ m. ItemIs item (cond (eqb m 10) (itemsOf (faultsOf J)) [])) q (a .named);
-        some = z;
-        low = λ i. chosen (eqb (leastOf (faultsOf J)) 10) (itemsOf (faultsOf J)) (judge-low P Δ Γ g x) i;
-        ten = λ e. ap (λ (b : Bool). cond b (itemsOf (faultsOf J)) []) e;
-      })
+      says-some (record { number = k; line = n; item = item }) z
+      ∙ ap (λ (i : Option ℕ). some (record { number = k; line = n; item = i })) (a .named)
+      ∙ ap (λ (m : ℕ). some (refuse m n (faultsOf J))) q
+      ∙ sym (line-here n (faultsOf J) (bodyFaults P Δ J xs) (λ w. z (q ∙ w)))
 
   pub body-end : (n : ℕ) (J : Judged Context) → none ≡ lowestLine n (bodyFaults P Δ J [])
   unfolding bodyFaults lowestLine
@@ -96,15 +79,6 @@ module _ (P : Program) (Δ : List Kind) where
   length-body (fails f fs) (x ∷ xs) = ap suc (length-body (fails f fs) xs)
 
 -- ---- a block's instructions from i on, in the tables
-length-regs : (T : List Arg) (regs : List ℕ) (i n : ℕ) → items (regsFrom T regs i n) ≡ n
-unfolding regsFrom items
-length-regs T regs i zero = refl
-length-regs T regs i (suc n) = on (getD regs i 0) (length-regs T regs (suc i) n)
-  where
-    on : (x : ℕ) → items (regsFrom T regs (suc i) n) ≡ n → items (onLink T x (regsFrom T regs (suc i) n)) ≡ suc n
-    on zero h = ap suc h
-    on (suc t) h = ap suc h
-
 module _ (P : Program) (Δ : List Kind) (ι : List ℕ) (ω : OperandTable) (e base : ℕ) where
   unfoldable pub linesLeft : ℕ → Context → Option Refusal
   linesLeft i Γ = lowestLine (base + i) (bodyFaults P Δ (holds Γ) (instrsFrom ι ω i (e - i)))
@@ -119,10 +93,8 @@ module _ (P : Program) (Δ : List Kind) (ι : List ℕ) (ω : OperandTable) (e b
       let q : suc (base + i) ≡ base + (i + 1) = omega arith in
       sym (more i Γ h ∙ body-next P Δ (base + i) Γ Γ′ (instrAt ι ω i) (instrsFrom ι ω (i + 1) (e - (i + 1))) k item a z ∙ ap (λ (n : ℕ). lowestLine n (bodyFaults P Δ (holds Γ′) (instrsFrom ι ω (i + 1) (e - (i + 1))))) q)
 
-  pub instr-found : (i : ℕ) (T : List Arg) (regs sp : List ℕ) (d : ℕ) (Γ′ : Context) (k item : ℕ) → i < e → Answered (judge P Δ (contextOf T regs sp d) (instrAt ι ω i)) k Γ′ item → (k ≡ 0 → ⊥) → Refuses (record { number = k; line = base + i; item = item }) (linesLeft i (contextOf T regs sp d))
-  instr-found i T regs sp d Γ′ k item h a z =
-      let l = length-regs T regs 0 8 in
-      refuses-as (record { number = k; line = base + i; item = item }) (sym (more i (contextOf T regs sp d) h)) (body-found P Δ (base + i) (contextOf T regs sp d) Γ′ (instrAt ι ω i) (instrsFrom ι ω (i + 1) (e - (i + 1))) k item (omega arith) a z)
+  pub instr-found : (i : ℕ) (Γ Γ′ : Context) (k item : ℕ) → i < e → Answered (judge P Δ Γ (instrAt ι ω i)) k Γ′ item → (k ≡ 0 → ⊥) → refusalSaid (record { number = k; line = base + i; item = item }) ≡ linesLeft i Γ
+  instr-found i Γ Γ′ k item h a z = body-found P Δ (base + i) Γ Γ′ (instrAt ι ω i) (instrsFrom ι ω (i + 1) (e - (i + 1))) k item a z ∙ sym (more i Γ h)
 
   pub instrs-end : (i : ℕ) (Γ : Context) → e ≤ i → none ≡ linesLeft i Γ
   unfolding linesLeft instrsFrom

@@ -24,8 +24,7 @@ use Rattle.valid.specs.Rules.{Context, atStart}
 use Rattle.valid.specs.PassThree.{holds, bodyFaults}
 use Rattle.valid_scope.specs.entry.Entry.{blockAt}
 use Rattle.valid_verdict.specs.declared.finding.Finding.{Finding}
-use Rattle.valid_verdict.specs.finding.Found.{Refuses}
-use Rattle.valid_verdict.proofs.finding.Laws.{refuses-as}
+use Rattle.valid_verdict.specs.finding.Found.{refusalSaid}
 
 -- a register that is named
 pub link-known : (n t u : ℕ) {s : Slot} → s ≡ Known t → ((rows parts : List ℕ) → Ready rows parts n → typeAt value (typesIn rows parts n)
@@ -80,12 +79,10 @@ module _ (rows parts : List ℕ) (n h p : ℕ) where
 
 -- ---- the context at a block's start
 pub entered : (P : Program) (rows parts regs sp : List ℕ) (n h x p d k m : ℕ) (xs : List Instr) (f : Finding)
-    → Refuses f (lowestLine m (bodyFaults P (map letterOf (span parts (p + 9) k)) (holds (contextOf (typesIn rows parts n) regs sp d))
-    xs)) → k ≡ getD parts (p + 8) 0 → regsOf (typesIn rows parts n) regs ≡ partsOf (meanV (tab rows parts)) parts true h p 8
+    → refusalSaid f ≡ lowestLine m (bodyFaults P (map letterOf (span parts (p + 9) k)) (holds (contextOf (typesIn rows parts n) regs sp d))
+    xs) → k ≡ getD parts (p + 8) 0 → regsOf (typesIn rows parts n) regs ≡ partsOf (meanV (tab rows parts)) parts true h p 8
     → spOf (typesIn rows parts n) sp (items (meanS (tab rows parts) x)) ≡ meanS (tab rows parts) x → d ≡ items (meanS (tab rows parts) x)
-    → Refuses f (lowestLine m (bodyFaults P (lettersAt parts p) (holds (atStart (blockAt (tab rows parts) h x p xs))) xs))
+    → refusalSaid f ≡ lowestLine m (bodyFaults P (lettersAt parts p) (holds (atStart (blockAt (tab rows parts) h x p xs))) xs)
 unfolding lettersAt
 entered P rows parts regs sp n h x p d k m xs f r e g s w =
-    refuses-as f
-    (ap₂ (λ (j : ℕ) (Γ : Context). lowestLine m (bodyFaults P (map letterOf (span parts (p + 9) j)) (holds Γ) xs)) e (ap₂ (λ (a b : Ty stack). record { sp = a; regs = b }) (ap (spOf (typesIn rows parts n) sp) w ∙ s) g))
-    r
+    r ∙ ap₂ (λ (j : ℕ) (Γ : Context). lowestLine m (bodyFaults P (map letterOf (span parts (p + 9) j)) (holds Γ) xs)) e (ap₂ (λ (a b : Ty stack). record { sp = a; regs = b }) (ap (spOf (typesIn rows parts n) sp) w ∙ s) g)

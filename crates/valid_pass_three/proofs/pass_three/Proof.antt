@@ -2,7 +2,7 @@ use borrow.Author.Needs.{needs}
 use Prim.Native.Nat.{ℕ, _-_, _<_}
 use native.Mathlib.Nat.{pos-of-ne-zero}
 use native.Mathlib.Omega.{arith}
-use mathlib.Core.Path.{_≡_, sym, subst, refl, _∙_}
+use mathlib.Core.Path.{_≡_, ap, sym, refl, _∙_}
 use mathlib.Core.List.{List}
 use Rattle.syntax.specs.Fault.{lowestLine}
 use Rattle.types.specs.Types.{Arg}
@@ -13,8 +13,8 @@ use Rattle.image.specs.Sections.{blockSection, instrSection}
 use Rattle.valid.specs.Program.{Program, blocksOf}
 use Rattle.valid.specs.PassThree.{passThree}
 use Rattle.valid_typing.specs.Image.{rowTable, operandsIn, HoldsAt}
-use Rattle.valid_verdict.specs.finding.Found.{Refuses}
-use Rattle.valid_verdict.proofs.finding.Laws.{refuses-as, none-found}
+use Rattle.valid_verdict.specs.finding.Found.{refusalSaid}
+use Rattle.valid_verdict.proofs.finding.Laws.{none-found}
 use Rattle.valid_pass_three.specs.Blocks.{blocksIn}
 use Rattle.valid_pass_three.proofs.body.Arrays.{AsLong, still}
 use Rattle.valid_pass_three.proofs.Blocks.{blocksLeft, block-next, block-found, blocks-end, whole, no-block, length-all}
@@ -65,9 +65,9 @@ returns c =
     let o : tie.After-on-line Inv-loop μ-loop = search in
     let a = s .args in
     let l = a .image .now in
-    λ P h e. subst (λ f. Refuses f (lowestLine 0 (passThree P))) (sym (o .on-line .ensures)) (no-block P (types (a .p) l (a .c .rows))
+    λ P h e. ap refusalSaid (o .on-line .ensures) ∙ no-block P (types (a .p) l (a .c .rows))
     (blockSection (a .p) l) (instrSection (a .p) l) (operandsIn (a .p) l (a .literals .now)) (a .c .instrs) (a .c .rows) (a .c .blocks)
-    (length-all (rowTable (a .p) l) (a .c .rows)) (h .types) e (search))
+    (length-all (rowTable (a .p) l) (a .c .rows)) (h .types) e (search)
 
 loop-holds : tie.Need-loop-holds Inv-loop μ-loop
 loop-holds c =
@@ -107,9 +107,9 @@ returns-2 c =
     let w = one-more t in
     let a = s .args in
     let l = a .image .now in
-    λ P h e. refuses-as (t .block .result) (g .loop .inv .1 P h e) (block-found P (types (a .p) l (a .c .rows)) (blockSection (a .p) l)
+    λ P h e. block-found P (types (a .p) l (a .c .rows)) (blockSection (a .p) l)
     (instrSection (a .p) l) (operandsIn (a .p) l (a .literals .now)) (a .c .instrs) (a .c .rows) (a .c .blocks) (g .loop .b) w
-    (s .pre .1 .ends (g .loop .b) w .0) (t .block .result) (t .block .ensures P h) (search))
+    (s .pre .1 .ends (g .loop .b) w .0) (t .block .result) (t .block .ensures P h) (search) ∙ g .loop .inv .1 P h e
 
 loop-again : tie.Need-loop-again Inv-loop μ-loop
 loop-again c =

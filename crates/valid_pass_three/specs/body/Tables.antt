@@ -11,7 +11,7 @@ use Rattle.types_rows.specs.Read.{tab, meanS}
 use Rattle.valid_scope.specs.Scoped.{Scoped}
 use Rattle.valid_typing.specs.Typing.{Ready}
 use Rattle.valid_typing.specs.Image.{rowTable, operandsIn, instrIn}
-use Rattle.valid_context.specs.premises.Bounds.{SmallRow, SmallInstr}
+use Rattle.valid.specs.Bounds.{SmallRow, SmallInstr}
 use Rattle.valid_pass_three.specs.declared.body.CodeBlock.{CodeBlock}
 
 -- what the tables of rows hold: every row's count, its uses of variables, small numbers

@@ -21,7 +21,7 @@ use Rattle.valid.specs.PassThree.{Judged, holds, _▹_, _&_, operand, operands}
 use Rattle.types_rows.specs.Read.{lower, partsOf}
 use Rattle.valid_context.specs.Told.{toldOf, answer}
 use Rattle.valid_context.proofs.Told.{told-and, told-then, told-stop}
-use Rattle.valid_context.specs.premises.Bounds.{Short, AllShort}
+use Rattle.valid.specs.Bounds.{Short, AllShort}
 use Rattle.types_equal.proofs.Laws.{same-items}
 use Rattle.valid_typing.specs.components.Components.{typesFrom}
 

@@ -23,7 +23,7 @@ use Rattle.valid.proofs.Reading.{formed-sound}
 use Rattle.types_rows.specs.Read.{tab, argOf}
 use Rattle.types_rows.proofs.Bridge.{arg-is, arg-at, type-in}
 use Rattle.valid_context.specs.Told.{toldOf, answer}
-use Rattle.valid_context.specs.premises.Bounds.{Short}
+use Rattle.valid.specs.Bounds.{Short}
 use Rattle.types_equal.specs.filling.Filling.{isFull, fillsTo}
 use Rattle.valid_typing.specs.Typing.{typesIn, Ready, givenRow, argsIn}
 use Rattle.valid_typing.proofs.OperandFaults.{applied-told, operand-told}

@@ -3,13 +3,14 @@ use Prim.Native.Nat.{ℕ, zero, suc, _+_, _-_, _≤_, _<_}
 use native.Mathlib.Omega.{arith}
 use mathlib.Core.Path.{_≡_, refl, ap, ap₂, sym, _∙_}
 use mathlib.Core.Bool.{Bool, true, false, not, cond}
-use mathlib.Core.List.{List, [], map}
+use mathlib.Core.Option.{Option, none, some}
+use mathlib.Core.List.{List, [], _∷_, _++_, map}
 use lib.Dec.{ltb}
 use lib.ListN.{getD}
 use borrow.Author.Tests.{ltb-true}
 use Rattle.syntax.specs.Syntax.{Kind, value, stack}
-use Rattle.syntax.specs.Fault.{itemsOf}
-use Rattle.types.specs.Types.{Ty, Arg}
+use Rattle.syntax.specs.Fault.{Fault, unfit, earlier, firstItem}
+use Rattle.types.specs.Types.{Ty, nil, push, svar, gap, Arg}
 use Rattle.types.specs.Rows.{typeAt}
 use Rattle.types.specs.Equal.{same, sameLetters}
 use Rattle.tables.specs.Tables.{span, letterOf, lettersAt}
@@ -19,7 +20,9 @@ use Rattle.types_rows.specs.declared.Slot.{Slot}
 use Rattle.types_rows.specs.declared.Slot.the-variants.{Gap, Known}
 use Rattle.types_rows.specs.Read.{lower, slotAt, onSlot, partsOf}
 use Rattle.valid_context.specs.Context.{onLink, regsFrom, regsOf}
-use Rattle.valid_typing.specs.target.Fits.{firstItem, slotFits}
+use Rattle.valid_context.specs.premises.Answers.{itemSaid}
+use Rattle.valid_context.proofs.Told.{said-some}
+use Rattle.valid_typing.specs.target.Fits.{slotFits}
 
 -- ---- tests
 not-not : (b : Bool) → not (not b) ≡ b
@@ -54,10 +57,60 @@ module _ (v : ℕ → Ty value) (T : List Arg) (h x u : ℕ) where
       let g : slotFits v T (Known (lower h (x - 1))) (suc (u - 1)) ≡ same (v (lower h (x - 1))) (typeAt value T (u - 1)) = unfold slotFits in refl in
       f ∙ ap (λ (y : Ty value). same y (typeAt value T (u - 1))) e ∙ sym g ∙ ap₂ (λ (y w : ℕ). slotFits v T (slotAt true h y) w) (sym q) (sym s)
 
+-- ---- the items from one on
+-- no item, or none before the n-th
+abbrev From : ℕ → Option ℕ → Type 0
+From n none = Unit
+From n (some j) = n ≤ j
+
+earlier-from : (n : ℕ) (o : Option ℕ) → From (suc n) o → earlier n o ≡ some n
+unfolding earlier
+earlier-from n none h = refl
+earlier-from n (some j) h = ap some (omega arith)
+
+later-from : (n : ℕ) (o : Option ℕ) → From (suc n) o → From n o
+later-from n none h = tt
+later-from n (some j) h = omega arith
+
+here-from : (n : ℕ) (o : Option ℕ) → From (suc n) o → From n (earlier n o)
+unfolding earlier
+here-from n none h = omega arith
+here-from n (some j) h = omega arith
+
+module _ (P : Program) (Δ : List Kind) where
+  one-from : (n : ℕ) → From n (firstItem (unfit n ∷ []))
+  unfolding firstItem
+  one-from n = here-from n none tt
+
+  rest-from : (n : ℕ) (b : Bool) (fs : List Fault) → From (suc n) (firstItem fs) → From n (firstItem (cond b [] (unfit n ∷ []) ++ fs))
+  unfolding firstItem
+  rest-from n true fs h = later-from n (firstItem fs) h
+  rest-from n false fs h = here-from n (firstItem fs) h
+
+  unfits-from : (n : ℕ) (r g : Ty stack) → From n (firstItem (unfits P Δ n r g))
+  unfolding unfits
+  unfits-from n nil nil = unfold firstItem in tt
+  unfits-from n nil (push u g) = one-from n
+  unfits-from n nil (svar k g) = one-from n
+  unfits-from n nil (gap g) = one-from n
+  unfits-from n (push t r) nil = one-from n
+  unfits-from n (push t r) (push u g) = rest-from n (same t u) (unfits P Δ (suc n) r g) (unfits-from (suc n) r g)
+  unfits-from n (push t r) (svar k g) = one-from n
+  unfits-from n (push t r) (gap g) = rest-from n false (unfits P Δ (suc n) r g) (unfits-from (suc n) r g)
+  unfits-from n (svar k r) g = one-from n
+  unfits-from n (gap r) nil = one-from n
+  unfits-from n (gap r) (push u g) = later-from n (firstItem (unfits P Δ (suc n) r g)) (unfits-from (suc n) r g)
+  unfits-from n (gap r) (svar k g) = one-from n
+  unfits-from n (gap r) (gap g) = later-from n (firstItem (unfits P Δ (suc n) r g)) (unfits-from (suc n) r g)
+
+  before-rest : (n : ℕ) (r g : Ty stack) → firstItem (unfit n ∷ unfits P Δ (suc n) r g) ≡ some n
+  unfolding firstItem
+  before-rest n r g = earlier-from n (firstItem (unfits P Δ (suc n) r g)) (unfits-from (suc n) r g)
+
 -- ---- eight registers
 module _ (v : ℕ → Ty value) (ps : List ℕ) (h p : ℕ) (T : List Arg) (regs : List ℕ) where
   -- what is left to look at from register i on
-  abbrev restFits : Program → List Kind → ℕ → ℕ
+  abbrev restFits : Program → List Kind → ℕ → Option ℕ
   restFits P Δ i = firstItem (unfits P Δ (suc i) (partsOf v ps true h (p + i) (8 - i)) (regsFrom T regs i (8 - i)))
 
   abbrev pub RestFits : ℕ → Type 0
@@ -74,12 +127,12 @@ module _ (v : ℕ → Ty value) (ps : List ℕ) (h p : ℕ) (T : List Arg) (regs
   slot-fits P Δ n (Known t) zero a g e = let z : _≡_ {A = ℕ} 0 1 = cc in absurd (omega arith)
   slot-fits P Δ n (Known t) (suc u) a g e = rw e refl
 
-  slot-differs : (P : Program) (Δ : List Kind) (n : ℕ) (s : Slot) (u : ℕ) (a g : Ty stack) → slotFits v T s u ≡ false → firstItem (unfits P Δ n (onSlot v s a) (onLink T u g)) ≡ n
-  unfolding slotFits unfits firstItem itemsOf
+  slot-differs : (P : Program) (Δ : List Kind) (n : ℕ) (s : Slot) (u : ℕ) (a g : Ty stack) → slotFits v T s u ≡ false → firstItem (unfits P Δ n (onSlot v s a) (onLink T u g)) ≡ some n
+  unfolding slotFits unfits
   slot-differs P Δ n Gap zero a g e = let z : _≡_ {A = ℕ} 0 1 = cc in absurd (omega arith)
   slot-differs P Δ n Gap (suc u) a g e = let z : _≡_ {A = ℕ} 0 1 = cc in absurd (omega arith)
-  slot-differs P Δ n (Known t) zero a g e = refl
-  slot-differs P Δ n (Known t) (suc u) a g e = rw e refl
+  slot-differs P Δ n (Known t) zero a g e = before-rest P Δ n a g
+  slot-differs P Δ n (Known t) (suc u) a g e = rw e (before-rest P Δ n a g)
 
   cons-parts : (i m : ℕ) → partsOf v ps true h i (suc m) ≡ onSlot v (slotAt true h (getD ps i 0)) (partsOf v ps true h (suc i) m)
   unfolding partsOf
@@ -102,16 +155,16 @@ module _ (v : ℕ → Ty value) (ps : List ℕ) (h p : ℕ) (T : List Arg) (regs
         ∙ ap firstItem (slot-fits P Δ (suc i) (slotAt true h (getD ps (p + i) 0)) (getD regs i 0) (partsOf v ps true h (suc (p + i)) (8 - (i + 1))) (regsFrom T regs (suc i) (8 - (i + 1))) (one-fits ∙ s))
         ∙ ap₂ (λ (y w : ℕ). firstItem (unfits P Δ (suc w) (partsOf v ps true h y (8 - (i + 1))) (regsFrom T regs w (8 - (i + 1))))) q o
 
-    pub rest-fails : b ≡ false → (P : Program) (Δ : List Kind) → i + 1 ≡ firstItem (unfits P Δ 1 (partsOf v ps true h p 8) (regsOf T regs))
+    pub rest-fails : b ≡ false → (P : Program) (Δ : List Kind) → itemSaid (i + 1) ≡ firstItem (unfits P Δ 1 (partsOf v ps true h p 8) (regsOf T regs))
     rest-fails s P Δ =
         let d : 8 - i ≡ suc (8 - (i + 1)) = omega arith in
         let o : suc i ≡ i + 1 = omega arith in
         sym (r P Δ ∙ ap₂ (λ (a c : Ty stack). firstItem (unfits P Δ (suc i) a c)) (ap (partsOf v ps true h (p + i)) d ∙ cons-parts (p + i) (8 - (i + 1))) (ap (regsFrom T regs i) d ∙ cons-regs i (8 - (i + 1)))
         ∙ slot-differs P Δ (suc i) (slotAt true h (getD ps (p + i) 0)) (getD regs i 0) (partsOf v ps true h (suc (p + i)) (8 - (i + 1))) (regsFrom T regs (suc i) (8 - (i + 1))) (one-fits ∙ s)
-        ∙ o)
+        ∙ ap some o ∙ sym (said-some (i + 1) (λ q. omega arith)))
 
-  pub rest-done : (i : ℕ) → 8 ≤ i → RestFits i → (P : Program) (Δ : List Kind) → 0 ≡ firstItem (unfits P Δ 1 (partsOf v ps true h p 8) (regsOf T regs))
-  rest-done i k r P Δ = let d : 8 - i ≡ 0 = omega arith in sym (r P Δ ∙ rw d (unfold partsOf regsFrom unfits firstItem itemsOf in refl))
+  pub rest-done : (i : ℕ) → 8 ≤ i → RestFits i → (P : Program) (Δ : List Kind) → itemSaid 100 ≡ firstItem (unfits P Δ 1 (partsOf v ps true h p 8) (regsOf T regs))
+  rest-done i k r P Δ = let d : 8 - i ≡ 0 = omega arith in sym (r P Δ ∙ rw d (unfold partsOf regsFrom unfits firstItem itemSaid in refl))
 
 -- ---- letters
 none-span : (ps : List ℕ) (i c : ℕ) → c ≡ 0 → sameLetters (map letterOf (span ps i c)) [] ≡ true

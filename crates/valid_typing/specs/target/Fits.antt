@@ -1,10 +1,8 @@
--- Whether a register fits what a code row says of it, and the first item that does not.
+-- Whether a register fits what a code row says of it.
 use Prim.Native.Nat.{ℕ, zero, suc}
 use mathlib.Core.Bool.{Bool, true, false}
 use mathlib.Core.List.{List}
-use lib.ListN.{getD}
 use Rattle.syntax.specs.Syntax.{value}
-use Rattle.syntax.specs.Fault.{Fault, itemsOf}
 use Rattle.types.specs.Types.{Ty, Arg}
 use Rattle.types.specs.Rows.{typeAt}
 use Rattle.types.specs.Equal.{same}
@@ -16,7 +14,3 @@ unfoldable pub slotFits : (ℕ → Ty value) → List Arg → Slot → ℕ → B
 slotFits v T Gap u = true
 slotFits v T (Known t) zero = false
 slotFits v T (Known t) (suc u) = same (v t) (typeAt value T u)
-
--- the first item among a line's faults, 0 if there is none
-unfoldable pub firstItem : List Fault → ℕ
-firstItem fs = getD (itemsOf fs) 0 0

@@ -3,7 +3,7 @@ use Rattle.valid_verdict.proofs.answer_by.Statement.{statement}
 use Rattle.valid_verdict.proofs.answer_by.Tie as tie
 
 returns : tie.Need-returns
-returns c = λ text e r k. answers-none text e _ _ _ r (c .if1 .taken) (k (c .if1 .taken) .0) (k (c .if1 .taken) .1)
+returns c = λ text e r k. answers-none text e _ r _ _ (c .if1 .taken) (k (c .if1 .taken) .0) (k (c .if1 .taken) .1)
 
 returns-2 : tie.Need-returns-2
 returns-2 c = λ text e r k. answers-third text e _ r (search) (c .if2 .taken)

@@ -1,4 +1,5 @@
-use Rattle.stal.proofs.Laws.{tells-in}
+use mathlib.Core.Path.{ap, _∙_}
+use Rattle.stal_numbers.specs.Numbers.{verdictOf}
 use borrow.Author.Needs.{needs}
 use Rattle.stal.proofs.lent.stal_check_in.Statement.{statement}
 use Rattle.stal.proofs.lent.stal_check_in.Tie as tie
@@ -7,7 +8,7 @@ returns : tie.Need-returns
 returns c =
     let t : tie.After-check-in = search in
     let v : tie.After-put-verdict = search in
-    (tells-in _ _ _ _ (t .check-in .ensures .0) (v .put-verdict .ensures), t .check-in .ensures .1)
+    (v .put-verdict .ensures ∙ ap verdictOf (t .check-in .ensures .0), t .check-in .ensures .1)
 
 pub stal-check-in-spec : {M : Type 1} → statement M
 stal-check-in-spec =

@@ -12,7 +12,7 @@ use Rattle.valid.specs.Rules.{Context}
 use Rattle.valid_context.specs.Context.{contextOf}
 use Rattle.valid_typing.specs.declared.BlockLetters.{BlockLetters}
 use Rattle.valid_typing.specs.Image.{typesAt, operandsIn, HoldsAt, lettersIn}
-use Rattle.valid_verdict.proofs.finding.Laws.{refuses-as, none-found}
+use Rattle.valid_verdict.proofs.finding.Laws.{none-found}
 use Rattle.valid_pass_three.specs.declared.body.BodyLines.{BodyLines}
 use Rattle.valid_pass_three.proofs.body.Arrays.{AsLong, still}
 use Rattle.valid_pass_three.proofs.body.Lines.{linesLeft, instr-next, instr-found, instrs-end}
@@ -74,9 +74,9 @@ returns c =
     let g = loop-of t in
     let a = s .args in
     let l = a .image .now in
-    λ P h. refuses-as _ (g .loop .inv .3 P h) (instr-found P (lettersIn (a .p) l (a .w)) (instrSection (a .p) l) (operandsIn (a .p) l
-    (a .literals .now)) (a .x .end) (a .x .base) (g .loop .i) (typesAt (a .p) l (a .c .rows)) (g .loop .regs) (g .loop .sp)
-    (g .loop .depth) _ (t .judge .result .fault) (t .judge .result .item) (one-more t) (t .judge .ensures .0 P h) (search))
+    λ P h. instr-found P (lettersIn (a .p) l (a .w)) (instrSection (a .p) l) (operandsIn (a .p) l (a .literals .now)) (a .x .end)
+    (a .x .base) (g .loop .i) (contextOf (typesAt (a .p) l (a .c .rows)) (g .loop .regs) (g .loop .sp) (g .loop .depth)) _
+    (t .judge .result .fault) (t .judge .result .item) (one-more t) (t .judge .ensures .0 P h) (search) ∙ g .loop .inv .3 P h
 
 loop-again : tie.Need-loop-again Inv-loop μ-loop
 loop-again c =
