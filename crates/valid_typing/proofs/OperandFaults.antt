@@ -1,4 +1,4 @@
--- The least fault of an operand and of a target, by what their premises answer, and an item that does not fit.
+-- The least fault of an operand, by what its premises answer.
 use Prim.Native.Nat.{ℕ, _-_}
 use native.Mathlib.Omega.{arith}
 use mathlib.Core.Path.{_≡_, refl}
