@@ -1,6 +1,7 @@
 /* Gives the cases of crates/cases/data to the proved library, with and without working memory lent, and to the plain C, and compares: the
    check's answer; the run's answer and the whole lent state after a start, after a start with a budget of 5, and after continuing by 7 and
-   by 1,000,000 steps. The working memory holds 0xa5 at first, and then what the call before left in it. */
+   by 1,000,000 steps. The working memory holds 0xa5 at first, and then what the call before left in it. Texts with packages are left out: the
+   plain C has none. */
 #include "../link/stal.h"
 #include "plain/plain.h"
 #include <stdio.h>
@@ -46,6 +47,14 @@ static int agree(const uint8_t *t, size_t n, const uint8_t *s, size_t m) {
 
 static uint8_t file[1 << 20], text[1 << 17], samples[1 << 17];
 
+/* some line is an `H` row or an `unpack`, or has an operand that packs */
+static int packages(size_t n) {
+    for (size_t i = 0; i < n; i++)
+        if (text[i] == '!' || ((i == 0 || text[i - 1] == '\n') && (text[i] == 'H' || text[i] == 'u')))
+            return 1;
+    return 0;
+}
+
 /* the cases of a packed file (tools/pack_cases tells its form): of each the text and the samples */
 static int cases(const char *name, size_t n, int *good) {
     size_t at = 0, t = 0, s = 0;
@@ -67,7 +76,7 @@ static int cases(const char *name, size_t n, int *good) {
             memcpy(samples, file + at, s = a);
             at += a + 1;
         }
-        if (*line == 'a') {
+        if (*line == 'a' && !packages(t)) {
             int ok = agree(text, t, samples, s);
             count++;
             *good += ok;

@@ -115,7 +115,7 @@ static void too_short(void) {
     expect(short_of(text, N, I - 1, L, P, W), "an image of 259,997");
     expect(short_of(text, N, I, L - 1, P, W), "16,399 literals");
     expect(short_of(text, N, I, L, P - 1, W), "a plan of 8,207");
-    expect(short_of(text, N, I, L, P, W - 1), "4,095 words of work");
+    expect(short_of(text, N, I, L, P, W - 1), "8,191 words of work");
     expect(short_of(text, N, 0, L, P, W), "no image");
     expect(short_of(text, N, 0, 0, 0, 0), "no memory");
     expect(short_of(large, 65537, I - 1, L, P, W), "short memory before a long text");

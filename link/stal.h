@@ -1,7 +1,7 @@
 /* stal.h: the proved checker and machine for STAL programs, for C on x86-64 (libstal.a, made by `rt staticlib stal`).
  *
  * Two kinds of calls, with the same answers:
- *   stal_check_with, stal_start_with, stal_continue_with       for firmware: they are lent working memory (stal_memory, 430 KB, static in
+ *   stal_check_with, stal_start_with, stal_continue_with       for firmware: they are lent working memory (stal_memory, 438 KB, static in
  *                                                              the caller, whatever it holds) and need little stack.
  *   stal_check_text, stal_start_state, stal_continue_state     where there is stack: they ask for no memory, and put their tables on the
  *                                                              stack, up to 752 KB of it.
@@ -40,7 +40,7 @@ extern "C" {
 #endif
 
 enum { STAL_REGISTERS = 8, STAL_STACK = 256, STAL_HEAP = 2048, STAL_BUDGET = 1000000 };
-enum { STAL_IMAGE = 161694, STAL_LITERALS = 16400, STAL_PLAN = 8208, STAL_WORK = 4096 };
+enum { STAL_IMAGE = 161694, STAL_LITERALS = 16400, STAL_PLAN = 8208, STAL_WORK = 8192 };
 enum { STAL_FIGURES = 7, STAL_LINE = 160 }; /* no line is longer, its LF included */
 
 /* The kinds of a word, and what its number is. */
@@ -81,7 +81,7 @@ typedef struct {
     size_t position; /* the next instruction, counted from 0 over all blocks */
 } stal_state;
 
-/* Working memory: 430 KB (430,012 bytes), static in firmware. It need not be set, and what a call leaves in it is of no use to anyone: the
+/* Working memory: 438 KB (438,204 bytes), static in firmware. It need not be set, and what a call leaves in it is of no use to anyone: the
    same may be lent to the next call, on whatever text and state. Calls that run at the same time need one each. */
 typedef struct {
     uint16_t image[STAL_IMAGE]; /* the decoded text */

@@ -14,7 +14,7 @@ pub const BUDGET: usize = 1_000_000;
 const IMAGE: usize = 161_694;
 const LITERALS: usize = 16_400;
 const PLAN: usize = 8_208;
-const WORK: usize = 4_096;
+const WORK: usize = 8_192;
 /// No line is longer, its LF included.
 pub const LINE: usize = 160;
 
@@ -137,7 +137,7 @@ impl Default for State {
     }
 }
 
-/// Working memory, laid out as stal_memory of stal.h: 430 KB. What it holds changes no answer.
+/// Working memory, laid out as stal_memory of stal.h: 438 KB. What it holds changes no answer.
 #[repr(C)]
 pub struct Memory {
     image: [u16; IMAGE],

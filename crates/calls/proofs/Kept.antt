@@ -9,7 +9,7 @@ use mathlib.Core.List.{List, [], _∷_, _++_, map}
 use lib.ListN.{length, length-map, length-replicate, getD, set, replicate}
 use lib.Dec.{leb, ltb, eqb, eqb→eq}
 use Rattle.syntax.specs.Bits.{modulus}
-use Rattle.syntax.specs.Syntax.{Base, reg, lit, lab, Operand, plain, inst, Arith, add, sub, mul, Instr, aop, bop, mov, ld, st, malloc, getsp, setsp, salloc, sfree, sld, sst, slp, ssp, jmp, halt}
+use Rattle.syntax.specs.Syntax.{Base, reg, lit, lab, Operand, plain, inst, pack, Arith, add, sub, mul, Instr, aop, bop, mov, unpack, ld, st, malloc, getsp, setsp, salloc, sfree, sld, sst, slp, ssp, jmp, halt}
 use Rattle.text.specs.PassOne.{isLast}
 use Rattle.types.proofs.Equal.{and-inv, to-so}
 use Rattle.exec.specs.Machine.{Word, intKind, codeKind, tupleKind, heightKind, integer, label, handle, height, junkWord, Memory, at, put, puts, State, stackLimit, heapLimit, Bodies, flat, startOf, fetch, Stop, stuck, Result, go, stop, compute, signOf, taken, baseWord, wordOf, only, unless, setRegister, setStack, setHeap, setPosition, lengthAt, componentAt, jump, exec, execNext, step}
@@ -111,6 +111,7 @@ module _ (Q : List Word → Word → Type 0) (q : Lasting Q) (P : Bodies) (σ : 
   unfolding wordOf
   operand-good (plain b) h = base-good b h
   operand-good (inst b ts t) h = base-good b h
+  operand-good (pack a b t) h = base-good b h
 
   operands-good : (vs : List Operand) → All OperandIn vs → All (Q H) (map (wordOf (σ .registers)) vs)
   operands-good [] h = tt
@@ -214,6 +215,7 @@ module _ (Q : List Word → Word → Type 0) (q : Lasting Q) (P : Bodies) (σ : 
     kept (aop o d r v) h n = on-kind Q P intKind _ _ (λ k. on-kind Q P intKind _ _ (λ j. register-put (n refl) d _ (q .made H (integer _) (good-integer H _) (compute-low o _ _))))
     kept (bop o r v) h n = on-kind Q P intKind _ _ (λ k. on-cond Q P (taken o (signOf (at (σ .registers) r .number))) _ _ (leap (wordOf (σ .registers) v)) (jumped (suc (σ .position)) (n refl)))
     kept (mov d v) h n = register-put (n refl) d _ (operand-good v h)
+    kept (unpack d v) h n = register-put (n refl) d _ (operand-good v h)
     kept (ld d r i) h n = on-kind Q P tupleKind _ _ (λ k. on-test Q P stuck _ _ (λ j. let c = component P σ formed r i h k (true-lt _ _ j) in register-put (n refl) d _ (use-all (Q H) (σ .heap) (σ .used) (f .heap) _ (c .0))))
     kept (st d i r) h n = on-kind Q P tupleKind _ _ (λ k. on-test Q P stuck _ _ (λ j. heap-put (n refl) _ _ (component P σ formed d i (h .0) k (true-lt _ _ j) .1) (register-good r (h .1))))
     kept (malloc d t vs) h n = on-test Q P _ _ _ (λ j. heap-new (n refl) d (map (wordOf (σ .registers)) vs) (length vs) (sym (length-map vs (wordOf (σ .registers)))) (h .0) (true-le _ _ j) (operands-good vs (h .1)))

@@ -11,9 +11,9 @@ use lib.Dec.{leb, eqb}
 use lib.ListN.{length}
 use Rattle.syntax.specs.Bits.{modulus, half}
 use Rattle.syntax.specs.Partial.{chain, guarded}
-use Rattle.syntax.specs.Syntax.{Row, rowI, rowN, rowE, rowV, rowX, rowP, rowU, rowK, rowA, rowC, Base, reg, lit, lab, Operand, plain, inst, Instr, aop, bop, mov, ld, st, malloc, getsp, setsp, salloc, sfree, sld, sst, slp, ssp, jmp, halt, Entry, row, block, instr}
+use Rattle.syntax.specs.Syntax.{Row, rowI, rowN, rowE, rowV, rowX, rowP, rowH, rowU, rowK, rowA, rowC, Base, reg, lit, lab, Operand, plain, inst, pack, Instr, aop, bop, mov, unpack, ld, st, malloc, getsp, setsp, salloc, sfree, sld, sst, slp, ssp, jmp, halt, Entry, row, block, instr}
 use Rattle.text.specs.Bytes.{bytes, sameBytes, split, isDecimal, spelled, number, literal, Line, ended, unended, fieldsOf, linesOf}
-use Rattle.text.specs.Grammar.{Field, Form, _>>=_, end, each, rest, rowNumber, labelNumber, register, carrier, orLiteral, carried, fromParts, operand, Named, forms, formNamed, entryOf, parse}
+use Rattle.text.specs.Grammar.{Field, Form, _>>=_, end, each, rest, rowNumber, labelNumber, register, carrier, orLiteral, carried, packed, before, fromParts, operand, Named, forms, formNamed, entryOf, parse}
 use Rattle.text.specs.PassOne.{said, entriesOf}
 use Rattle.types.proofs.Equal.{and-inv}
 use Rattle.valid.proofs.Reading.{none-some, some-inj}
@@ -31,12 +31,14 @@ BaseIn (lab l) = l < 64
 abbrev pub OperandIn : Operand → Type 0
 OperandIn (plain b) = BaseIn b
 OperandIn (inst b ts t) = BaseIn b
+OperandIn (pack a b h) = BaseIn b
 
 -- an instruction moves words, and follows handles, from the eight registers only; a `malloc` has at most 16 operands
 abbrev pub Fit : Instr → Type 0
 Fit (aop o d s v) = Unit
 Fit (bop o r v) = Unit
 Fit (mov d v) = OperandIn v
+Fit (unpack d v) = OperandIn v
 Fit (ld d s i) = s < 8
 Fit (st d i s) = (d < 8) × (s < 8)
 Fit (malloc d t vs) = (length vs ≤ 16) × All OperandIn vs
@@ -59,6 +61,7 @@ FitRow rowE = Unit
 FitRow (rowV k) = Unit
 FitRow (rowX k) = Unit
 FitRow (rowP s) = Unit
+FitRow (rowH t) = Unit
 FitRow (rowU ts) = length ts ≤ 16
 FitRow (rowK t s) = Unit
 FitRow (rowA s₁ s₂) = Unit
@@ -132,10 +135,30 @@ carried-in (b ∷ ts) t v e =
     let w = guarded-inv (leb 1 (length ts) && leb (length ts) 8) (inst (h .0) (j .0) (k .0)) v (k .2) in
     rw (← (w .1)) (carrier-in b (h .0) (h .1))
 
+packed-in : (fs : List Field) (t : Field) (v : Operand) → packed fs t ≡ some v → OperandIn v
+unfolding packed
+packed-in [] t v e = none-some e
+packed-in (a ∷ []) t v e = none-some e
+packed-in (a ∷ b ∷ []) t v e =
+    let h = chain-inv (rowNumber a) _ v e in
+    let j = chain-inv (orLiteral (carrier b) b) _ v (h .2) in
+    let k = chain-inv (rowNumber t) _ v (j .2) in
+    rw (← (some-inj (k .2))) (literal-in (carrier b) b (j .0) (carrier-in b) (j .1))
+packed-in (a ∷ b ∷ c ∷ fs) t v e = none-some e
+
+before-in : (l t : Field) (v : Operand) → before l t ≡ some v → OperandIn v
+unfolding before
+before-in [] t v e = none-some e
+before-in (b ∷ l) t v e = go (eqb b (code "!")) e
+  where
+    go : (x : Bool) → cond x (packed (split (code ":") l) t) (carried (split (code ":") (b ∷ l)) t) ≡ some v → OperandIn v
+    go true e = packed-in (split (code ":") l) t v e
+    go false e = carried-in (split (code ":") (b ∷ l)) t v e
+
 parts-in : (fs : List Field) (v : Operand) → fromParts fs ≡ some v → OperandIn v
 parts-in [] v e = none-some e
 parts-in (b ∷ []) v e = let h = chain-inv (orLiteral (carrier b) b) _ v e in rw (← (some-inj (h .2))) (literal-in (carrier b) b (h .0) (carrier-in b) (h .1))
-parts-in (l ∷ t ∷ []) v e = carried-in (split (code ":") l) t v e
+parts-in (l ∷ t ∷ []) v e = before-in l t v e
 parts-in (l ∷ t ∷ u ∷ fs) v e = none-some e
 
 operand-in : (f : Field) (v : Operand) → operand f ≡ some v → OperandIn v
@@ -198,6 +221,7 @@ forms-fit =
     ▸ rest-any _ _ _ (λ ts e. true-le (length ts) 16 e)
     ▸ then-any _ _ (λ s. end-fit _ tt)
     ▸ then-any _ _ (λ q. then-any _ _ (λ s. rest-any _ _ _ (λ rs e. tt)))
+    ▸ then-any _ _ (λ t. end-fit _ tt)
     ▸ end-fit _ tt
     ▸ then-any _ _ (λ k. end-fit _ tt)
     ▸ then-any _ _ (λ t. then-any _ _ (λ s. end-fit _ tt))
@@ -226,6 +250,7 @@ forms-fit =
     ▸ then-any _ _ (λ d. then-any _ _ (λ i. then-fit _ _ register-in (λ s h. then-any _ _ (λ t. end-fit _ h))))
     ▸ then-any _ _ (λ v. end-fit _ tt)
     ▸ then-any _ _ (λ t. end-fit _ tt)
+    ▸ then-any _ _ (λ d. then-fit _ _ operand-in (λ v h. end-fit _ h))
     ▸ no-more
 
 named-fit : {ns : List Named} → AllRead ns → (f : Field) → Reads (formNamed ns f)

@@ -6,9 +6,9 @@ use mathlib.Core.Option.{Option, none, some}
 use mathlib.Core.List.{List, [], _∷_, _++_}
 use lib.Dec.{eqb→eq}
 use lib.ListN.{length, getD}
-use Rattle.syntax.specs.Syntax.{value, stack, Row, rowI, rowN, rowE, rowV, rowX, rowP, rowU, rowK, rowA, rowC, Instr, Entry, row, block, instr}
+use Rattle.syntax.specs.Syntax.{value, stack, Row, rowI, rowN, rowE, rowV, rowX, rowP, rowH, rowU, rowK, rowA, rowC, Instr, Entry, row, block, instr}
 use Rattle.text.specs.PassOne.{entriesOf, rowsOf, Listing, listingsOf}
-use Rattle.types.specs.Types.{Ty, int, junk, var, tuple, pointer, code, push, items, Arg, arg, ofKind}
+use Rattle.types.specs.Types.{Ty, int, junk, var, tuple, pointer, hidden, code, push, items, Arg, arg, ofKind}
 use Rattle.types.specs.Rows.{typeAt, components, registers, inTurn, meaning, typesOf}
 use Rattle.types.proofs.Equal.{to-so}
 use Rattle.valid.specs.Program.{asCode, blockOf, blocksOf, programFrom, programOf}
@@ -26,6 +26,7 @@ FitType junk = Unit
 FitType (var k) = Unit
 FitType (tuple c) = items c ≤ 16
 FitType (pointer a) = Unit
+FitType (hidden t) = Unit
 FitType (code q a r) = declared r ≤ 16
 
 abbrev FitArg : Arg → Type 0
@@ -39,6 +40,7 @@ declared-fit junk a h = omega arith
 declared-fit (var k) a h = omega arith
 declared-fit (tuple c) a h = h
 declared-fit (pointer b) a h = omega arith
+declared-fit (hidden t) a h = omega arith
 declared-fit (code q b r) a h = omega arith
 
 -- ---- rows
@@ -76,6 +78,7 @@ module _ (A : List Arg) (h : All FitArg A) where
   meaning-fit (rowV k) s = tt
   meaning-fit (rowX k) s = tt
   meaning-fit (rowP r) s = tt
+  meaning-fit (rowH t) s = tt
   meaning-fit (rowU ts) s = rw components-length s
   meaning-fit (rowK t r) s = tt
   meaning-fit (rowA r₁ r₂) s = tt
@@ -101,6 +104,7 @@ block-fit junk xs h = omega arith
 block-fit (var k) xs h = omega arith
 block-fit (tuple a) xs h = omega arith
 block-fit (pointer a) xs h = omega arith
+block-fit (hidden t) xs h = omega arith
 block-fit (code q a r) xs h = h
 
 first-fit : (A : List Arg) (bs : List Listing) → All FitArg A → wanted (blocksOf A bs) ≤ 16

@@ -381,7 +381,7 @@ fn check_lent(text: &[u8]) -> Answer {
     let mut image = [42405u16; 161694];
     let mut literals = [2779096485u32; 16400];
     let mut plan = [2779096485u32; 8208];
-    let mut work = [42405u16; 4096];
+    let mut work = [42405u16; 8192];
     checker::check_in(text, &mut image, &mut literals, &mut plan, &mut work)
 }
 

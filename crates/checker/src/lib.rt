@@ -1,6 +1,6 @@
 // Check a program's text (document 01). Promised, of every text: the answer is the verdict of crate valid, accepted with the counts of
 // blocks and instructions, or the number and the line, for 10 at a jump or branch with the first item that does not fit (document 02, point
-// 2). Nothing is asked. `check` puts its working memory on the stack, some 430 KB for a large text (module attempt of
+// 2). Nothing is asked. `check` puts its working memory on the stack, some 438 KB for a large text (module attempt of
 // valid_check); `check_in` is lent it, whatever it holds (module lent): where it is too short it answers 16, line 0, and nothing is changed;
 // else what it holds afterwards is free.
 use valid_verdict::Answer;
@@ -20,7 +20,7 @@ pub fn check(text: &[u8]) -> Answer
     valid_check::attempt::check(text)
 }
 
-// What check answers on a text, with working memory lent: an image of 161,694 entries, 16,400 numbers, a plan of 8,208 and work of 4,096
+// What check answers on a text, with working memory lent: an image of 161,694 entries, 16,400 numbers, a plan of 8,208 and work of 8,192
 // are enough for every text.
 pub fn check_in(
     text: &[u8],

@@ -6,7 +6,7 @@ use mathlib.Core.List.{List, [], _∷_, _++_, map}
 use lib.Dec.{leb, ltb, eqb}
 use lib.ListN.{length, getD, getElem?, set, take, replicate}
 use Rattle.syntax.specs.Bits.{modulus, half}
-use Rattle.syntax.specs.Syntax.{Base, reg, lit, lab, Operand, plain, inst, Arith, add, sub, mul, Branch, beq, bneq, bgt, blt, bgte, blte, Instr, aop, bop, mov, ld, st, malloc, getsp, setsp, salloc, sfree, sld, sst, slp, ssp, jmp, halt}
+use Rattle.syntax.specs.Syntax.{Base, reg, lit, lab, Operand, plain, inst, pack, Arith, add, sub, mul, Branch, beq, bneq, bgt, blt, bgte, blte, Instr, aop, bop, mov, unpack, ld, st, malloc, getsp, setsp, salloc, sfree, sld, sst, slp, ssp, jmp, halt}
 
 -- ---- words
 -- "A word is an integer, a label, a tuple handle (its first heap word's index), a stack height, or junk": a kind and a number.
@@ -170,10 +170,11 @@ baseWord R (reg r) = at R r
 baseWord R (lit n) = integer n
 baseWord R (lab l) = label l
 
--- R̂(v) of the paper: the word of an operand, by the registers R
+-- R̂(v) of the paper: the word of an operand, by the registers R; "the machine hands the inner word on" of a package (document 02, point 3)
 unfoldable pub wordOf : Memory → Operand → Word
 wordOf R (plain b) = baseWord R b
 wordOf R (inst b ts t) = baseWord R b
+wordOf R (pack a b h) = baseWord R b
 
 -- the number of a word of that kind; any other word is stuck
 unfoldable pub only : {A : Type 0} → ℕ → Word → (ℕ → Result A) → Result A
@@ -222,6 +223,8 @@ unfoldable pub exec : Bodies → State → Instr → Result State
 exec P σ (aop o d s v) = only intKind (at (σ .registers) s) (λ x. only intKind (wordOf (σ .registers) v) (λ y. go (setRegister σ d (integer (compute o x y)))))
 exec P σ (bop o r v) = only intKind (at (σ .registers) r) (λ x. cond (taken o (signOf x)) (jump P σ (wordOf (σ .registers) v)) (go (setPosition σ (suc (σ .position)))))
 exec P σ (mov d v) = go (setRegister σ d (wordOf (σ .registers) v))
+-- "The machine hands the inner word on" (document 02, point 3): one step, as `mov`, whatever the word is
+exec P σ (unpack d v) = go (setRegister σ d (wordOf (σ .registers) v))
 exec P σ (ld d s i) = only tupleKind (at (σ .registers) s) (λ a. unless stuck (ltb i (lengthAt σ a)) (go (setRegister σ d (at (σ .heap) (componentAt a i)))))
 exec P σ (st d i s) = only tupleKind (at (σ .registers) d) (λ a. unless stuck (ltb i (lengthAt σ a)) (go (setHeap σ (put (σ .heap) (componentAt a i) (at (σ .registers) s)))))
 exec P σ (malloc d t vs) =

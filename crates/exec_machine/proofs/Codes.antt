@@ -6,7 +6,7 @@ use Prim.Native.Nat.{ℕ, zero, suc, _+_, _-_, _<_, _≤_}
 use native.Mathlib.Omega.{arith}
 use lib.Dec.{eqb}
 use borrow.Author.Tests.{ne-eqb}
-use Rattle.syntax.specs.Syntax.{Operand, aop, bop, mov, ld, st, malloc, getsp, setsp, salloc, sfree, sld, sst, slp, ssp, jmp, halt}
+use Rattle.syntax.specs.Syntax.{Operand, aop, bop, mov, ld, st, malloc, getsp, setsp, salloc, sfree, sld, sst, slp, ssp, jmp, halt, unpack}
 use Rattle.tables.specs.Tables.{cell, OperandTable, operandAt, operandsAt, instrAt}
 use Rattle.exec_words.specs.arith.Codes.{arithOf, branchOf}
 
@@ -87,9 +87,13 @@ module _ (ι : List ℕ) (ω : OperandTable) (j : ℕ) where
   unfolding instrAt
   is-jmp e = rw e
 
-  pub is-halt : 22 ≤ code → instrAt ι ω j ≡ halt (cell 8 ι j 1)
+  pub is-unpack : code ≡ 23 → instrAt ι ω j ≡ unpack (cell 8 ι j 1) operand
   unfolding instrAt
-  is-halt h =
+  is-unpack e = rw e
+
+  pub is-halt : 22 ≤ code → (code ≡ 23 → ⊥) → instrAt ι ω j ≡ halt (cell 8 ι j 1)
+  unfolding instrAt
+  is-halt h u =
       let no : (m : ℕ) → m < 22 → eqb code m ≡ false = λ m l. ne-eqb code m (λ e. omega arith) in
       simp (
         no 0 (omega arith),
@@ -117,4 +121,5 @@ module _ (ι : List ℕ) (ω : OperandTable) (j : ℕ) where
         no 19 (omega arith),
         no 20 (omega arith),
         no 21 (omega arith),
+        ne-eqb code 23 u,
       )

@@ -2,40 +2,29 @@
 use mathlib.Core.Path.{_≡_, refl, ap, ap₂, sym, _∙_}
 use mathlib.Core.Bool.{Bool, true, false, cond}
 use mathlib.Core.Option.{none, some}
-use mathlib.Core.List.{List, [], _∷_, map}
+use mathlib.Core.List.{List, _∷_, map}
 use Prim.Native.Nat.{ℕ, zero, suc, _+_, _-_, _<_, _≤_}
 use native.Mathlib.Nat.{zero-add, suc-add, add-zero, add-suc}
 use native.Mathlib.Decide.{decLt}
 use native.Mathlib.Omega.{arith}
 use lib.Dec.{ltb, eqb, leb·zero, leb·suc-zero, leb·suc-suc}
-use lib.ListN.{length, getD, getElem?}
-use borrow.Author.Tests.{ltb-true}
-use Rattle.syntax.specs.Syntax.{Operand, Arith, Branch, Instr, aop, bop, mov, ld, st, malloc, getsp, setsp, salloc, sfree, sld, sst, slp, ssp, jmp, halt}
-use Rattle.exec.specs.Machine.{Word, Memory, State, Bodies, startOf, fetch, stuck, Result, go, stop, baseWord, wordOf, only, unless, setPosition, jump, exec, execNext, step}
-use Rattle.tables.specs.Tables.{cell, OperandTable, span, baseOf, operandOf, operandAt, operandsAt, instrAt, instrsFrom}
+use lib.ListN.{length, getElem?}
+use borrow.Author.Tests.{ltb-true, eqb-true, eqb-false}
+use Rattle.syntax.specs.Syntax.{Operand, Arith, Branch, Instr, aop, bop, mov, ld, st, malloc, getsp, setsp, salloc, sfree, sld, sst, slp, ssp, jmp, halt, unpack}
+use Rattle.exec.specs.Machine.{Word, Memory, State, Bodies, startOf, fetch, stuck, Result, go, stop, wordOf, only, unless, setPosition, jump, exec, execNext, step}
+use Rattle.tables.specs.Tables.{cell, OperandTable, operandAt, operandsAt, instrAt, instrsFrom}
 use Rattle.exec_words.specs.arith.Codes.{arithOf, branchOf}
 use Rattle.exec_words.specs.memory.Lent.{operandTable, tupleOf}
+use Rattle.exec_words.proofs.memory.Laws.{word-of}
 use Rattle.exec_machine.specs.declared.Stop.the-variants.{Stuck}
 use Rattle.exec_machine.specs.Step.{Tables, operandsOf, given, provided, nextArith, nextJump, nextBranch, nextLoad, nextStore, nextTuple, nextCut, nextPush, nextPop, nextRead, nextWrite, nextReadThrough, nextWriteThrough, nextOf, nextAt, resultOf, stepAt, Next, End}
 use Rattle.exec_machine.specs.Represents.{Represents}
-use Rattle.exec_machine.proofs.Codes.{is-arith, is-branch, is-mov, is-ld, is-st, is-malloc, is-getsp, is-setsp, is-salloc, is-sfree, is-sld, is-sst, is-slp, is-ssp, is-jmp, is-halt}
+use Rattle.exec_machine.proofs.Codes.{is-arith, is-branch, is-mov, is-ld, is-st, is-malloc, is-getsp, is-setsp, is-salloc, is-sfree, is-sld, is-sst, is-slp, is-ssp, is-jmp, is-halt, is-unpack}
 use Rattle.exec_machine.proofs.Forms.{length-operands}
 
 -- ---- type arguments do nothing
-module _ (R : Memory) (os bs args : List ℕ) where
-  abbrev with-args : OperandTable
-  with-args = record { operands = os; numbers = bs; args = args }
-
-  base-only : (v : ℕ) → wordOf R (operandAt with-args v) ≡ baseWord R (baseOf (cell 4 os v 0) (getD bs v 0))
-  unfolding operandAt wordOf operandOf
-  base-only v = go (span args (cell 4 os v 3) (cell 4 os v 1))
-    where
-      go : (ts : List ℕ) → wordOf R (operandOf (baseOf (cell 4 os v 0) (getD bs v 0)) ts (cell 4 os v 2)) ≡ baseWord R (baseOf (cell 4 os v 0) (getD bs v 0))
-      go [] = refl
-      go (t ∷ ts) = refl
-
 same-word : (R : Memory) (os bs args : List ℕ) (v : ℕ) → wordOf R (operandAt (record { operands = os; numbers = bs; args = args }) v) ≡ wordOf R (operandAt (operandTable os bs) v)
-same-word R os bs args v = base-only R os bs args v ∙ sym (base-only R os bs [] v)
+same-word R os bs args v = word-of R (record { operands = os; numbers = bs; args = args }) v ∙ sym (word-of R (operandTable os bs) v)
 
 same-words : (R : Memory) (os bs args : List ℕ) (v n : ℕ) → map (wordOf R) (operandsAt (record { operands = os; numbers = bs; args = args }) v n) ≡ map (wordOf R) (operandsAt (operandTable os bs) v n)
 unfolding operandsAt
@@ -67,6 +56,10 @@ module _ (T : Tables) (σ : State) where
     mov-law : (d : ℕ) (v v′ : Operand) → wordOf (σ .registers) v ≡ wordOf (σ .registers) v′ → exec P σ (mov d v) ≡ after (nextOf T σ (mov d v′))
     unfolding exec nextOf resultOf
     mov-law d v v′ e = rw e
+
+    unpack-law : (d : ℕ) (v v′ : Operand) → wordOf (σ .registers) v ≡ wordOf (σ .registers) v′ → exec P σ (unpack d v) ≡ after (nextOf T σ (unpack d v′))
+    unfolding exec nextOf resultOf
+    unpack-law d v v′ e = rw e
 
     ld-law : (d s i : ℕ) → exec P σ (ld d s i) ≡ after (nextOf T σ (ld d s i))
     unfolding exec only unless nextOf nextLoad given provided resultOf
@@ -195,6 +188,13 @@ module _ (T : Tables) (args : List ℕ) (P : Bodies) (rep : Represents T args P)
       pick (yes h) = g h
       pick (no n) = f (omega arith)
 
+  but : (k : ℕ) → (cell 8 ι j 0 ≡ k → Same) → ((cell 8 ι j 0 ≡ k → ⊥) → Same) → Same
+  but k f g = pick (eqb (cell 8 ι j 0) k) refl
+    where
+      pick : (t : Bool) → eqb (cell 8 ι j 0) k ≡ t → Same
+      pick true e = f (eqb-true (cell 8 ι j 0) k e)
+      pick false e = g (eqb-false (cell 8 ι j 0) k e)
+
   by-code : Same
   by-code =
       below 3 (λ h. an-arith (cell 8 ι j 0) refl h) λ l3.
@@ -212,7 +212,8 @@ module _ (T : Tables) (args : List ℕ) (P : Bodies) (rep : Represents T args P)
       equal 19 (λ e. both (is-slp ι full j e) (is-slp ι (operandsOf T) j e) (slp-law T σ P a b c)) l19 λ l20.
       equal 20 (λ e. both (is-ssp ι full j e) (is-ssp ι (operandsOf T) j e) (ssp-law T σ P a b c (cell 8 ι j 4))) l20 λ l21.
       equal 21 (λ e. both (is-jmp ι full j e) (is-jmp ι (operandsOf T) j e) (jmp-law T σ P (rep .blocks) (rep .starts) (operandAt full v) (operandAt (operandsOf T) v) (word v))) l21 λ l22.
-      both (is-halt ι full j l22) (is-halt ι (operandsOf T) j l22) (halt-law T σ P a)
+      but 23 (λ e. both (is-unpack ι full j e) (is-unpack ι (operandsOf T) j e) (unpack-law T σ P a (operandAt full v) (operandAt (operandsOf T) v) (word v)))
+      λ u. both (is-halt ι full j l22 u) (is-halt ι (operandsOf T) j l22 u) (halt-law T σ P a)
 
   pub step-is : stepAt T σ ≡ step P σ
   unfolding step fetch stepAt nextAt resultOf

@@ -14,7 +14,7 @@ use Rattle.exec_words.specs.declared.memory.Word.{Word as Pair}
 use Rattle.exec_words.specs.memory.Lent.{wordIs, operandTable}
 use Rattle.exec_machine.specs.declared.Stop.the-variants.{Halted, Stuck}
 use Rattle.exec_machine.specs.Step.{tables, pair, nextArith, nextJump, nextBranch, nextLoad, nextStore, nextTuple, nextCut, nextPush, nextPop, nextRead, nextWrite, nextReadThrough, nextWriteThrough, nextOf, nextAt, Next, Register, End}
-use Rattle.exec_machine.proofs.Codes.{is-arith, is-branch, is-mov, is-ld, is-st, is-malloc, is-getsp, is-setsp, is-salloc, is-sfree, is-sld, is-sst, is-slp, is-ssp, is-jmp, is-halt}
+use Rattle.exec_machine.proofs.Codes.{is-arith, is-branch, is-mov, is-ld, is-st, is-malloc, is-getsp, is-setsp, is-salloc, is-sfree, is-sld, is-sst, is-slp, is-ssp, is-jmp, is-halt, is-unpack}
 
 pub length-operands : (ω : OperandTable) (v n : ℕ) → length (operandsAt ω v n) ≡ n
 unfolding operandsAt
@@ -37,15 +37,27 @@ module _ (ι os bs β : List ℕ) (n l : ℕ) (σ : State) where
   by : {r : Next} {x : Instr} → instruction ≡ x → r ≡ does x → r ≡ does instruction
   by e h = h ∙ ap does (sym e)
 
+  -- `mov` and `unpack`
+  abbrev pub moves : Next
+  moves = Register (cell 8 ι j 1) (pair (wordOf (σ .registers) (operandAt ω (cell 8 ι j 5)))) (suc j)
+
+  pub mov-moves : cell 8 ι j 0 ≡ 9 → does instruction ≡ moves
+  unfolding nextOf
+  mov-moves k = ap does (is-mov ι ω j k)
+
+  pub unpack-moves : cell 8 ι j 0 ≡ 23 → does instruction ≡ moves
+  unfolding nextOf
+  unpack-moves k = ap does (is-unpack ι ω j k)
+
   -- ---- the function that it calls answers r; the numbers that it was handed are entries of the table
   module _ {to : ℕ} (et : to ≡ j + 1) where
     next : to ≡ suc j
     next = et ∙ add-one j
 
     module _ {a : ℕ} (ea : a ≡ cell 8 ι j 1) where
-      pub mov-is : cell 8 ι j 0 ≡ 9 → {v : ℕ} (w : Pair) → wordIs w ≡ wordOf (σ .registers) (operandAt ω v) → v ≡ cell 8 ι j 5 → Register a w to ≡ does instruction
-      unfolding nextOf
-      mov-is k w e ev = by (is-mov ι ω j k) (ap₂ (λ (x y : ℕ). Register x w y) ea next ∙ ap (λ (x : Pair). Register (cell 8 ι j 1) x (suc j)) (ap pair (e ∙ ap (λ (v : ℕ). wordOf (σ .registers) (operandAt ω v)) ev)))
+      -- one that moves its operand's word: `mov` or `unpack`
+      pub moved-is : does instruction ≡ moves → (w : Pair) → wordIs w ≡ wordOf (σ .registers) (operandAt ω (cell 8 ι j 5)) → Register a w to ≡ does instruction
+      moved-is m w e = ap₂ (λ (x y : ℕ). Register x w y) ea next ∙ ap (λ (x : Pair). Register (cell 8 ι j 1) x (suc j)) (ap pair e) ∙ sym m
 
       pub getsp-is : cell 8 ι j 0 ≡ 13 → Register a (pair (height (σ .depth))) to ≡ does instruction
       unfolding nextOf
@@ -130,6 +142,6 @@ module _ (ι os bs β : List ℕ) (n l : ℕ) (σ : State) where
       unfolding nextOf
       jmp-is k w e ev c = here (by (is-jmp ι ω j k) (c ∙ ap (nextJump β l) (e ∙ ap (λ (v : ℕ). wordOf (σ .registers) (operandAt ω v)) ev)))
 
-  pub halt-is : j < n → 22 ≤ cell 8 ι j 0 → End Halted ≡ nextAt (tables ι os bs β n l) σ
+  pub halt-is : j < n → 22 ≤ cell 8 ι j 0 → (cell 8 ι j 0 ≡ 23 → ⊥) → End Halted ≡ nextAt (tables ι os bs β n l) σ
   unfolding nextOf nextAt
-  halt-is h k = sym (simp (lt-ltb j n h) (ap does (is-halt ι ω j k)))
+  halt-is h k u = sym (simp (lt-ltb j n h) (ap does (is-halt ι ω j k u)))

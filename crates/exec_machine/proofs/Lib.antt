@@ -1,4 +1,5 @@
 pub mod Leaves
+pub mod Low
 pub mod Codes
 pub mod Forms
 pub mod Exec

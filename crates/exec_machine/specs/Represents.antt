@@ -4,7 +4,7 @@ use mathlib.Core.Path.{_≡_}
 use mathlib.Core.List.{List, [], _∷_}
 use lib.ListN.{length}
 use Rattle.exec.specs.Machine.{Bodies, flat, startOf}
-use Rattle.syntax.specs.Syntax.{Base, reg, lit, lab, Operand, plain, inst, Instr, aop, bop, mov, ld, st, malloc, getsp, setsp, salloc, sfree, sld, sst, slp, ssp, jmp, halt}
+use Rattle.syntax.specs.Syntax.{Base, reg, lit, lab, Operand, plain, inst, pack, Instr, aop, bop, mov, ld, st, malloc, getsp, setsp, salloc, sfree, sld, sst, slp, ssp, jmp, halt, unpack}
 use Rattle.tables.specs.Tables.{cell, instrAt, instrsFrom}
 use Rattle.exec_machine.specs.Step.{Tables, operandsOf}
 
@@ -21,10 +21,11 @@ LowBase (reg r) = r < 8
 LowBase (lit n) = Unit
 LowBase (lab l) = Unit
 
--- with type arguments or none
+-- with type arguments, in a package, or neither
 abbrev pub LowOperand : Operand → Type 0
 LowOperand (plain b) = LowBase b
 LowOperand (inst b ts t) = LowBase b
+LowOperand (pack a b h) = LowBase b
 
 -- each of a list
 abbrev pub LowOperands : List Operand → Type 0
@@ -49,6 +50,7 @@ Registered (slp d s i) = (d < 8) × (s < 8)
 Registered (ssp d i s t) = (d < 8) × (s < 8)
 Registered (jmp v) = LowOperand v
 Registered (halt t) = Unit
+Registered (unpack d v) = (d < 8) × LowOperand v
 
 -- the operands of instruction j stand in the tables: entry 5 says where they start, entry 6 how many they are
 abbrev pub OperandsIn : Tables → ℕ → Type 0

@@ -4,7 +4,7 @@ use mathlib.Core.Bool.{Bool, _&&_, cond}
 use mathlib.Core.List.{List}
 use lib.Dec.{leb, ltb, eqb}
 use lib.ListN.{length, replicate}
-use Rattle.syntax.specs.Syntax.{Operand, Arith, Branch, Instr, aop, bop, mov, ld, st, malloc, getsp, setsp, salloc, sfree, sld, sst, slp, ssp, jmp, halt}
+use Rattle.syntax.specs.Syntax.{Operand, Arith, Branch, Instr, aop, bop, mov, ld, st, malloc, getsp, setsp, salloc, sfree, sld, sst, slp, ssp, jmp, halt, unpack}
 use Rattle.exec.specs.Machine.{Word, intKind, codeKind, tupleKind, heightKind, integer, handle, height, junkWord, Memory, at, put, puts, State, stackLimit, heapLimit, componentAt, compute, signOf, taken, Stop, halted, stackFull, heapFull, stuck, Result, go, stop, wordOf, setPosition}
 use Rattle.tables.specs.Tables.{cell, OperandTable, instrAt}
 use Rattle.exec_words.specs.declared.memory.Word.{Word as Pair}
@@ -140,6 +140,7 @@ nextOf T σ (slp d s i) = nextReadThrough (σ .registers) (σ .stack) (σ .depth
 nextOf T σ (ssp d i s t) = nextWriteThrough (σ .registers) (σ .depth) (suc (σ .position)) d i s
 nextOf T σ (jmp v) = nextJump (T .blocks) (T .labels) (wordOf (σ .registers) v)
 nextOf T σ (halt t) = End Halted
+nextOf T σ (unpack d v) = Register d (pair (wordOf (σ .registers) v)) (suc (σ .position))
 
 -- what the next instruction does; stuck past the last
 unfoldable pub nextAt : Tables → State → Next

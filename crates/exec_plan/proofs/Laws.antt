@@ -13,6 +13,7 @@ use borrow.Author.Tests.{lt-ltb, le-ltb, eq-eqb, ne-eqb}
 use Rattle.exec.specs.Machine.{compute, signOf, taken}
 use Rattle.tables.specs.Tables.{cell}
 use Rattle.exec_words.specs.arith.Codes.{arithOf, branchOf}
+use Rattle.exec_words.specs.memory.Lent.{baseKind}
 use Rattle.exec_words.proofs.memory.Laws.{any-default}
 use Rattle.exec_words.proofs.arith.Table.{every, at}
 use Rattle.exec_machine.specs.Step.{Tables, tables}
@@ -31,7 +32,7 @@ any-row [] k d e h = absurd (not-suc-le-zero h)
 any-row (r ∷ t) zero d e h = refl
 any-row (r ∷ t) (suc k) d e h = any-row t k d e (le-of-suc-le-suc h)
 
-pub form-in : (k i : ℕ) → k < 23 → i < 3 → getD (getD forms k []) i 0 ≡ getD (getD forms k halts) i 24
+pub form-in : (k i : ℕ) → k < 24 → i < 3 → getD (getD forms k []) i 0 ≡ getD (getD forms k halts) i 24
 form-in k i h l = any-default (getD forms k []) i 0 24 (omega (arith, three forms tt k h)) ∙ ap (λ (r : List ℕ). getD r i 24) (any-row forms k [] halts h)
 
 same3 : (a k : ℕ) → k < 3 → getD (a ∷ a ∷ a ∷ []) k 24 ≡ a
@@ -43,7 +44,7 @@ same3 a (suc (suc (suc k))) h = absurd (omega arith)
 pub all-three : (a k : ℕ) {r : List ℕ} → k < 3 → r ≡ a ∷ a ∷ a ∷ [] → getD r k 24 ≡ a
 all-three a k h e = ap (λ (r : List ℕ). getD r k 24) e ∙ same3 a k h
 
-pub past-form : (k i : ℕ) → 23 ≤ k → i < 3 → 23 ≡ getD (getD forms k halts) i 24
+pub past-form : (k i : ℕ) → 24 ≤ k → i < 3 → 23 ≡ getD (getD forms k halts) i 24
 past-form k i h l = sym (all-three 23 i l (List·getD-eq-default forms halts h))
 
 -- ---- leaves
@@ -79,12 +80,6 @@ module _ (a b c t v o q : ℕ) where
   pub chosen-no : (k : ℕ) → (k ≡ 1 → ⊥) → (k ≡ 2 → ⊥) → (k ≡ 3 → ⊥) → (k ≡ 4 → ⊥) → (k ≡ 5 → ⊥) → (k ≡ 6 → ⊥) → (k ≡ 7 → ⊥) → 0 ≡ chosen k a b c t v o q
   unfolding chosen
   chosen-no k n1 n2 n3 n4 n5 n6 n7 = simp (ne-eqb k 1 n1, ne-eqb k 2 n2, ne-eqb k 3 n3, ne-eqb k 4 n4, ne-eqb k 5 n5, ne-eqb k 6 n6, ne-eqb k 7 n7)
-
-pub kind-low : (k : ℕ) → k < 2 → k ≡ cond (ltb k 2) k 2
-kind-low k h = sym (simp (lt-ltb k 2 h))
-
-pub kind-high : (k : ℕ) → 2 ≤ k → 2 ≡ cond (ltb k 2) k 2
-kind-high k h = sym (simp (le-ltb k 2 h))
 
 module _ (f k l : ℕ) where
   abbrev pub kept : ℕ
@@ -249,7 +244,7 @@ module _ (T : Tables) where
 -- ---- the row that the function makes, from what it reads
 module _ (ι os bs β : List ℕ) (l j : ℕ) {code a b c v m kind n label t o q raw : ℕ} (ek : code ≡ cell 8 ι j 0) (ea : a ≡ cell 8 ι j 1)
     (eb : b ≡ cell 8 ι j 2) (ec : c ≡ cell 8 ι j 3) (ev : v ≡ cell 8 ι j 5) (em : m ≡ cell 8 ι j 6) (er : raw ≡ cell 4 os v 0)
-    (eo : kind ≡ cond (ltb raw 2) raw 2) (en : n ≡ getD bs v 0) (el : label ≡ n) (et : t ≡ cell 2 β label 1) (eb3 : o ≡ code - 3)
+    (eo : kind ≡ baseKind raw) (en : n ≡ getD bs v 0) (el : label ≡ n) (et : t ≡ cell 2 β label 1) (eb3 : o ≡ code - 3)
     (eq1 : q ≡ kind - 1) where
   number-of : n ≡ getD bs (cell 8 ι j 5) 0
   number-of = en ∙ ap (λ (i : ℕ). getD bs i 0) ev
@@ -266,7 +261,7 @@ module _ (ι os bs β : List ℕ) (l j : ℕ) {code a b c v m kind n label t o q
 
     kind-of : kind ≡ kindAt T0 j
     unfolding kindAt
-    kind-of = eo ∙ ap (λ (k : ℕ). cond (ltb k 2) k 2) (er ∙ ap (λ (i : ℕ). cell 4 os i 0) ev)
+    kind-of = eo ∙ ap baseKind (er ∙ ap (λ (i : ℕ). cell 4 os i 0) ev)
 
     constant-of : q ≡ kindAt T0 j - 1
     constant-of = eq1 ∙ ap (λ (k : ℕ). k - 1) kind-of

@@ -1,6 +1,6 @@
 -- What a row does is what the instruction does: `next-is`. And what a row says of registers and of goals.
 use mathlib.Core.Path.{_≡_, refl, ap, ap₂, sym, _∙_, subst}
-use mathlib.Core.Bool.{Bool, true, false, cond}
+use mathlib.Core.Bool.{Bool, true, false, _||_, cond}
 use mathlib.Core.List.{List, [], _∷_}
 use Prim.Native.Nat.{ℕ, zero, suc, _+_, _-_, _*_, _<_, _≤_}
 use native.Mathlib.Nat.{add-zero, add-suc, suc-add, le-of-suc-le-suc, not-suc-le-zero}
@@ -8,18 +8,19 @@ use native.Mathlib.Decide.{decLt}
 use native.Mathlib.Omega.{arith}
 use lib.Dec.{T, ltb, eqb, eqb→eq}
 use lib.ListN.{length, getD, List·getD-eq-default}
-use borrow.Author.Tests.{lt-ltb, le-ltb, eq-eqb, ltb-true, eqb-false}
-use Rattle.syntax.specs.Syntax.{Base, reg, lit, lab, Operand, plain, Instr, Arith, add, sub}
+use borrow.Author.Tests.{lt-ltb, le-ltb, eq-eqb, ltb-true, eqb-true, eqb-false}
+use Rattle.syntax.specs.Syntax.{reg, lit, lab, Operand, plain, Instr, Arith, add, sub}
 use Rattle.exec.specs.Machine.{Word, Memory, at, State, Sign, negative, null, positive, signOf, taken, intKind, label, integer, height, compute, baseWord, wordOf}
-use Rattle.tables.specs.Tables.{cell, OperandTable, baseOf, operandOf, operandAt, operandsAt, instrAt, span}
+use Rattle.tables.specs.Tables.{cell, OperandTable, baseOf, operandAt, operandsAt, instrAt}
 use Rattle.exec_words.specs.arith.Codes.{arithOf, branchOf, column}
-use Rattle.exec_words.specs.memory.Lent.{operandTable}
+use Rattle.exec_words.specs.memory.Lent.{operandTable, baseKind}
 use Rattle.exec_words.proofs.memory.Laws.{word-of}
 use Rattle.exec_machine.specs.declared.Stop.the-variants.{Stuck}
 use Rattle.exec_machine.specs.Represents.{LowBase, LowOperand, LowOperands, Registered, Fit}
-use Rattle.exec_machine.specs.Step.{Tables, operandsOf, pair, given, provided, nextArith, nextJump, nextBranch, nextLoad, nextStore, nextTuple, nextCut, nextPush, nextPop, nextRead, nextWrite, nextReadThrough, nextWriteThrough, nextAt, Next, Go, Register, End}
-use Rattle.exec_machine.proofs.Codes.{is-arith, is-branch, is-mov, is-ld, is-st, is-malloc, is-getsp, is-setsp, is-sld, is-sst, is-slp, is-ssp, is-jmp}
-use Rattle.exec_machine.proofs.Forms.{here, nowhere, arith-is, branch-is, jmp-is, mov-is, malloc-is, getsp-is, setsp-is, salloc-is, sfree-is, sld-is, sst-is, slp-is, ssp-is, ld-is, st-is, halt-is}
+use Rattle.exec_machine.specs.Step.{Tables, operandsOf, pair, given, provided, nextArith, nextJump, nextBranch, nextLoad, nextStore, nextTuple, nextCut, nextPush, nextPop, nextRead, nextWrite, nextReadThrough, nextWriteThrough, nextOf, nextAt, Next, Go, Register, End}
+use Rattle.exec_machine.proofs.Codes.{is-arith, is-branch, is-mov, is-ld, is-st, is-malloc, is-getsp, is-setsp, is-sld, is-sst, is-slp, is-ssp, is-jmp, is-unpack}
+use Rattle.exec_machine.proofs.Low.{low-base}
+use Rattle.exec_machine.proofs.Forms.{moves, mov-moves, unpack-moves, here, nowhere, arith-is, branch-is, jmp-is, moved-is, malloc-is, getsp-is, setsp-is, salloc-is, sfree-is, sld-is, sst-is, slp-is, ssp-is, ld-is, st-is, halt-is}
 use Rattle.exec_plan.specs.Plan.{forms, halts, columns, readsOperand, chosen, codeAt, operandIn, countAt, kindAt, numberAt, targetAt, columnAt, classOf, fifthOf, formIn, addedOf, lastOf, formFor, formAt, goalAt, goalIn, lastAt, rowOf, stuckRow, Plan, planned}
 use Rattle.exec_plan.proofs.Laws.{all-three, past-form, form-in, fifth-goal, fifth-low, form-back, class-small}
 use Rattle.exec_words.proofs.arith.Table.{every, rowTest, at2}
@@ -72,41 +73,28 @@ alone g d k i x = cond (eqb x g) (eqb k d) true
 
 code-of : (g d : ℕ) → T (every (rowTest 3 (alone g d)) 0 forms) → g < 23 → (c k : ℕ) → k < 3 → getD (getD forms c halts) k 24 ≡ g → c ≡ d
 unfolding alone
-code-of g d ok lg c k h e = inside (decLt c 23)
+code-of g d ok lg c k h e = inside (decLt c 24)
   where
-    inside : Dec (c < 23) → c ≡ d
+    inside : Dec (c < 24) → c ≡ d
     inside (yes l) =
         let q : eqb (getD (getD forms c []) k 0) g ≡ true = eq-eqb (getD (getD forms c []) k 0) g (form-in c k l h ∙ e) in
         eqb→eq c d (subst (λ (b : Bool). T (cond b (eqb c d) true)) q (at2 0 3 (alone g d) forms ok c k l h))
     inside (no n) =
-        let m : 23 ≤ c = omega arith in
+        let m : 24 ≤ c = omega arith in
         let q : 23 ≡ getD (getD forms c halts) k 24 = past-form c k m h in
         absurd (omega arith)
 
 -- ---- the operand
--- its kind as the row's
-same-base : (k n : ℕ) → baseOf (cond (ltb k 2) k 2) n ≡ baseOf k n
-unfolding baseOf
-same-base zero n = refl
-same-base (suc zero) n = refl
-same-base (suc (suc k)) n = let q : ltb (suc (suc k)) 2 ≡ false = le-ltb (suc (suc k)) 2 (omega arith) in ap (λ (b : Bool). baseOf (cond b (suc (suc k)) 2) n) q
+kind-three : (k : ℕ) → baseKind k < 3
+unfolding baseKind
+kind-three k = go (eqb k 0 || eqb k 4) (eqb k 1 || eqb k 5)
+  where
+    go : (a b : Bool) → cond a 0 (cond b 1 2) < 3
+    go true b = omega arith
+    go false true = omega arith
+    go false false = omega arith
 
-kind-three : (k : ℕ) → cond (ltb k 2) k 2 < 3
-kind-three zero = omega arith
-kind-three (suc zero) = omega arith
-kind-three (suc (suc k)) = let q : ltb (suc (suc k)) 2 ≡ false = le-ltb (suc (suc k)) 2 (omega arith) in subst (λ (b : Bool). cond b (suc (suc k)) 2 < 3) (sym q) (omega arith)
-
--- its register, if it is one
-low-base : (b : Base) (ts : List ℕ) (t : ℕ) → LowOperand (operandOf b ts t) → LowBase b
-unfolding operandOf
-low-base b [] t h = h
-low-base b (a ∷ ts) t h = h
-
-low-at : (ω : OperandTable) (v : ℕ) → LowOperand (operandAt ω v) → LowBase (baseOf (cell 4 (ω .operands) v 0) (getD (ω .numbers) v 0))
-unfolding operandAt
-low-at ω v h = low-base (baseOf (cell 4 (ω .operands) v 0) (getD (ω .numbers) v 0)) (span (ω .args) (cell 4 (ω .operands) v 3) (cell 4 (ω .operands) v 1)) (cell 4 (ω .operands) v 2) h
-
--- that of each of a list
+-- each operand of a list
 low-among : (ω : OperandTable) (v n k : ℕ) → LowOperands (operandsAt ω v n) → k < n → LowOperand (operandAt ω (v + k))
 unfolding operandsAt
 low-among ω v zero k h l = absurd (not-suc-le-zero l)
@@ -203,8 +191,7 @@ module _ (T : Tables) (σ : State) (h : σ .position < T .count) {f x y z n p : 
   unfolding kindAt
   word-at k r =
       ap (λ (a : ℕ). baseWord R (baseOf a number)) (sym r)
-      ∙ ap (baseWord R) (same-base (cell 4 os v 0) number)
-      ∙ sym (word-of R os bs v)
+      ∙ sym (word-of R (operandTable os bs) v)
 
   word : (c k : ℕ) → code ≡ c → kind ≡ k → lastOf c k (countAt T j) number ≡ number → baseWord R (baseOf k n) ≡ wordOf R (operandAt (operandTable os bs) v)
   word c k e r q = ap (λ (a : ℕ). baseWord R (baseOf k a)) (last-is c k e r q) ∙ word-at k r
@@ -335,24 +322,35 @@ module _ (T : Tables) (σ : State) (h : σ .position < T .count) {f x y z n p : 
         (λ t m. as-form 22 (label-form c e k at-2 false t) (by-sort (End Stuck) ∙ branch-at (End Stuck) (to-none m ∙ ap (nextJump β l) (word c 2 e k (q 2)))))
         (last-is c 2 e k (q 2)))
 
-  -- ---- mov and jmp
-  mov-at : code ≡ 9 → (b : Operand) → wordOf R b ≡ wordOf R (operandAt (operandTable os bs) v) → Register x (pair (wordOf R b)) p ≡ nextAt T σ
-  unfolding chosen
-  mov-at e b w =
-      here ι os bs β (T .count) l σ (Register x (pair (wordOf R b)) p) h
-      (mov-is ι os bs β (T .count) l σ ep (column-is 9 e 0 ex refl) e (pair (wordOf R b)) w refl)
+  -- ---- mov, unpack and jmp
+  module _ (c : ℕ) (e : code ≡ c) (last : (k : ℕ) → lastOf c k (countAt T j) number ≡ number) (rf : getD forms c halts ≡ 5 ∷ 6 ∷ 6 ∷ []) (rc : getD columns c [] ≡ 1 ∷ 7 ∷ 0 ∷ []) where
+    target : x ≡ cell 8 ι j 1
+    unfolding chosen
+    target = column-is c e 0 ex (ap (λ (r : List ℕ). getD r 0 0) rc)
 
-  -- the word that a row of form 6 has
-  constant : (k : ℕ) → kind ≡ k → code ≡ 9 → _≡_ {A = Next} (Register x (record { kind = y; number = n }) p) (Register x (record { kind = k - 1; number = n }) p)
-  unfolding chosen
-  constant k q e = ap (λ (i : ℕ). Register x (record { kind = i; number = n }) p) (column-is 9 e 1 ey refl ∙ ap (λ (i : ℕ). i - 1) q)
+    -- the kind of the word that a row of form 6 has
+    constant : y ≡ kind - 1
+    unfolding chosen
+    constant = column-is c e 1 ey (ap (λ (r : List ℕ). getD r 1 0) rc)
 
-  mov-rows : code ≡ 9 → Same
-  unfolding planned baseOf baseWord wordOf lastOf
-  mov-rows e = by-kind
-      (λ q. as-form 5 (form-is 9 0 e q refl refl refl) (mov-at e (plain (reg n)) (word 9 0 e q refl)))
-      (λ q. as-form 6 (form-is 9 1 e q refl refl refl) (constant 1 q e ∙ mov-at e (plain (lit n)) (word 9 1 e q refl)))
-      (λ q. as-form 6 (form-is 9 2 e q refl refl refl) (constant 2 q e ∙ mov-at e (plain (lab n)) (word 9 2 e q refl)))
+    module _ (m : nextOf T σ (instrAt ι (operandTable os bs) j) ≡ moves ι os bs β (T .count) l σ) where
+      moved : (b : Operand) → wordOf R b ≡ wordOf R (operandAt (operandTable os bs) v) → Register x (pair (wordOf R b)) p ≡ nextAt T σ
+      moved b w =
+          here ι os bs β (T .count) l σ (Register x (pair (wordOf R b)) p) h
+          (moved-is ι os bs β (T .count) l σ ep target m (pair (wordOf R b)) w)
+
+      constant-of : (k : ℕ) → kind ≡ k → _≡_ {A = Next} (Register x (record { kind = y; number = n }) p) (Register x (record { kind = k - 1; number = n }) p)
+      constant-of k q = ap (λ (i : ℕ). Register x (record { kind = i; number = n }) p) (constant ∙ ap (λ (i : ℕ). i - 1) q)
+
+      form-in-row : (k g : ℕ) → kind ≡ k → getD (5 ∷ 6 ∷ 6 ∷ []) k 24 ≡ g → eqb g 4 ≡ false → eqb g 7 ≡ false → f ≡ g
+      form-in-row k g q s a b = form-is c k e q (ap (λ (r : List ℕ). getD r k 24) rf ∙ s) a b
+
+      mov-rows : Same
+      unfolding planned baseOf baseWord wordOf
+      mov-rows = by-kind
+          (λ q. as-form 5 (form-in-row 0 5 q refl refl refl) (moved (plain (reg n)) (word c 0 e q (last 0))))
+          (λ q. as-form 6 (form-in-row 1 6 q refl refl refl) (constant-of 1 q ∙ moved (plain (lit n)) (word c 1 e q (last 1))))
+          (λ q. as-form 6 (form-in-row 2 6 q refl refl refl) (constant-of 2 q ∙ moved (plain (lab n)) (word c 2 e q (last 2))))
 
   jmp-at : code ≡ 21 → (w : Word) → w ≡ wordOf R (operandAt (operandTable os bs) v) → nextJump β l w ≡ nextAt T σ
   jmp-at e w q = jmp-is ι os bs β (T .count) l σ (nextJump β l w) h e (pair w) q refl refl
@@ -423,16 +421,27 @@ module _ (T : Tables) (σ : State) (h : σ .position < T .count) {f x y z n p : 
   malloc-row e = as-form 2 (plain-form 12 2 e refl refl refl) (here ι os bs β (T .count) l σ (nextTuple (σ .used) p x z n) h
       (malloc-is ι os bs β (T .count) l σ ep (column-is 12 e 0 ex refl) (nextTuple (σ .used) p x z n) e (column-is 12 e 2 ez refl) (last-is 12 kind e refl refl) refl))
 
-  halt-form : 22 ≤ code → f ≡ 23
-  halt-form m = pick (decLt 22 code)
+  past-unpack : 22 < code → (code ≡ 23 → ⊥) → 24 ≤ code
+  past-unpack q u = omega arith
+
+  -- code 22, or one past the table
+  halt-form : 22 ≤ code → (code ≡ 23 → ⊥) → f ≡ 23
+  halt-form m u = pick (decLt 22 code)
     where
       pick : Dec (22 < code) → f ≡ 23
-      pick (yes q) = form-at code refl 23 (sym (past-form code kind q kind-low)) ∙ other-is there 23 refl refl
+      pick (yes q) = let s : 24 ≤ code = past-unpack q u in form-at code refl 23 (sym (past-form code kind s kind-low)) ∙ other-is there 23 refl refl
       pick (no q) = let e : code ≡ 22 = omega arith in plain-form 22 23 e refl refl refl
 
-  halt-row : 22 ≤ code → Same
+  halt-row : 22 ≤ code → (code ≡ 23 → ⊥) → Same
   unfolding planned
-  halt-row m = as-form 23 (halt-form m) (halt-is ι os bs β (T .count) l σ h m)
+  halt-row m u = as-form 23 (halt-form m u) (halt-is ι os bs β (T .count) l σ h m u)
+
+  but-unpack : {X : Type 0} → (code ≡ 23 → X) → ((code ≡ 23 → ⊥) → X) → X
+  but-unpack {X} a b = pick (eqb code 23) refl
+    where
+      pick : (t : Bool) → eqb code 23 ≡ t → X
+      pick true e = a (eqb-true code 23 e)
+      pick false e = b (eqb-false code 23 e)
 
   equal : {X : Type 0} (k : ℕ) → (code ≡ k → X) → k ≤ code → (suc k ≤ code → X) → X
   equal {X} k a m b = pick (decLt k code)
@@ -453,7 +462,7 @@ module _ (T : Tables) (σ : State) (h : σ .position < T .count) {f x y z n p : 
       equal 6 (λ e. branch-rows 6 (omega arith) (omega arith) e (λ k. refl) refl refl) l6 λ l7.
       equal 7 (λ e. branch-rows 7 (omega arith) (omega arith) e (λ k. refl) refl refl) l7 λ l8.
       equal 8 (λ e. branch-rows 8 (omega arith) (omega arith) e (λ k. refl) refl refl) l8 λ l9.
-      equal 9 (λ e. mov-rows e) l9 λ l10.
+      equal 9 (λ e. mov-rows 9 e (λ k. refl) refl refl (mov-moves ι os bs β (T .count) l σ e)) l9 λ l10.
       equal 10 (λ e. ld-row e) l10 λ l11.
       equal 11 (λ e. st-row e) l11 λ l12.
       equal 12 (λ e. malloc-row e) l12 λ l13.
@@ -466,7 +475,8 @@ module _ (T : Tables) (σ : State) (h : σ .position < T .count) {f x y z n p : 
       equal 19 (λ e. slp-row e) l19 λ l20.
       equal 20 (λ e. ssp-row e) l20 λ l21.
       equal 21 (λ e. jmp-rows e) l21 λ l22.
-      halt-row l22
+      but-unpack (λ e. mov-rows 23 e (λ k. refl) refl refl (unpack-moves ι os bs β (T .count) l σ e)) λ u.
+      halt-row l22 u
 
   -- ---- what a row says of registers
   abbrev Low : Type 0
@@ -483,8 +493,7 @@ module _ (T : Tables) (σ : State) (h : σ .position < T .count) {f x y z n p : 
     operand-read : (c : ℕ) → code ≡ c → lastOf c 0 (countAt T j) number ≡ number → LowOperand (operandAt (operandTable os bs) v) → readsOperand (getD (getD forms c halts) 1 24) ≡ false → readsOperand (getD (getD forms c halts) 2 24) ≡ false → readsOperand f ≡ true → n < 8
     unfolding kindAt
     operand-read c e q lo r1 r2 g = by-kind
-        (λ k. let b : LowBase (baseOf (cond (ltb (cell 4 os v 0) 2) (cell 4 os v 0) 2) number) = subst LowBase (sym (same-base (cell 4 os v 0) number)) (low-at (operandTable os bs) v lo) in
-        let m : number < 8 = low-register (cond (ltb (cell 4 os v 0) 2) (cell 4 os v 0) 2) number k b in
+        (λ k. let m : number < 8 = low-register (baseKind (cell 4 os v 0)) number k (low-base (operandTable os bs) v lo) in
         let w : n ≡ number = last-is c 0 e k q in
         omega arith)
         (λ k. let m = getD (getD forms c halts) 1 24 in none-true (sym (not-read there (eqb m 4) (eqb m 7) m r1) ∙ ap readsOperand (sym (form-at c e m (at-kind c 1 k refl))) ∙ g))
@@ -576,11 +585,9 @@ module _ (T : Tables) (σ : State) (h : σ .position < T .count) {f x y z n p : 
         let m = names _ (is-ssp ι (operandsOf T) j e) in
         (low x (cell 8 ι j 1) (column-is 20 e 0 ex refl) (m .0), low y (cell 8 ι j 3) (column-is 20 e 1 ey refl) (m .1), none-read 14 (plain-form 20 14 e refl refl refl) refl)
 
-    mov-low : code ≡ 9 → Low
-    unfolding chosen readsOperand lastOf
-    mov-low e =
-        let m = names _ (is-mov ι (operandsOf T) j e) in
-        (low x (cell 8 ι j 1) (column-is 9 e 0 ex refl) (m .0), omega (arith, kind-low, column-is 9 e 1 ey refl), operand-read 9 e refl (m .1) refl refl)
+    mov-low : (c : ℕ) → code ≡ c → ((k : ℕ) → lastOf c k (countAt T j) number ≡ number) → (rf : getD forms c halts ≡ 5 ∷ 6 ∷ 6 ∷ []) → getD columns c [] ≡ 1 ∷ 7 ∷ 0 ∷ [] → (cell 8 ι j 1 < 8) × LowOperand (operandAt (operandTable os bs) v) → readsOperand (getD (getD forms c halts) 1 24) ≡ false → readsOperand (getD (getD forms c halts) 2 24) ≡ false → Low
+    mov-low c e last rf rc m r1 r2 =
+        (low x (cell 8 ι j 1) (target c e last rf rc) (m .0), omega (arith, kind-low, constant c e last rf rc), operand-read c e (last 0) (m .1) r1 r2)
 
     jmp-low : code ≡ 21 → Low
     unfolding chosen readsOperand lastOf
@@ -588,9 +595,9 @@ module _ (T : Tables) (σ : State) (h : σ .position < T .count) {f x y z n p : 
         let m = names _ (is-jmp ι (operandsOf T) j e) in
         (zero-low x (column-is 21 e 0 ex refl), zero-low y (column-is 21 e 1 ey refl), operand-read 21 e refl m refl refl)
 
-    halt-column : (i : ℕ) {r : ℕ} → 22 ≤ code → r ≡ columnAt T j i → i < 3 → r ≡ 0
+    halt-column : (i : ℕ) {r : ℕ} → 22 ≤ code → (code ≡ 23 → ⊥) → r ≡ columnAt T j i → i < 3 → r ≡ 0
     unfolding columnAt chosen
-    halt-column i {r} m e hi = pick (decLt 22 code)
+    halt-column i {r} m u e hi = pick (decLt 22 code)
       where
         none : (k : ℕ) → k ≡ 0 → chosen k (cell 8 ι j 1) (cell 8 ι j 2) (cell 8 ι j 3) (targetAt T j) (operandIn T j) (code - 3) (kind - 1) ≡ 0
         none k q = rw q
@@ -602,14 +609,14 @@ module _ (T : Tables) (σ : State) (h : σ .position < T .count) {f x y z n p : 
         zeros (suc (suc (suc k))) q = absurd (omega arith)
 
         pick : Dec (22 < code) → r ≡ 0
-        pick (yes q) = e ∙ none (getD (getD columns code []) i 0) (ap (λ (r : List ℕ). getD r i 0) (List·getD-eq-default columns [] q))
+        pick (yes q) = e ∙ none (getD (getD columns code []) i 0) (ap (λ (r : List ℕ). getD r i 0) (List·getD-eq-default columns [] (past-unpack q u)))
         pick (no q) =
             let c : code ≡ 22 = omega arith in
             e ∙ none (getD (getD columns code []) i 0) (ap (λ (k : ℕ). getD (getD columns k []) i 0) c ∙ zeros i hi)
 
-    halt-low : 22 ≤ code → Low
+    halt-low : 22 ≤ code → (code ≡ 23 → ⊥) → Low
     unfolding readsOperand
-    halt-low m = (zero-low x (halt-column 0 m ex (omega arith)), zero-low y (halt-column 1 m ey (omega arith)), none-read 23 (halt-form m) refl)
+    halt-low m u = (zero-low x (halt-column 0 m u ex (omega arith)), zero-low y (halt-column 1 m u ey (omega arith)), none-read 23 (halt-form m u) refl)
 
     pub row-low : Low
     unfolding readsOperand lastOf addedOf
@@ -623,7 +630,7 @@ module _ (T : Tables) (σ : State) (h : σ .position < T .count) {f x y z n p : 
         equal 6 (λ e. branch-low 6 (omega arith) (omega arith) e (λ k. refl) refl refl refl refl) l6 λ l7.
         equal 7 (λ e. branch-low 7 (omega arith) (omega arith) e (λ k. refl) refl refl refl refl) l7 λ l8.
         equal 8 (λ e. branch-low 8 (omega arith) (omega arith) e (λ k. refl) refl refl refl refl) l8 λ l9.
-        equal 9 (λ e. mov-low e) l9 λ l10.
+        equal 9 (λ e. mov-low 9 e (λ k. refl) refl refl (names _ (is-mov ι (operandsOf T) j e)) refl refl) l9 λ l10.
         equal 10 (λ e. ld-low e) l10 λ l11.
         equal 11 (λ e. st-low e) l11 λ l12.
         equal 12 (λ e. malloc-low e) l12 λ l13.
@@ -636,7 +643,8 @@ module _ (T : Tables) (σ : State) (h : σ .position < T .count) {f x y z n p : 
         equal 19 (λ e. slp-low e) l19 λ l20.
         equal 20 (λ e. ssp-low e) l20 λ l21.
         equal 21 (λ e. jmp-low e) l21 λ l22.
-        halt-low l22
+        but-unpack (λ e. mov-low 23 e (λ k. refl) refl refl (names _ (is-unpack ι (operandsOf T) j e)) refl refl) λ u.
+        halt-low l22 u
 
   -- ---- where a row leads
   branch-there : f ≡ 4 → number < l
@@ -674,7 +682,7 @@ module _ (T : Tables) (σ : State) (h : σ .position < T .count) {f x y z n p : 
   unfolding formAt formFor alone
   malloc-code e = code-of 2 12 tt (omega arith) code kind kind-low (was-same there (eqb (formFor T j) 4) (eqb (formFor T j) 7) (formFor T j) 2 (omega arith) (sym ef ∙ e))
 
-  pub malloc-operands : Fit T → f ≡ 2 → (z + n ≤ length bs) × (4 * (z + n) ≤ length os) × ((k : ℕ) → k < n → getD os (4 * (z + k)) 0 ≡ 0 → getD bs (z + k) 0 < 8)
+  pub malloc-operands : Fit T → f ≡ 2 → (z + n ≤ length bs) × (4 * (z + n) ≤ length os) × ((k : ℕ) → k < n → baseKind (getD os (4 * (z + k)) 0) ≡ 0 → getD bs (z + k) 0 < 8)
   unfolding chosen lastOf
   malloc-operands fit e = (omega (arith, first-is, count-is, fit .room j h .0), omega (arith, first-is, count-is, fit .room j h .1), registers)
     where
@@ -684,13 +692,13 @@ module _ (T : Tables) (σ : State) (h : σ .position < T .count) {f x y z n p : 
       count-is : n ≡ cell 8 ι j 6
       count-is = last-is 12 kind (malloc-code e) refl refl
 
-      registers : (k : ℕ) → k < n → getD os (4 * (z + k)) 0 ≡ 0 → getD bs (z + k) 0 < 8
+      registers : (k : ℕ) → k < n → baseKind (getD os (4 * (z + k)) 0) ≡ 0 → getD bs (z + k) 0 < 8
       registers k l q =
           let named = subst Registered (is-malloc ι (operandsOf T) j (malloc-code e)) (fit .registers j h) in
-          let low = low-at (operandTable os bs) (v + k) (low-among (operandTable os bs) v (cell 8 ι j 6) k (named .1) (omega (arith, l, count-is))) in
+          let low = low-base (operandTable os bs) (v + k) (low-among (operandTable os bs) v (cell 8 ι j 6) k (named .1) (omega (arith, l, count-is))) in
           let s : 4 * (v + k) + 0 ≡ 4 * (z + k) = omega (arith, first-is) in
           let r : z + k ≡ v + k = omega (arith, first-is) in
-          subst (λ (i : ℕ). getD bs i 0 < 8) (sym r) (low-register (cell 4 os (v + k) 0) (getD bs (v + k) 0) (ap (λ (i : ℕ). getD os i 0) s ∙ q) low)
+          subst (λ (i : ℕ). getD bs i 0 < 8) (sym r) (low-register (baseKind (cell 4 os (v + k) 0)) (getD bs (v + k) 0) (ap (λ (i : ℕ). baseKind (getD os i 0)) s ∙ q) low)
 
 -- ---- a row of the table
 module _ (T : Tables) (φ : List ℕ) (pl : Plan T φ) (σ : State) (h : σ .position ≤ T .count) where
@@ -818,7 +826,7 @@ module _ (T : Tables) (φ : List ℕ) (pl : Plan T φ) (σ : State) (h : σ .pos
 
     pub tuple-operands : formIn (cell 8 φ (σ .position) 0) (cell 8 φ (σ .position) 5) ≡ 2 → (cell 8 φ (σ .position) 3 + cell 8 φ
         (σ .position) 4 ≤ length (T .bases)) × (4 * (cell 8 φ (σ .position) 3 + cell 8 φ (σ .position) 4) ≤ length (T .operands))
-        × ((k : ℕ) → k < cell 8 φ (σ .position) 4 → getD (T .operands) (4 * (cell 8 φ (σ .position) 3 + k)) 0 ≡ 0 → getD (T .bases)
+        × ((k : ℕ) → k < cell 8 φ (σ .position) 4 → baseKind (getD (T .operands) (4 * (cell 8 φ (σ .position) 3 + k)) 0) ≡ 0 → getD (T .bases)
         (cell 8 φ (σ .position) 3 + k) 0 < 8)
     tuple-operands e =
         let m : i < T .count = before-last (omega (arith, e)) in

@@ -9,11 +9,12 @@ use Rattle.syntax.specs.Syntax.{reg, lit, plain, add, sub, mul}
 use Rattle.exec.specs.Machine.{Memory, at, intKind, height, compute, signOf, taken, wordOf}
 use Rattle.tables.specs.Tables.{cell}
 use Rattle.exec_words.specs.arith.Codes.{branchOf, column}
+use Rattle.exec_words.specs.memory.Lent.{baseKind}
 use Rattle.exec_machine.specs.declared.Stop.the-variants.{Halted, Stuck}
 use Rattle.exec_machine.specs.Step.{Tables, pair, given, nextArith, nextJump, nextLoad, nextStore, nextTuple, nextCut, nextPush, nextPop, nextRead, nextWrite, nextReadThrough, nextWriteThrough, Next, Go, Register, End}
 
 -- ---- the rows
--- a row's form, by code, in the order of the forms, and by the operand's kind: register, integer, label
+-- a row's form, by code, in the order of the forms, and by the kind of the operand's base: register, integer, label
 abbrev pub forms : List (List ℕ)
 forms =
     (0 ∷ 1 ∷ 24 ∷ []) ∷ (20 ∷ 1 ∷ 24 ∷ []) ∷ (3 ∷ 15 ∷ 24 ∷ [])
@@ -21,7 +22,7 @@ forms =
     ∷ (5 ∷ 6 ∷ 6 ∷ []) ∷ (9 ∷ 9 ∷ 9 ∷ []) ∷ (10 ∷ 10 ∷ 10 ∷ []) ∷ (2 ∷ 2 ∷ 2 ∷ [])
     ∷ (16 ∷ 16 ∷ 16 ∷ []) ∷ (17 ∷ 17 ∷ 17 ∷ []) ∷ (18 ∷ 18 ∷ 18 ∷ []) ∷ (19 ∷ 19 ∷ 19 ∷ [])
     ∷ (11 ∷ 11 ∷ 11 ∷ []) ∷ (12 ∷ 12 ∷ 12 ∷ []) ∷ (13 ∷ 13 ∷ 13 ∷ []) ∷ (14 ∷ 14 ∷ 14 ∷ [])
-    ∷ (8 ∷ 24 ∷ 7 ∷ []) ∷ (23 ∷ 23 ∷ 23 ∷ []) ∷ []
+    ∷ (8 ∷ 24 ∷ 7 ∷ []) ∷ (23 ∷ 23 ∷ 23 ∷ []) ∷ (5 ∷ 6 ∷ 6 ∷ []) ∷ []
 
 -- a code past the table is that of `halt`
 abbrev pub halts : List ℕ
@@ -36,7 +37,7 @@ columns =
     ∷ (1 ∷ 7 ∷ 0 ∷ []) ∷ (1 ∷ 2 ∷ 3 ∷ []) ∷ (1 ∷ 3 ∷ 2 ∷ []) ∷ (1 ∷ 0 ∷ 5 ∷ [])
     ∷ (1 ∷ 0 ∷ 0 ∷ []) ∷ (1 ∷ 0 ∷ 0 ∷ []) ∷ (0 ∷ 0 ∷ 1 ∷ []) ∷ (0 ∷ 0 ∷ 1 ∷ [])
     ∷ (1 ∷ 0 ∷ 2 ∷ []) ∷ (0 ∷ 2 ∷ 1 ∷ []) ∷ (1 ∷ 2 ∷ 3 ∷ []) ∷ (1 ∷ 3 ∷ 2 ∷ [])
-    ∷ (0 ∷ 0 ∷ 4 ∷ []) ∷ (0 ∷ 0 ∷ 0 ∷ []) ∷ []
+    ∷ (0 ∷ 0 ∷ 4 ∷ []) ∷ (0 ∷ 0 ∷ 0 ∷ []) ∷ (1 ∷ 7 ∷ 0 ∷ []) ∷ []
 
 -- forms whose operand is a register
 unfoldable pub readsOperand : ℕ → Bool
@@ -94,9 +95,9 @@ module _ (T : Tables) (j : ℕ) where
   abbrev pub countAt : ℕ
   countAt = cell 8 (T .instrs) j 6
 
-  -- the operand's kind, 2 for all that are labels
+  -- the kind of the operand's base
   unfoldable pub kindAt : ℕ
-  kindAt = cond (ltb (cell 4 (T .operands) operandIn 0) 2) (cell 4 (T .operands) operandIn 0) 2
+  kindAt = baseKind (cell 4 (T .operands) operandIn 0)
 
   -- the operand's number
   abbrev pub numberAt : ℕ

@@ -12,11 +12,12 @@ ghost use Rattle.exec_words.specs.arith.Codes.{branchOf};
 ghost use Rattle.exec_machine.specs.Step.{tables};
 ghost use Rattle.exec_plan.specs.Plan.{forms, halts, columns, chosen, Choices, classOf, fifthOf, addedOf, lastOf, putRow, rowOf, Plan};
 
-// The form of an instruction, by its code and the kind of its operand: register, integer, label. Forms below 15 are classes of their
-// own: 0 add register, 1 add integer, 2 malloc, 3 mul register, 4 branch to a label, 5 mov register, 6 mov of a constant,
-// 7 jmp to a label, 8 jmp register, 9 ld, 10 st, 11 sld, 12 sst, 13 slp, 14 ssp. The others are of class 15: 15 mul integer,
-// 16 getsp, 17 setsp, 18 salloc, 19 sfree, 20 sub register, 21 branch through a register, 22 branch that goes nowhere, 23 halt, 24 stuck.
-const FORMS: [[u8; 3]; 23] = [
+// The form of an instruction, by its code and the kind of its operand's base: register, integer, label. `unpack` has the forms of `mov`.
+// Forms below 15 are classes of their own: 0 add register, 1 add integer, 2 malloc, 3 mul register, 4 branch to a label, 5 mov register,
+// 6 mov of a constant, 7 jmp to a label, 8 jmp register, 9 ld, 10 st, 11 sld, 12 sst, 13 slp, 14 ssp. The others are of class 15:
+// 15 mul integer, 16 getsp, 17 setsp, 18 salloc, 19 sfree, 20 sub register, 21 branch through a register, 22 branch that goes nowhere,
+// 23 halt, 24 stuck.
+const FORMS: [[u8; 3]; 24] = [
     [0, 1, 24],
     [20, 1, 24],
     [3, 15, 24],
@@ -40,11 +41,12 @@ const FORMS: [[u8; 3]; 23] = [
     [14, 14, 14],
     [8, 24, 7],
     [23, 23, 23],
+    [5, 6, 6],
 ];
 
 // Which number stands in a row's columns 1 to 3, two registers and one number more: 0 for none, else the instruction's first, second
 // or third number, 4 for the row that its label leads to, 5 for its first operand, 6 for the kind of a branch, 7 for that of a constant.
-const COLUMNS: [[u8; 3]; 23] = [
+const COLUMNS: [[u8; 3]; 24] = [
     [1, 2, 0],
     [1, 2, 0],
     [1, 2, 0],
@@ -68,6 +70,7 @@ const COLUMNS: [[u8; 3]; 23] = [
     [1, 3, 2],
     [0, 0, 4],
     [0, 0, 0],
+    [1, 7, 0],
 ];
 
 fn wide(x: u8) -> usize
@@ -81,13 +84,6 @@ fn narrow(x: usize) -> u32
     ensures { λ r. ⌜ r ≡ x ⌝ }
 {
     x as u32
-}
-
-// A kind past that of labels is that of labels.
-fn kind_of(k: usize) -> usize
-    ensures { λ r. ⌜ (r ≡ cond (ltb k 2) k 2) × (r < 3) ⌝ }
-{
-    if k < 2 { k } else { 2 }
 }
 
 // A branch's kind, counted from code 3 on.
@@ -115,7 +111,7 @@ fn form(code: usize, kind: usize) -> usize
     requires { ⌜ kind < 3 ⌝ }
     ensures { λ r. ⌜ (r ≡ getD (getD forms code halts) kind 24) × (r < 256) ⌝ }
 {
-    if code < 23 {
+    if code < 24 {
         return wide(FORMS[code][kind]);
     }
     23
@@ -125,7 +121,7 @@ fn column(code: usize, i: usize) -> usize
     requires { ⌜ i < 3 ⌝ }
     ensures { λ r. ⌜ r ≡ getD (getD columns code []) i 0 ⌝ }
 {
-    if code < 23 {
+    if code < 24 {
         return wide(COLUMNS[code][i]);
     }
     0
@@ -276,7 +272,7 @@ fn make_row(
     let c = exec_words::memory::entry(instrs, 8, j, 3);
     let v = exec_words::memory::entry(instrs, 8, j, 5);
     let m = exec_words::memory::entry(instrs, 8, j, 6);
-    let kind = kind_of(exec_words::memory::entry(operands, 4, v, 0));
+    let kind = exec_words::memory::base_kind(exec_words::memory::entry(operands, 4, v, 0));
     let n = number_at(bases, v);
     let label = exec_words::memory::wide(n);
     let t = exec_words::memory::entry(blocks, 2, label, 1);

@@ -14,7 +14,7 @@ use Rattle.tables.specs.Tables.{RowTable, cell, rowFrom, rowAt, rowsIn}
 use Rattle.tables.proofs.Spans.{span-length}
 use Rattle.types_rows.specs.Read.{lower, valueWith, valueAt, slotAt, onSlot, partsOf, buildV, meanV, meanS}
 use Rattle.types_rows.specs.declared.Val.{Val}
-use Rattle.types_rows.specs.declared.Val.the-variants.{Int, Junk, ValVar, ValFill, Tuple, Pointer, Code}
+use Rattle.types_rows.specs.declared.Val.the-variants.{Int, Junk, ValVar, ValFill, Tuple, Pointer, Code, Hidden}
 use Rattle.types_rows.proofs.Laws.{value-is}
 use Rattle.types_rows.proofs.Bridge.{type-at}
 use Rattle.valid.specs.Program.{asCode, blockOf}
@@ -37,10 +37,11 @@ module _ (v : ℕ → Ty value) (s : ℕ → Ty stack) (ps : List ℕ) (h : ℕ)
       omega arith
   by-kind (suc (suc (suc (suc zero)))) a b m = omega arith
   by-kind (suc (suc (suc (suc (suc zero))))) a b m = omega arith
-  by-kind (suc (suc (suc (suc (suc (suc k)))))) a b m = subst (λ (x : Val). samplesIn x ≤ 16) (sym (stack-kind (suc (suc (suc (suc (suc (suc k)))))) (omega arith))) (omega arith)
+  by-kind (suc (suc (suc (suc (suc (suc zero)))))) a b m = omega arith
+  by-kind (suc (suc (suc (suc (suc (suc (suc k))))))) a b m = subst (λ (x : Val). samplesIn x ≤ 16) (sym (stack-kind (suc (suc (suc (suc (suc (suc (suc k))))))) (omega arith))) (omega arith)
     where
-      stack-kind : (n : ℕ) → 6 ≤ n → valueWith ValVar h n a b ≡ Junk
-      stack-kind n l = rw (ne-eqb n 0 (λ z. omega arith), ne-eqb n 2 (λ z. omega arith), ne-eqb n 3 (λ z. omega arith), ne-eqb n 4 (λ z. omega arith), ne-eqb n 5 (λ z. omega arith)) refl
+      stack-kind : (n : ℕ) → 7 ≤ n → valueWith ValVar h n a b ≡ Junk
+      stack-kind n l = rw (ne-eqb n 0 (λ z. omega arith), ne-eqb n 2 (λ z. omega arith), ne-eqb n 3 (λ z. omega arith), ne-eqb n 4 (λ z. omega arith), ne-eqb n 5 (λ z. omega arith), ne-eqb n 6 (λ z. omega arith)) refl
 
 module _ (τ : RowTable) (n : ℕ) (small : (x : ℕ) → x < n → SmallRow (rowAt τ x)) where
   -- r1 of the row t
@@ -69,6 +70,7 @@ module _ (τ : RowTable) (n : ℕ) (small : (x : ℕ) → x < n → SmallRow (ro
   of-value h l (ValFill j) xs = omega arith
   of-value h l (Tuple p c) xs = omega arith
   of-value h l (Pointer s) xs = omega arith
+  of-value h l (Hidden x) xs = omega arith
   of-value h l (Code s p) xs = of-registers h l (getD (τ .parts) p 0) (partsOf (meanV τ) (τ .parts) true h (suc p) 7)
 
   pub few-samples : (c : ℕ) (xs : List Instr) → declared (blockOf (typeAt value (typesOf (rowsIn τ n)) c) xs .regs) ≤ 16

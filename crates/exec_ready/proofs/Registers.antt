@@ -6,16 +6,17 @@ use mathlib.Core.Bool.{Bool, true, false, _&&_, cond}
 use mathlib.Core.Option.{Option, none, some}
 use mathlib.Core.List.{List, [], _∷_, map}
 use lib.Dec.{eqb, leb, ltb}
-use lib.ListN.{length, getD}
+use lib.ListN.{length}
 use borrow.Author.Tests.{leb-true, eqb-true, eqb-false, ltb-true, ltb-false}
 use Rattle.syntax.specs.Partial.{chain, guarded}
-use Rattle.syntax.specs.Syntax.{Row, rowI, rowN, rowE, rowV, rowX, rowP, rowK, rowA, Base, reg, lit, lab, Operand, plain, inst, Arith, add, sub, mul, Branch, beq, bneq, bgt, blt, bgte, blte, Instr, aop, bop, mov, ld, st, malloc, getsp, setsp, salloc, sfree, sld, sst, slp, ssp, jmp, halt, Entry, row, block, instr}
+use Rattle.syntax.specs.Syntax.{Row, rowI, rowN, rowE, rowV, rowX, rowP, rowH, rowK, rowA, Base, reg, lit, lab, Operand, plain, inst, pack, Arith, add, sub, mul, Branch, beq, bneq, bgt, blt, bgte, blte, Instr, aop, bop, mov, ld, st, malloc, getsp, setsp, salloc, sfree, sld, sst, slp, ssp, jmp, halt, unpack, Entry, row, block, instr}
 use Rattle.text.specs.Bytes.{bytes, sameBytes, split, literal, Line, ended, unended, fieldsOf, linesOf, isDecimal, spelled, number}
-use Rattle.text.specs.Grammar.{Field, Form, _>>=_, end, each, rest, rowNumber, labelNumber, register, carrier, orLiteral, carried, fromParts, operand, Named, arith as arithForm, branch, forms, formNamed, entryOf, parse}
+use Rattle.text.specs.Grammar.{Field, Form, _>>=_, end, each, rest, rowNumber, labelNumber, register, carrier, orLiteral, carried, packed, before, fromParts, operand, Named, arith as arithForm, branch, forms, formNamed, entryOf, parse}
 use Rattle.text.specs.PassOne.{said, entriesOf, Listing, grouped, listingsOf}
-use Rattle.tables.specs.Tables.{cell, span, OperandTable, baseOf, operandOf, operandAt, operandsAt, instrFrom, instrAt, instrsFrom, blocksFrom}
+use Rattle.tables.specs.Tables.{cell, OperandTable, operandAt, operandsAt, instrFrom, instrAt, instrsFrom, blocksFrom}
 use Rattle.exec_words.specs.memory.Lent.{operandTable}
 use Rattle.exec_machine.specs.Represents.{LowBase, LowOperand, LowOperands, Registered}
+use Rattle.exec_machine.proofs.Low.{low-base, low-operand}
 
 -- ---- what holds of a value that may be missing
 unfoldable Given : {A : Type 0} → (A → Type 0) → Option A → Type 0
@@ -72,22 +73,52 @@ carried-low (b ∷ ts) t = go (carrier b) (carrier-low b) (each rowNumber ts) (r
     go (some c) h (some rs) (some r) true = h
     go (some c) h (some rs) (some r) false = tt
 
+base-low : (b : Field) → Given LowBase (orLiteral (carrier b) b)
+unfolding Given
+base-low b = go (carrier b) (carrier-low b)
+  where
+    literal-low : (o : Option ℕ) → Given LowBase (chain o (λ n. some (lit n)))
+    literal-low none = tt
+    literal-low (some n) = tt
+
+    go : (o : Option Base) → Given LowBase o → Given LowBase (orLiteral o b)
+    go none h = literal-low (literal b)
+    go (some c) h = h
+
+packed-low : (ps : List Field) (t : Field) → Given LowOperand (packed ps t)
+unfolding Given packed
+packed-low [] t = tt
+packed-low (a ∷ []) t = tt
+packed-low (a ∷ b ∷ []) t = go (rowNumber a) (orLiteral (carrier b) b) (base-low b) (rowNumber t)
+  where
+    go : (u : Option ℕ) (o : Option Base) → Given LowBase o → (n : Option ℕ) → Given LowOperand (chain u (λ u. chain o (λ c. chain n (λ h. some (pack u c h)))))
+    go none o h n = tt
+    go (some u) none h n = tt
+    go (some u) (some c) h none = tt
+    go (some u) (some c) h (some r) = h
+packed-low (a ∷ b ∷ c ∷ fs) t = tt
+
+before-low : (l t : Field) → Given LowOperand (before l t)
+unfolding Given before
+before-low [] t = tt
+before-low (b ∷ l) t = go (eqb b 33)
+  where
+    go : (x : Bool) → Given LowOperand (cond x (packed (split 58 l) t) (carried (split 58 (b ∷ l)) t))
+    go true = packed-low (split 58 l) t
+    go false = carried-low (split 58 (b ∷ l)) t
+
 operand-low : (f : Field) → Given LowOperand (operand f)
 unfolding Given operand
 operand-low f = go (split 61 f)
   where
-    literal-low : (o : Option ℕ) → Given LowOperand (chain (chain o (λ n. some (lit n))) (λ c. some (plain c)))
-    literal-low none = tt
-    literal-low (some n) = tt
-
-    base : (b : Field) (o : Option Base) → Given LowBase o → Given LowOperand (chain (orLiteral o b) (λ c. some (plain c)))
-    base b none h = literal-low (literal b)
-    base b (some c) h = h
+    base : (o : Option Base) → Given LowBase o → Given LowOperand (chain o (λ c. some (plain c)))
+    base none h = tt
+    base (some c) h = h
 
     go : (ps : List Field) → Given LowOperand (fromParts ps)
     go [] = tt
-    go (b ∷ []) = base b (carrier b) (carrier-low b)
-    go (l ∷ t ∷ []) = carried-low (split 58 l) t
+    go (b ∷ []) = base (orLiteral (carrier b) b) (base-low b)
+    go (l ∷ t ∷ []) = before-low l t
     go (l ∷ t ∷ u ∷ ps) = tt
 
 operands-low : (fs : List Field) → Given LowOperands (each operand fs)
@@ -160,6 +191,10 @@ arith-low o = field _ register-low _ (λ d h. field _ register-low _ (λ s k. fi
 branch-low : (o : Branch) → Low (branch o)
 branch-low o = field _ register-low _ (λ r h. field _ operand-low _ (λ v l. ends (instr (bop o r v)) (h, l)))
 
+-- a register and an operand: `mov` and `unpack`
+moving-low : (x : ℕ → Operand → Instr) → ((d : ℕ) (v : Operand) → d < 8 → LowOperand v → Registered (x d v)) → Low (register >>= λ d. operand >>= λ v. end (instr (x d v)))
+moving-low x g = field _ register-low _ (λ d h. field _ operand-low _ (λ v l. ends (instr (x d v)) (g d v h l)))
+
 -- every form of a list
 infixr 50 _also_
 data AllForms : List Named → Type 0 where
@@ -175,6 +210,7 @@ forms-low =
     also other-rows _ _ _
     also any _ _ (λ s. ends (row (rowP s)) tt)
     also any _ _ (λ q. any _ _ (λ s. other-rows _ _ _))
+    also any _ _ (λ t. ends (row (rowH t)) tt)
     also ends (row rowE) tt
     also any _ _ (λ k. ends (row (rowX k)) tt)
     also any _ _ (λ t. any _ _ (λ s. ends (row (rowK t s)) tt))
@@ -189,7 +225,7 @@ forms-low =
     also branch-low blt
     also branch-low bgte
     also branch-low blte
-    also field _ register-low _ (λ d h. field _ operand-low _ (λ v l. ends (instr (mov d v)) (h, l)))
+    also moving-low mov (λ d v h l. (h, l))
     also field _ register-low _ (λ d h. field _ register-low _ (λ s k. any _ _ (λ i. ends (instr (ld d s i)) (h, k))))
     also field _ register-low _ (λ d h. any _ _ (λ i. field _ register-low _ (λ s k. ends (instr (st d i s)) (h, k))))
     also field _ register-low _ (λ d h. any _ _ (λ t. others _ _ (λ vs. instr (malloc d t vs)) operands-low (λ vs l. (h, l))))
@@ -203,6 +239,7 @@ forms-low =
     also field _ register-low _ (λ d h. any _ _ (λ i. field _ register-low _ (λ s k. any _ _ (λ t. ends (instr (ssp d i s t)) (h, k)))))
     also field _ operand-low _ (λ v h. ends (instr (jmp v)) h)
     also any _ _ (λ t. ends (instr (halt t)) tt)
+    also moving-low unpack (λ d v h l. (h, l))
     also no-more
 
 -- ---- lines
@@ -293,21 +330,8 @@ module _ (os ns args : List ℕ) where
   abbrev bare : OperandTable
   bare = operandTable os ns
 
-  low-base : (b : Base) (ts : List ℕ) (t : ℕ) → LowOperand (operandOf b ts t) → LowBase b
-  unfolding operandOf
-  low-base b [] t h = h
-  low-base b (a ∷ ts) t h = h
-
-  low-again : (b : Base) (ts : List ℕ) (t : ℕ) → LowBase b → LowOperand (operandOf b ts t)
-  unfolding operandOf
-  low-again b [] t h = h
-  low-again b (a ∷ ts) t h = h
-
   low-bare : (v : ℕ) → LowOperand (operandAt full v) → LowOperand (operandAt bare v)
-  unfolding operandAt
-  low-bare v h =
-      let b : Base = baseOf (cell 4 os v 0) (getD ns v 0) in
-      low-again b (span [] (cell 4 os v 3) (cell 4 os v 1)) (cell 4 os v 2) (low-base b (span args (cell 4 os v 3) (cell 4 os v 1)) (cell 4 os v 2) h)
+  low-bare v h = low-operand bare v (low-base full v h)
 
   low-all : (v n : ℕ) → LowOperands (operandsAt full v n) → LowOperands (operandsAt bare v n)
   unfolding operandsAt
@@ -342,7 +366,8 @@ module _ (os ns args : List ℕ) where
       (either (eqb k 18) _ _ _ _ (λ h. h)
       (either (eqb k 19) _ _ _ _ (λ h. h)
       (either (eqb k 20) _ _ _ _ (λ h. h)
-      (either (eqb k 21) _ _ _ _ (low-bare v) (λ h. h))))))))))))))))))))))
+      (either (eqb k 21) _ _ _ _ (low-bare v)
+      (either (eqb k 23) _ _ _ _ (λ h. (h .0, low-bare v (h .1))) (λ h. h)))))))))))))))))))))))
 
 -- ---- tables that stand for a text
 pub registers-low : (text β ι os ns args : List ℕ) (ni nb : ℕ) → blocksFrom β ι (record { operands = os; numbers = ns; args = args }) ni 0 nb ≡ listingsOf (entriesOf text) → 0 < nb → cell 2 β 0 1 ≡ 0 → (j : ℕ) → j < ni → Registered (instrAt ι (operandTable os ns) j)

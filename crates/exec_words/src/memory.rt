@@ -6,7 +6,7 @@ ghost use Prim.Native.Nat.{_+_, _<_, _≤_};
 ghost use lib.ListN.{length, set as setAt, getD, replicate};
 ghost use Rattle.exec.specs.Machine.{at, put, puts, junkKind, junkWord, wordOf};
 ghost use Rattle.tables.specs.Tables.{cell, operandAt};
-ghost use Rattle.exec_words.specs.memory.Lent.{wordIs, lent, operandTable, tupleOf, Sourced, Long, WordAt, OperandAt};
+ghost use Rattle.exec_words.specs.memory.Lent.{wordIs, lent, operandTable, baseKind, KindOf, tupleOf, Sourced, Long, WordAt, OperandAt};
 
 // The kinds of words: an integer.
 pub const INT: u8 = 0;
@@ -144,7 +144,24 @@ pub fn entry(table: &[u16], width: usize, i: usize, k: usize) -> usize
     0
 }
 
-// Write at i the word that operand v stands for: a register's, an integer or a label. Its base's number stands in `bases`.
+// The kind of an operand's base, from the operand's: 0 register, 1 integer, past that label. A package has its base's kind and 4, which
+// is taken off with no test, since `malloc` reads kinds as it runs.
+fn plain_kind(k: usize) -> usize
+    ensures { λ r. ⌜ KindOf k r ⌝ }
+{
+    k - k / 4 % 2 * 4
+}
+
+// The same, 2 for a label.
+pub fn base_kind(k: usize) -> usize
+    ensures { λ r. ⌜ (r ≡ baseKind k) × (r < 3) ⌝ }
+{
+    let b = plain_kind(k);
+    if b < 2 { b } else { 2 }
+}
+
+// Write at i the word that operand v stands for: a register's, an integer or a label; a package is its base. Its base's number stands in
+// `bases`.
 fn put_operand(
     kinds: &mut [u8],
     numbers: &mut [u32],
@@ -158,7 +175,7 @@ fn put_operand(
     requires { ⌜ WordAt i (now kinds) (now numbers) × Long 8 (now rk) (now rn) × OperandAt (now operands) (now bases) v ⌝ }
     ensures { λ _. ⌜ lent (now (kinds .exit)) (now (numbers .exit)) ≡ put (lent (now (kinds .entry)) (now (numbers .entry))) i (wordOf (lent (now (rk .entry)) (now (rn .entry))) (operandAt (operandTable (now (operands .entry)) (now (bases .entry))) v)) ⌝ }
 {
-    let k = operands[4 * v];
+    let k = plain_kind(wide16(operands[4 * v]));
     let m = bases[v];
     if k == 0 {
         set(kinds, numbers, i, get(rk, rn, wide(m)));

@@ -25,7 +25,7 @@ by-plan i n p g h =
     let f : leb 16400 n ≡ true = le-leb 16400 n h in
     rw e (rw f refl)
 
-pub by-work : (i n p w : ℕ) (b : Bool) → b ≡ enough i n p → b ≡ true → leb 4096 w ≡ enoughToCheck i n p w
+pub by-work : (i n p w : ℕ) (b : Bool) → b ≡ enough i n p → b ≡ true → leb 8192 w ≡ enoughToCheck i n p w
 unfolding enoughToCheck
 by-work i n p w b e z = rw (← e, z) refl
 
@@ -45,9 +45,9 @@ enough-is i n p e =
     let b = both (leb 161694 i) (leb 16400 n) (a .0) in
     (leb-true 161694 i (b .0), leb-true 16400 n (b .1), leb-true 8208 p (a .1))
 
-pub to-check-is : (i n p w : ℕ) → enoughToCheck i n p w ≡ true → (161694 ≤ i) × (16400 ≤ n) × (8208 ≤ p) × (4096 ≤ w)
+pub to-check-is : (i n p w : ℕ) → enoughToCheck i n p w ≡ true → (161694 ≤ i) × (16400 ≤ n) × (8208 ≤ p) × (8192 ≤ w)
 unfolding enoughToCheck
 to-check-is i n p w e =
-    let a = both (enough i n p) (leb 4096 w) e in
+    let a = both (enough i n p) (leb 8192 w) e in
     let b = enough-is i n p (a .0) in
-    (b .0, b .1, b .2, leb-true 4096 w (a .1))
+    (b .0, b .1, b .2, leb-true 8192 w (a .1))

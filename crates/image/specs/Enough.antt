@@ -10,7 +10,7 @@ enough image numbers plan = leb 161694 image && leb 16400 numbers && leb 8208 pl
 
 -- with work, they are long enough to check every text
 unfoldable pub enoughToCheck : ℕ → ℕ → ℕ → ℕ → Bool
-enoughToCheck image numbers plan work = enough image numbers plan && leb 4096 work
+enoughToCheck image numbers plan work = enough image numbers plan && leb 8192 work
 
 -- what is too short is left as it was
 abbrev pub Left : {A : Type 0} → Bool → A → A → Type 0

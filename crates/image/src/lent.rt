@@ -21,7 +21,7 @@ pub fn is_enough_to_check(image: usize, numbers: usize, plan: usize, work: usize
     ensures { λ r. ⌜ r ≡ enoughToCheck image numbers plan work ⌝ }
 {
     if is_enough(image, numbers, plan) {
-        return 4096 <= work;
+        return 8192 <= work;
     }
     false
 }

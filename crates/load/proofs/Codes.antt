@@ -10,7 +10,7 @@ use lib.Dec.{ltb, leb·suc-suc}
 use lib.ListN.{length, getElem?}
 use borrow.Author.Tests.{lt-ltb, le-ltb, ltb-true}
 use Rattle.syntax.specs.Partial.{guarded}
-use Rattle.syntax.specs.Syntax.{value, Row, rowI, rowN, rowE, rowV, rowX, rowP, rowU, rowK, rowA, rowC, Instr, Entry, instr}
+use Rattle.syntax.specs.Syntax.{value, Row, rowI, rowN, rowE, rowV, rowX, rowP, rowH, rowU, rowK, rowA, rowC, Instr, Entry, instr}
 use Rattle.syntax.specs.Fault.{Clear, given}
 use Rattle.syntax.proofs.Least.{given-none}
 use Rattle.text.specs.PassOne.{Listing}
@@ -95,6 +95,7 @@ module _ (xs : List Instr) where
   label-of A (rowU ts) e = none-true e
   label-of A (rowP s) e = none-true e
   label-of A (rowC q s rs) e = refl
+  label-of A (rowH t) e = none-true e
   label-of A rowE e = none-true e
   label-of A (rowX k) e = none-true e
   label-of A (rowK t s) e = none-true e

@@ -10,7 +10,7 @@ use Rattle.syntax.specs.Bits.{signed}
 use Rattle.syntax.specs.Syntax.{stack, Row, rowI, rowE, rowX, rowK, rowA, add, salloc}
 use Rattle.syntax.specs.Fault.{given, numberOf, firstItem, lowest, lowestLine, earliest}
 use Rattle.text.specs.Bytes.{bytes, sameBytes, split, linesFrom, linesOf, fieldsOf, isDigit, allDigits, isDecimal, spelled, number, literal}
-use Rattle.text.specs.Grammar.{_>>=_, end, each, rest, rowNumber, index, amount, labelNumber, register, letter, eachLetter, letters, known, carrier, carried, operand, forms, formNamed, entryOf, parse}
+use Rattle.text.specs.Grammar.{_>>=_, end, each, rest, rowNumber, index, amount, labelNumber, register, letter, eachLetter, letters, known, carrier, carried, before, operand, forms, formNamed, entryOf, parse}
 use Rattle.text.specs.PassOne.{isLast, placeAfter, inOrder, mayEnd, counted, tooMany, lineFaults, linesFaults, passOne, said, entriesOf, rowsOf, grouped, listingsOf}
 use Rattle.text.specs.Samples.{sample, samplesFrom, samplesOf}
 use Rattle.types.specs.Types.{join, items, variable, below, walk, raising, raise, kindOf, ofKind, place, filling, fill, fitsKind, meets, filled}
@@ -76,7 +76,7 @@ pub record Marked : Type 0 where
 
 -- all of them hold
 pub marked : Marked
-unfolding given numberOf firstItem lowest lowestLine earliest bytes sameBytes split linesFrom linesOf fieldsOf isDigit allDigits isDecimal spelled number literal _>>=_ end each rest rowNumber index amount register letter eachLetter letters known labelNumber carrier carried operand forms formNamed entryOf parse isLast placeAfter inOrder mayEnd counted tooMany lineFaults linesFaults passOne said entriesOf rowsOf grouped listingsOf join items variable below walk raising raise kindOf ofKind place filling fill fitsKind meets filled same sameLetters typeAt components registers inTurn meaning typesOf isValue isCode isOf knownRefs rowRefs operandRefs operandsRefs names baseLabels labels isSort allBelow allOfSort total sizeOf sizesOf rowFaults rowsFaults refsFaults instrFaults entriesFaults passTwo blockOf blocksOf programFrom programOf junks ints entryRegs faultsOf _▹_ _&_ orFault need noneOf itemAt replaced under above asInt asTuple asPointer asCode isKind isStack isFile isFormed formedArg formedArgs formed three.known integerAt tupleAt pointerAt assign labelType base lettersLeft isFilled applied three.operand operands unfits noneLeft targetOf newTail judge bodyFaults declared isEntry blockFaults blocksFaults hasNone passThree passes instrCount check at put puts flat startOf fetch compute signOf taken baseWord wordOf only unless jump exec step after runs run budget wordsFrom tupleLength endToEnd startsAt goodWord goodWords goodForm longEnough answerOf outcome bodies wanted barred initial starting continuing sample samplesFrom samplesOf passTwoOf signed
+unfolding given numberOf firstItem lowest lowestLine earliest bytes sameBytes split linesFrom linesOf fieldsOf isDigit allDigits isDecimal spelled number literal _>>=_ end each rest rowNumber index amount register letter eachLetter letters known labelNumber carrier carried before operand forms formNamed entryOf parse isLast placeAfter inOrder mayEnd counted tooMany lineFaults linesFaults passOne said entriesOf rowsOf grouped listingsOf join items variable below walk raising raise kindOf ofKind place filling fill fitsKind meets filled same sameLetters typeAt components registers inTurn meaning typesOf isValue isCode isOf knownRefs rowRefs operandRefs operandsRefs names baseLabels labels isSort allBelow allOfSort total sizeOf sizesOf rowFaults rowsFaults refsFaults instrFaults entriesFaults passTwo blockOf blocksOf programFrom programOf junks ints entryRegs faultsOf _▹_ _&_ orFault need noneOf itemAt replaced under above asInt asTuple asPointer asCode isKind isStack isFile isFormed formedArg formedArgs formed three.known integerAt tupleAt pointerAt assign labelType base lettersLeft isFilled applied three.operand operands unfits noneLeft targetOf newTail judge bodyFaults declared isEntry blockFaults blocksFaults hasNone passThree passes instrCount check at put puts flat startOf fetch compute signOf taken baseWord wordOf only unless jump exec step after runs run budget wordsFrom tupleLength endToEnd startsAt goodWord goodWords goodForm longEnough answerOf outcome bodies wanted barred initial starting continuing sample samplesFrom samplesOf passTwoOf signed
 marked = record {
   t-accepted = refl;
   t-run = refl;
@@ -122,7 +122,7 @@ pub record Examples : Type 0 where
 
 -- all of them hold
 pub examples : Examples
-unfolding given numberOf firstItem lowest lowestLine earliest bytes sameBytes split linesFrom linesOf fieldsOf isDigit allDigits isDecimal spelled number literal _>>=_ end each rest rowNumber index amount register letter eachLetter letters known labelNumber carrier carried operand forms formNamed entryOf parse isLast placeAfter inOrder mayEnd counted tooMany lineFaults linesFaults passOne said entriesOf rowsOf grouped listingsOf join items variable below walk raising raise kindOf ofKind place filling fill fitsKind meets filled same sameLetters typeAt components registers inTurn meaning typesOf isValue isCode isOf knownRefs rowRefs operandRefs operandsRefs names baseLabels labels isSort allBelow allOfSort total sizeOf sizesOf rowFaults rowsFaults refsFaults instrFaults entriesFaults passTwo blockOf blocksOf programFrom programOf junks ints entryRegs faultsOf _▹_ _&_ orFault need noneOf itemAt replaced under above asInt asTuple asPointer asCode isKind isStack isFile isFormed formedArg formedArgs formed three.known integerAt tupleAt pointerAt assign labelType base lettersLeft isFilled applied three.operand operands unfits noneLeft targetOf newTail judge bodyFaults declared isEntry blockFaults blocksFaults hasNone passThree passes instrCount check at put puts flat startOf fetch compute signOf taken baseWord wordOf only unless jump exec step after runs run budget wordsFrom tupleLength endToEnd startsAt goodWord goodWords goodForm longEnough answerOf outcome bodies wanted barred initial starting continuing sample samplesFrom samplesOf passTwoOf signed
+unfolding given numberOf firstItem lowest lowestLine earliest bytes sameBytes split linesFrom linesOf fieldsOf isDigit allDigits isDecimal spelled number literal _>>=_ end each rest rowNumber index amount register letter eachLetter letters known labelNumber carrier carried before operand forms formNamed entryOf parse isLast placeAfter inOrder mayEnd counted tooMany lineFaults linesFaults passOne said entriesOf rowsOf grouped listingsOf join items variable below walk raising raise kindOf ofKind place filling fill fitsKind meets filled same sameLetters typeAt components registers inTurn meaning typesOf isValue isCode isOf knownRefs rowRefs operandRefs operandsRefs names baseLabels labels isSort allBelow allOfSort total sizeOf sizesOf rowFaults rowsFaults refsFaults instrFaults entriesFaults passTwo blockOf blocksOf programFrom programOf junks ints entryRegs faultsOf _▹_ _&_ orFault need noneOf itemAt replaced under above asInt asTuple asPointer asCode isKind isStack isFile isFormed formedArg formedArgs formed three.known integerAt tupleAt pointerAt assign labelType base lettersLeft isFilled applied three.operand operands unfits noneLeft targetOf newTail judge bodyFaults declared isEntry blockFaults blocksFaults hasNone passThree passes instrCount check at put puts flat startOf fetch compute signOf taken baseWord wordOf only unless jump exec step after runs run budget wordsFrom tupleLength endToEnd startsAt goodWord goodWords goodForm longEnough answerOf outcome bodies wanted barred initial starting continuing sample samplesFrom samplesOf passTwoOf signed
 examples = record {
   no-form = refl;
   not-ended = refl;

@@ -22,7 +22,7 @@ use Rattle.sound.specs.Values.{Label, Has}
 use Rattle.sound.specs.Claim.{Witness, TypedState, Walk, here, onward, Ends, Starts, Call, starts, Story, ended, start-refused, started, continued, Demand3}
 use Rattle.sound.specs.Consequences.{outcomeOf, Each, Reached, in-start, in-continue, in-later, Premises, Sound, NeverStuck, HaltsWithIntegers, TellsInteger, AlwaysIntegers, AsTyped, ReachedAsTyped}
 use Rattle.sound.proofs.Memory.{use-length, use-at, top-length, top-at}
-use Rattle.sound.proofs.Words.{fits-at, walk-at}
+use Rattle.sound.proofs.Words.{Is, is, fits-at, walk-at}
 use Rattle.sound.proofs.Heaps.{heap-read}
 
 -- a label's block is one of the program's
@@ -39,6 +39,9 @@ module _ (P : Program) (σ : State) (ω : Witness) (t : TypedState P σ ω) wher
       let l : r < 8 = rw (use-length (σ .registers) 8) at (k .lt) in
       rw (use-at (σ .registers) 8 r l) at (k .has)
 
+  holds : {r : ℕ} {τ : Ty value} → At (t .Γ .regs) r τ → Is P (ω .Ψ) (at (σ .registers) r) (fill 0 (ω .Θ) τ)
+  holds x = is P (ω .Ψ) (register x)
+
   -- so does a stack item
   item : {j : ℕ} {τ : Ty value} → At (t .Γ .sp) j τ → (j < σ .depth) × Has P (ω .Ψ) (at (σ .stack) (σ .depth - suc j)) (fill 0 (ω .Θ) τ)
   unfolding fill
@@ -53,17 +56,18 @@ module _ (P : Program) (σ : State) (ω : Witness) (t : TypedState P σ ω) wher
     l = ω .l;
     i = ω .i;
     B = ω .B;
+    Δ = t .Δ;
     Γ = t .Γ;
     block = t .block;
     place = t .place;
     rules = t .rules;
     filled = record { Θ = ω .Θ; closed = t .picks; closed-sp = t .closed-sp; closed-regs = t .closed-regs; depth = t .depth };
     heap = record { Ψ = ω .Ψ; closed = t .closed-tuples; holds = t .heap };
-    register = λ x. register x;
-    item = λ x. item x;
-    component = λ {r} x y. heap-read P (ω .Ψ) (σ .heap) (σ .used) (register x .1) (t .heap) .component (walk-at (filling (ω .Θ)) 0 y);
-    label = λ x. let h = register x in (h .0, label-known P (h .1));
-    top = λ x. register x ∙ ap height (t .depth);
+    register = λ x. holds x;
+    item = λ x. let h = item x in (h .0, is P (ω .Ψ) (h .1));
+    component = λ {r} x y. is P (ω .Ψ) (heap-read P (ω .Ψ) (σ .heap) (σ .used) (holds x .1) (t .heap) .component (walk-at (filling (ω .Θ)) 0 y));
+    label = λ x. let h = holds x in (h .0, label-known P (h .1));
+    top = λ x. holds x ∙ ap height (t .depth);
   }
 
 -- ---- the states of a walk
@@ -107,7 +111,8 @@ ends-integer : (text : List ℕ) → HaltsWithIntegers text → (σ : State) (ω
 ends-integer text h σ ω c (refused n line) e = tt
 ends-integer text h σ ω c (haltedAfter n kind number) e =
     let t = int-row text (e .t) (h (σ .position) (e .t) (unfold fetch in e .at-halt)) in
-    unfold fill walk in rw t at (e .result)
+    let h : Has (programOf text) (ω .Ψ) (record { kind = kind; number = number }) int = unfold fill walk in rw t at (e .result) in
+    is (programOf text) (ω .Ψ) h
 ends-integer text h σ ω c (pausedAfter n) e = tt
 ends-integer text h σ ω c (stackFullAfter n) e = tt
 ends-integer text h σ ω c (heapFullAfter n) e = tt

@@ -10,7 +10,7 @@ use Rattle.valid.specs.Program.{Program}
 use Rattle.valid.specs.Rules.{start, atStart, ints, entryRegs, Typed}
 use Rattle.exec.specs.Machine.{Word, integer, handle, junkWord, Memory, puts, State, flat, startOf}
 use Rattle.exec.specs.Run.{wordsFrom, initial}
-use Rattle.sound.specs.Values.{Tuples, made, Fits, empty}
+use Rattle.sound.specs.Values.{Tuples, made, is-int, is-tuple, Fits, empty}
 use Rattle.sound.specs.Claim.{fromTop}
 use Rattle.sound.proofs.Memory.{Long, puts-long, use-puts}
 use Rattle.sound.proofs.Words.{g-int, g-tuple, AllGood, good-puts, good-junks}
@@ -33,7 +33,7 @@ module _ (P : Program) (Ψ : Tuples) where
   fits-ints : (xs : List ℕ) → Fits P Ψ (map integer xs) (ints (length xs))
   unfolding ints
   fits-ints [] = tt
-  fits-ints (x ∷ xs) = (refl, fits-ints xs)
+  fits-ints (x ∷ xs) = (is-int refl, fits-ints xs)
 
 good-ints : (Ψ : Tuples) (xs : List ℕ) → AllGood Ψ (map integer xs)
 good-ints Ψ [] = tt
@@ -56,7 +56,7 @@ unfolding entryRegs
 entry-fits P n = go (fill-ints n)
   where
     go : {c : Ty stack} → fill 0 [] c ≡ c → Fits P (c ∷ []) firstWords (fill 0 [] (push (tuple c) (gap (gap (gap (gap (gap (gap (gap nil)))))))))
-    go e = unfold fill walk in ((refl, rw e made), tt)
+    go e = unfold fill walk in (rw e (is-tuple refl made), tt)
 
 first-registers : (P : Program) (m : Memory) (n : ℕ) → Long m 8 → Registers P (ints n ∷ []) (puts m 0 firstWords) (fill 0 [] (entryRegs n))
 unfolding wordsFrom
@@ -74,6 +74,7 @@ first-inv P T xs σ e h r s m =
     record {
       block = T .has-first;
       place = unfold startOf flat in refl;
+      Δ = T .first .letters;
       Γ = atStart (T .first);
       rules = start;
       picks = rw (T .entry .binds-nothing) noargs;

@@ -2,13 +2,13 @@
 use Prim.Native.Nat.{ℕ, zero, suc}
 use mathlib.Core.Path.{_≡_}
 use mathlib.Core.Option.{some}
-use mathlib.Core.List.{List, [], append-nil}
+use mathlib.Core.List.{List, [], _∷_, append-nil}
 use lib.ListN.{getElem?}
 use Rattle.syntax.specs.Syntax.{Kind, value, stack, Base, Operand, Instr}
 use Rattle.types.specs.Types.{Ty, code, nil, push, svar, gap, join, Use, aStack, aTuple, aFile, Wf}
-use Rattle.types.proofs.Filling.{wf-more, wf-join, wf-use}
+use Rattle.types.proofs.Filling.{wf-more, wf-join, wf-use, raise-wf}
 use Rattle.valid.specs.Program.{Block, Program}
-use Rattle.valid.specs.Rules.{At, here, there, skip, Put, phere, pnew, pthere, pskip, Pops, pop0, pop1, junks, Context, OfBase, ⊢reg, ⊢int, ⊢label, OfOperand, ⊢plain, ⊢tapp, Rule, ⊢aop, ⊢bop, ⊢ld, ⊢malloc, ⊢mov, ⊢get-sp, ⊢set-sp, ⊢salloc, ⊢sfree, ⊢sld1, ⊢sld2, ⊢sst1, ⊢sst2, ⊢st, Before, start, next, Typed}
+use Rattle.valid.specs.Rules.{At, here, there, skip, Put, phere, pnew, pthere, pskip, Pops, pop0, pop1, junks, Context, OfBase, ⊢reg, ⊢int, ⊢label, OfOperand, ⊢plain, ⊢tapp, ⊢pack, Rule, ⊢aop, ⊢bop, ⊢ld, ⊢malloc, ⊢mov, ⊢get-sp, ⊢set-sp, ⊢salloc, ⊢sfree, ⊢sld1, ⊢sld2, ⊢sst1, ⊢sst2, ⊢st, ⊢unpack, lettersAfter, Before, start, next, Typed}
 
 module _ (Δ : List Kind) where
   wf-at : (u : Use) {a : Ty stack} {i : ℕ} {t : Ty value} → At a i t → Wf Δ u a → Wf Δ aStack t
@@ -51,8 +51,9 @@ module _ (P : Program) (T : Typed P) where
     operand-wf : {g : Ty stack} {v : Operand} {t : Ty value} → OfOperand P Δ g v t → Wf Δ aFile g → Wf Δ aStack t
     operand-wf (⊢plain x) w = base-wf x w
     operand-wf (⊢tapp q p a r xs x u z) w = u
+    operand-wf (⊢pack u t e x k z y) w = z
 
-    rule-wf : {Γ Γ′ : Context} {x : Instr} → Rule P Δ Γ x Γ′ → WfContext Δ Γ → WfContext Δ Γ′
+    rule-wf : {Γ Γ′ : Context} {x : Instr} → Rule P Δ Γ x Γ′ → WfContext Δ Γ → WfContext (lettersAfter x Δ) Γ′
     rule-wf (⊢aop x y p) w = (w .0, wf-put Δ aFile p (w .1) tt)
     rule-wf (⊢bop x y) w = w
     rule-wf (⊢ld c x y p) w = (w .0, wf-put Δ aFile p (w .1) (wf-at Δ aTuple y (wf-at Δ aFile x (w .1))))
@@ -69,7 +70,10 @@ module _ (P : Program) (T : Typed P) where
         let j = wf-put Δ aStack p (wf-at Δ aFile x (w .1)) (wf-at Δ aFile y (w .1)) in
         (wf-join Δ aStack a c (wf-above Δ a b (rw e at (w .0))) j, wf-put Δ aFile r (w .1) j)
     rule-wf (⊢st c t x y z) w = w
+    rule-wf {Γ} (⊢unpack l y p) w =
+        let g = raise-wf (value ∷ []) Δ aFile (Γ .regs) (w .1) in
+        (raise-wf (value ∷ []) Δ aStack (Γ .sp) (w .0), wf-put (value ∷ Δ) aFile p g (operand-wf y (w .1)))
 
-  pub before-wf : (l : ℕ) (B : Block) → getElem? (P .blocks) l ≡ some B → {i : ℕ} {Γ : Context} → Before P B i Γ → WfContext (B .letters) Γ
+  pub before-wf : (l : ℕ) (B : Block) → getElem? (P .blocks) l ≡ some B → {i : ℕ} {Δ : List Kind} {Γ : Context} → Before P B i Δ Γ → WfContext Δ Γ
   before-wf l B e start = let w = T .code l B e .formed in (rw append-nil at (w .0), rw append-nil at (w .1))
-  before-wf l B e (next b f r) = rule-wf (B .letters) r (before-wf l B e b)
+  before-wf l B e (next {Δ = Δ} b f r) = rule-wf Δ r (before-wf l B e b)

@@ -99,7 +99,7 @@ module _ (P : Program) (σ : State) (ω : Witness) (v : Inv P σ ω) where
   found : (x : Instr) (xs : List Instr) → drop (ω .i) (ω .B .body) ≡ x ∷ xs → σ .position < length (flat (bodies P))
   found x xs e = let f = fetch-is P σ (ω .l) (ω .i) (ω .B) x xs (v .block) (v .place) e in unfold fetch in get-lt (flat (bodies P)) (σ .position) x f
 
-  at-instruction : {rest : List Instr} → drop (ω .i) (ω .B .body) ≡ rest → Seq P (ω .B .letters) (v .Γ) rest → σ .position < length (flat (bodies P))
+  at-instruction : {rest : List Instr} → drop (ω .i) (ω .B .body) ≡ rest → Seq P (v .Δ) (v .Γ) rest → σ .position < length (flat (bodies P))
   at-instruction e (⊢seq {x = x} {xs = xs} r q) = found x xs e
   at-instruction e (⊢jmp {v = o} t) = found (jmp o) [] e
   at-instruction e (⊢halt {t = t} a w) = found (halt t) [] e

@@ -9,13 +9,13 @@ use mathlib.Core.List.{List, [], _∷_, _++_, map, append-assoc, append-nil}
 use lib.ListN.{length, length-append, length-map}
 use Rattle.syntax.specs.Partial.{guarded}
 use Rattle.syntax.specs.Syntax.{Kind, value, stack, Base, Operand}
-use Rattle.types.specs.Types.{Ty, code, Arg, walk, filling, fill, fillArg, meets, filled, Use, aStack, aFile, Wf, Args, noargs}
-use Rattle.types.proofs.Filling.{walk-closed, filling-low, filling-closed, fill-fill, close-fill-commute, close-args, args-app, args-len}
+use Rattle.types.specs.Types.{Ty, hidden, code, Arg, arg, walk, filling, fill, fillArg, meets, filled, Use, aStack, aFile, Wf, Args, noargs}
+use Rattle.types.proofs.Filling.{walk-closed, filling-low, filling-closed, fill-fill, close-fill-commute, fill-wf, close-args, args-app, args-len}
 use Rattle.valid.specs.Program.{Program, typeOf, argsOf}
-use Rattle.valid.specs.Rules.{At, OfBase, ⊢reg, ⊢int, ⊢label, OfOperand, ⊢plain, ⊢tapp, OfOperands, ⊢none, ⊢more, Named, n-nil, n-same, n-any, n-gap, Typed}
+use Rattle.valid.specs.Rules.{At, OfBase, ⊢reg, ⊢int, ⊢label, OfOperand, ⊢plain, ⊢tapp, ⊢pack, OfOperands, ⊢none, ⊢more, Named, n-nil, n-same, n-any, n-gap, Typed}
 use Rattle.exec.specs.Machine.{Word, Memory, at, baseWord, wordOf}
-use Rattle.sound.specs.Values.{Tuples, Label, Has, Fits}
-use Rattle.sound.proofs.Words.{g-int, g-code, AllGood, Holds, walk-at}
+use Rattle.sound.specs.Values.{Tuples, Label, Has, is-int, is-label, is-package, Fits}
+use Rattle.sound.proofs.Words.{g-int, g-code, AllGood, Holds, is, walk-at}
 use Rattle.sound.proofs.Parts.{Registers, register-read}
 
 -- ---- filling
@@ -31,6 +31,10 @@ filled-is A q a r t e = go (meets A (length q) a && meets A (length q) r) (code 
 pub fill-code : (Θ : List Arg) (q : List Kind) (a r : Ty stack) → fill 0 Θ (code q a r) ≡ code q (fill (length q) Θ a) (fill (length q) Θ r)
 unfolding fill walk
 fill-code Θ q a r = rw add-zero
+
+pub fill-hidden : (Θ : List Arg) (t : Ty value) → fill 0 Θ (hidden t) ≡ hidden (fill 1 Θ t)
+unfolding fill walk
+fill-hidden Θ t = refl
 
 fill-none : (q : List Kind) (u : Use) (a : Ty stack) → Wf (q ++ []) u a → fill (length q) [] a ≡ a
 unfolding fill
@@ -52,13 +56,13 @@ module _ (P : Program) (T : Typed P) (Ψ : Tuples) (Θ : List Arg) (Δ : List Ki
   base-holds : {b : Base} {t : Ty value} → OfBase P Δ g b t → Holds P Ψ (baseWord R b) (fill 0 Θ t)
   unfolding baseWord
   base-holds (⊢reg x) = register-holds x
-  base-holds ⊢int = record { good = g-int refl; has = unfold fill walk in refl }
+  base-holds ⊢int = record { good = g-int refl; has = unfold fill walk in is-int refl }
   base-holds (⊢label {l = l} B e) =
       let w = T .code l B e .formed in
       let k : fill 0 Θ (code (B .letters) (B .sp) (B .regs)) ≡ code (B .letters) (B .sp) (B .regs) = unfold fill in filling-closed Θ 0 (code (B .letters) (B .sp) (B .regs)) w in
       record {
         good = g-code refl;
-        has = rw k (refl, record { B = B; θ = []; p = []; block = e; letters = rw append-nil; closed = noargs; stack-is = sym (fill-none (B .letters) aStack (B .sp) (w .0)); regs-are = sym (fill-none (B .letters) aFile (B .regs) (w .1)) });
+        has = rw k (is-label {q = B .letters} refl (record { B = B; θ = []; p = []; block = e; letters = rw append-nil; closed = noargs; stack-is = sym (fill-none (B .letters) aStack (B .sp) (w .0)); regs-are = sym (fill-none (B .letters) aFile (B .regs) (w .1)) }));
       }
 
   -- the heart of type application: the label's arguments grow by the new ones, closed
@@ -77,13 +81,17 @@ module _ (P : Program) (T : Typed P) (Ψ : Tuples) (Θ : List Arg) (Δ : List Ki
       }
 
   pub operand-holds : {v : Operand} {t : Ty value} → OfOperand P Δ g v t → Holds P Ψ (wordOf R v) (fill 0 Θ t)
-  unfolding wordOf
+  unfolding wordOf fillArg
   operand-holds (⊢plain x) = base-holds x
   operand-holds (⊢tapp {b = b} {ts = ts} {t = t} q p a r xs x w z) =
       let L = q ++ p in
       let k = base-holds x in
-      let h : Has P Ψ (baseWord R b) (code L (fill (length L) Θ a) (fill (length L) Θ r)) = rw fill-code at (k .has) in
-      record { good = k .good; has = rw (filled-is (argsOf P ts) q a r (typeOf P t) z, fill-code) (h .0, relabel L q p a r (h .1) refl xs) }
+      let h = is P Ψ {t = code L (fill (length L) Θ a) (fill (length L) Θ r)} (rw fill-code at (k .has)) in
+      record { good = k .good; has = rw (filled-is (argsOf P ts) q a r (typeOf P t) z, fill-code) (is-label (h .0) (relabel L q p a r (h .1) refl xs)) }
+  operand-holds (⊢pack u t e w k z x) =
+      let j = base-holds x in
+      let i = rw (close-fill-commute Θ Δ c (arg value u ∷ []) 0 t) at (j .has) in
+      record { good = j .good; has = rw (k, fill-hidden) (is-package (fill 0 Θ u) (fill-wf Θ Δ c aStack u w) i) }
 
   pub operands-hold : {vs : List Operand} {a : Ty stack} → OfOperands P Δ g vs a → AllGood Ψ (map (wordOf R) vs) × Fits P Ψ (map (wordOf R) vs) (fill 0 Θ a)
   unfolding fill walk

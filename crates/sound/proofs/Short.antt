@@ -8,11 +8,11 @@ use mathlib.Core.List.{List, [], _∷_, _++_, map}
 use lib.Dec.{leb→le}
 use lib.ListN.{length, getD, getElem?}
 use Rattle.syntax.specs.Partial.{chain, guarded}
-use Rattle.syntax.specs.Syntax.{Kind, value, stack, Row, rowI, rowN, rowE, rowV, rowX, rowP, rowU, rowK, rowA, rowC, Instr, Entry, row, block, instr}
+use Rattle.syntax.specs.Syntax.{Kind, value, stack, Row, rowI, rowN, rowE, rowV, rowX, rowP, rowH, rowU, rowK, rowA, rowC, Instr, Entry, row, block, instr}
 use Rattle.text.specs.Bytes.{bytes, sameBytes, Line, ended, unended, fieldsOf, linesOf}
 use Rattle.text.specs.Grammar.{Form, _>>=_, end, each, rest, Named, forms, formNamed, entryOf, parse}
 use Rattle.text.specs.PassOne.{said, entriesOf, rowsOf, Listing, listingsOf}
-use Rattle.types.specs.Types.{Ty, int, junk, var, tuple, pointer, code, nil, push, svar, gap, join, items, Arg, arg, ofKind}
+use Rattle.types.specs.Types.{Ty, int, junk, var, tuple, pointer, hidden, code, nil, push, svar, gap, join, items, Arg, arg, ofKind}
 use Rattle.types.specs.Rows.{typeAt, components, registers, inTurn, meaning, typesOf}
 use Rattle.types.proofs.Equal.{to-so}
 use Rattle.valid.specs.Program.{Block, asCode, blockOf, blocksOf, programFrom, programOf}
@@ -29,6 +29,7 @@ ShortRow rowE = Unit
 ShortRow (rowV k) = Unit
 ShortRow (rowX k) = Unit
 ShortRow (rowP s) = Unit
+ShortRow (rowH t) = Unit
 ShortRow (rowU ts) = length ts ≤ 16
 ShortRow (rowK t s) = Unit
 ShortRow (rowA s₁ s₂) = Unit
@@ -99,6 +100,7 @@ forms-short =
     ▸ rest-short _ _ _ (λ ts e. leb→le (length ts) 16 (to-so _ e))
     ▸ then-short _ _ (λ s. end-short _ tt)
     ▸ then-short _ _ (λ q. then-short _ _ (λ s. rest-short _ _ _ (λ ts e. tt)))
+    ▸ then-short _ _ (λ t. end-short _ tt)
     ▸ end-short _ tt
     ▸ then-short _ _ (λ k. end-short _ tt)
     ▸ then-short _ _ (λ t. then-short _ _ (λ s. end-short _ tt))
@@ -127,6 +129,7 @@ forms-short =
     ▸ then-short _ _ (λ d. then-short _ _ (λ i. then-short _ _ (λ s. then-short _ _ (λ t. end-short _ tt))))
     ▸ then-short _ _ (λ v. end-short _ tt)
     ▸ then-short _ _ (λ t. end-short _ tt)
+    ▸ then-short _ _ (λ d. then-short _ _ (λ v. end-short _ tt))
     ▸ no-more
 
 named-short : {ns : List Named} → AllRead ns → (f : List ℕ) → Reads (formNamed ns f)
@@ -176,6 +179,7 @@ Small junk = Unit
 Small (var k) = Unit
 Small (tuple a) = (items a ≤ 16) × Small a
 Small (pointer a) = Small a
+Small (hidden t) = Small t
 Small (code q a r) = Small a × Small r
 Small nil = Unit
 Small (push t a) = Small t × Small a
@@ -232,6 +236,7 @@ module _ (A : List Arg) (h : AllSmallArgs A) where
   small-meaning (rowV k) s = tt
   small-meaning (rowX k) s = tt
   small-meaning (rowP r) s = small-at stack r
+  small-meaning (rowH t) s = small-at value t
   small-meaning (rowU ts) s = let k = small-components ts in let e = k .1 in (omega arith, k .0)
   small-meaning (rowK t r) s = (small-at value t, small-at stack r)
   small-meaning (rowA r₁ r₂) s = small-join (typeAt stack A r₁) (typeAt stack A r₂) (small-at stack r₁) (small-at stack r₂)
@@ -261,6 +266,7 @@ block-small junk xs h = tt
 block-small (var k) xs h = tt
 block-small (tuple a) xs h = tt
 block-small (pointer a) xs h = tt
+block-small (hidden t) xs h = tt
 block-small (code q a r) xs h = h .1
 
 first-small : (A : List Arg) (bs : List Listing) (B : Block) → AllSmallArgs A → getElem? (blocksOf A bs) 0 ≡ some B → Small (B .regs)

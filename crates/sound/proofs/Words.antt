@@ -3,15 +3,16 @@ use Prim.Native.Nat.{ℕ, zero, suc, _+_, _≤_, _<_}
 use native.Mathlib.Nat.{zero-add, suc-add}
 use native.Mathlib.Omega.{arith}
 use mathlib.Core.Path.{_≡_, refl, ap}
+use mathlib.Core.Logic.{_↔_}
 use mathlib.Core.List.{List, [], _∷_, _++_}
 use lib.ListN.{length, getD, set, drop, replicate}
-use Rattle.syntax.specs.Syntax.{value, stack}
-use Rattle.types.specs.Types.{Ty, int, junk, var, tuple, pointer, code, nil, push, svar, gap, join, items, Act, walk}
+use Rattle.syntax.specs.Syntax.{Kind, value, stack}
+use Rattle.types.specs.Types.{Ty, int, junk, var, tuple, pointer, hidden, code, nil, push, svar, gap, join, items, Arg, arg, Act, walk, fill, aStack, Wf}
 use Rattle.types.proofs.Filling.{Side, lo, hi, side}
 use Rattle.valid.specs.Program.{Program}
 use Rattle.valid.specs.Rules.{At, here, there, skip, Put, phere, pnew, pthere, pskip, Pops, pop0, pop1, junks}
-use Rattle.exec.specs.Machine.{Word, intKind, codeKind, tupleKind, heightKind, junkWord, Memory, at, put, puts}
-use Rattle.sound.specs.Values.{Tuples, Made, made, later, Has, Fits}
+use Rattle.exec.specs.Machine.{Word, intKind, codeKind, tupleKind, heightKind, height, junkWord, Memory, at, put, puts}
+use Rattle.sound.specs.Values.{Tuples, Made, made, later, Label, Has, is-int, is-junk, is-tuple, is-height, is-label, is-package, Fits}
 use Rattle.sound.proofs.Memory.{Long, put-cases, puts-before, puts-in}
 
 -- ---- good form of a word
@@ -73,19 +74,42 @@ module _ (P : Program) (Ψ : Tuples) where
     pub good : Good Ψ w
     pub has : Has P Ψ w t
 
-  has-more : (Φ : Tuples) (w : Word) (t : Ty value) → Has P Ψ w t → Has P (Ψ ++ Φ) w t
-  has-more Φ w int h = h
-  has-more Φ w junk h = h
-  has-more Φ w (var k) h = h
-  has-more Φ w (tuple c) h = (h .0, made-more Φ (h .1))
-  has-more Φ w (pointer a) h = h
-  has-more Φ w (code q a r) h = h
+  -- what a word of each type is: `Has` read off the type
+  abbrev pub Is : Word → Ty value → Type 0
+  Is w int = w .kind ≡ intKind
+  Is w junk = w ≡ junkWord
+  Is w (var k) = ⊥
+  Is w (tuple c) = (w .kind ≡ tupleKind) × Made Ψ (w .number) c
+  Is w (pointer a) = w ≡ height (items a)
+  Is w (hidden t) = (u : Ty value) × Wf [] aStack u × Has P Ψ w (fill 0 (arg value u ∷ []) t)
+  Is w (code q a r) = (w .kind ≡ codeKind) × Label P (w .number) q a r
+
+  pub is : {w : Word} {t : Ty value} → Has P Ψ w t → Is w t
+  is (is-int e) = e
+  is (is-junk e) = e
+  is (is-tuple e m) = (e, m)
+  is (is-height e) = e
+  is (is-label e l) = (e, l)
+  is (is-package u c h) = (u, c, h)
+
+  -- "a word has a closed `H` type exactly if it has t with some closed value type for the bound variable"
+  pub package-exactly : {w : Word} {t : Ty value}
+      → Has P Ψ w (hidden t) ↔ ((u : Ty value) × Wf [] aStack u × Has P Ψ w (fill 0 (arg value u ∷ []) t))
+  package-exactly = (is, λ p. is-package (p .0) (p .1) (p .2))
+
+  has-more : (Φ : Tuples) {w : Word} {t : Ty value} → Has P Ψ w t → Has P (Ψ ++ Φ) w t
+  has-more Φ (is-int e) = is-int e
+  has-more Φ (is-junk e) = is-junk e
+  has-more Φ (is-tuple e m) = is-tuple e (made-more Φ m)
+  has-more Φ (is-height e) = is-height e
+  has-more Φ (is-label e l) = is-label e l
+  has-more Φ (is-package u c h) = is-package u c (has-more Φ h)
 
   pub fits-more : (Φ : Tuples) (ws : List Word) (a : Ty stack) → Fits P Ψ ws a → Fits P (Ψ ++ Φ) ws a
   fits-more Φ [] nil f = tt
   fits-more Φ (w ∷ ws) nil f = f
   fits-more Φ [] (push t a) f = f
-  fits-more Φ (w ∷ ws) (push t a) f = (has-more Φ w t (f .0), fits-more Φ ws a (f .1))
+  fits-more Φ (w ∷ ws) (push t a) f = (has-more Φ (f .0), fits-more Φ ws a (f .1))
   fits-more Φ ws (svar k a) f = f
   fits-more Φ [] (gap a) f = f
   fits-more Φ (w ∷ ws) (gap a) f = fits-more Φ ws a f
@@ -132,7 +156,7 @@ module _ (P : Program) (Ψ : Tuples) where
   pub fits-junks : (ws : List Word) (a : Ty stack) (n : ℕ) → Fits P Ψ ws a → Fits P Ψ (replicate n junkWord ++ ws) (junks n a)
   unfolding junks
   fits-junks ws a zero f = f
-  fits-junks ws a (suc n) f = (refl, fits-junks ws a n f)
+  fits-junks ws a (suc n) f = (is-junk refl, fits-junks ws a n f)
 
   -- a pointer's items are a tail: cut to it, write through it
   pub fits-drop : (ws : List Word) (a b : Ty stack) → Fits P Ψ ws (join a b) → Fits P Ψ (drop (items a) ws) b

@@ -5,9 +5,9 @@ use mathlib.Core.Bool.{true}
 use mathlib.Core.Option.{some}
 use mathlib.Core.List.{List, [], _∷_, _++_}
 use lib.ListN.{length, getElem?}
-use Rattle.syntax.specs.Syntax.{stack, registerCount, Operand, Branch, bop, malloc, jmp, halt}
+use Rattle.syntax.specs.Syntax.{Kind, value, stack, registerCount, Operand, Branch, bop, unpack, malloc, jmp, halt}
 use Rattle.text.specs.Samples.{samplesOf}
-use Rattle.types.specs.Types.{Ty, tuple, items, Arg, fill, aStack, aTuple, aFile, Wf, Args}
+use Rattle.types.specs.Types.{Ty, tuple, items, Arg, arg, fill, aStack, aTuple, aFile, Wf, Args}
 use Rattle.valid.specs.Program.{Block, Program, typeOf, programOf}
 use Rattle.valid.specs.Rules.{Context, Before, ints, Entry}
 use Rattle.valid.specs.Verdict.{check, accepted}
@@ -31,7 +31,7 @@ pub record Witness : Type 0 where
   pub l : ℕ  -- the label of the block that the next instruction stands in
   pub i : ℕ  -- that instruction, counted from the block's first
   pub B : Block  -- the block
-  pub Θ : List Arg  -- the picks, for the block's letters
+  pub Θ : List Arg  -- the picks, for the letters in force
   pub Ψ : Tuples  -- the tuples' types, the oldest tuple first
 
 -- "every register named there, and every stack and heap word in use, holds a value of the type that the rules give it, with the type
@@ -40,11 +40,13 @@ pub record TypedState (P : Program) (σ : State) (ω : Witness) : Type 0 where
   -- the block is the program's, and the next instruction is its i-th
   pub block : getElem? (P .blocks) (ω .l) ≡ some (ω .B)
   pub place : σ .position ≡ startOf (bodies P) (ω .l) + ω .i
-  -- "the type that the rules give": Γ, before the next instruction
+  -- "the type that the rules give": Γ, before the next instruction, under the letters Δ in force there: the block's own, and in front of
+  -- them one for each unpack since its start
+  pub Δ : List Kind
   pub Γ : Context
-  pub rules : Before P (ω .B) (ω .i) Γ
+  pub rules : Before P (ω .B) (ω .i) Δ Γ
   -- "filled by closed types"
-  pub picks : Args [] (ω .Θ) (ω .B .letters)
+  pub picks : Args [] (ω .Θ) Δ
   pub closed-sp : Wf [] aStack (fill 0 (ω .Θ) (Γ .sp))
   pub closed-regs : Wf [] aFile (fill 0 (ω .Θ) (Γ .regs))
   pub closed-tuples : AllClosed (ω .Ψ)
@@ -57,11 +59,15 @@ pub record TypedState (P : Program) (σ : State) (ω : Witness) : Type 0 where
   pub heap : Heap P (ω .Ψ) (inUse (σ .heap) (σ .used)) (ω .Ψ)
 
 -- "Each step that brings variables into force (a jump or taken branch) picks closed types for them, kept while they are in force."
+-- "An unpack is one more step that picks: a closed value type for its variable, with which the inner word has t" (document 02, point 3):
+-- u, with which the state after it is well typed.
 pub data Picks (P : Program) (σ : State) (ω ω′ : Witness) : Type 0 where
   kept : ω′ .l ≡ ω .l → ω′ .i ≡ suc (ω .i) → ω′ .Θ ≡ ω .Θ → Picks P σ ω ω′
   jumped : (v : Operand) → fetch (bodies P) σ ≡ some (jmp v) → wordOf (σ .registers) v ≡ label (ω′ .l) → ω′ .i ≡ 0 → Picks P σ ω ω′
   branched : (o : Branch) (r : ℕ) (v : Operand) → fetch (bodies P) σ ≡ some (bop o r v) → taken o (signOf (at (σ .registers) r .number)) ≡ true
       → wordOf (σ .registers) v ≡ label (ω′ .l) → ω′ .i ≡ 0 → Picks P σ ω ω′
+  opened : (d : ℕ) (v : Operand) (u : Ty value) → fetch (bodies P) σ ≡ some (unpack d v)
+      → ω′ .l ≡ ω .l → ω′ .i ≡ suc (ω .i) → ω′ .Θ ≡ arg value u ∷ ω .Θ → Picks P σ ω ω′
 
 -- "a heap tuple the type it was made with": only `malloc d,t,..` makes one, with t filled as the picks are then
 pub data Makes (P : Program) (σ : State) (ω ω′ : Witness) : Type 0 where

@@ -83,10 +83,11 @@ abbrev pub AlwaysIntegers : Type 0
 AlwaysIntegers = (text samples : List ℕ) (m : ℕ) (σ : State) → Premises text samples m σ → HaltsWithIntegers text → (cs : List Call) → Each TellsInteger text (starts samples m ∷ cs) σ
 
 -- ---- states
--- "with the type variables in force filled by closed types": there are such types for B's letters, and "sp so filled has exactly depth items"
-pub record Filled (B : Block) (Γ : Context) (σ : State) : Type 0 where
+-- "with the type variables in force filled by closed types": there are such types for the letters Δ, and "sp so filled has exactly depth
+-- items"
+pub record Filled (Δ : List Kind) (Γ : Context) (σ : State) : Type 0 where
   pub Θ : List Arg
-  pub closed : Args [] Θ (B .letters)
+  pub closed : Args [] Θ Δ
   pub closed-sp : Wf [] aStack (fill 0 Θ (Γ .sp))
   pub closed-regs : Wf [] aFile (fill 0 Θ (Γ .regs))
   pub depth : items (fill 0 Θ (Γ .sp)) ≡ σ .depth
@@ -102,11 +103,12 @@ pub record AsTyped (P : Program) (σ : State) : Type 0 where
   pub l : ℕ
   pub i : ℕ
   pub B : Block
+  pub Δ : List Kind
   pub Γ : Context
   pub block : getElem? (P .blocks) l ≡ some B
   pub place : σ .position ≡ startOf (bodies P) l + i
-  pub rules : Before P B i Γ
-  pub filled : Filled B Γ σ
+  pub rules : Before P B i Δ Γ
+  pub filled : Filled Δ Γ σ
   pub heap : HeapFilled P σ
   pub register : {r : ℕ} → At (Γ .regs) r int → at (σ .registers) r .kind ≡ intKind
   pub item : {j : ℕ} → At (Γ .sp) j int → (j < σ .depth) × (at (σ .stack) (σ .depth - suc j) .kind ≡ intKind)

@@ -1,11 +1,11 @@
--- Which words have which closed types (document 01, "Machine": "which words have a closed type .. is read thus").
+-- Which words have which closed types (document 01, "Machine": "which words have a closed type .. is read thus"; document 02, point 3).
 use Prim.Native.Nat.{ℕ, suc, _+_}
 use mathlib.Core.Path.{_≡_}
 use mathlib.Core.Option.{some}
 use mathlib.Core.List.{List, [], _∷_, _++_}
 use lib.ListN.{length, getElem?}
 use Rattle.syntax.specs.Syntax.{Kind, value, stack}
-use Rattle.types.specs.Types.{Ty, int, junk, var, tuple, pointer, code, nil, push, svar, gap, items, Arg, fill, Args}
+use Rattle.types.specs.Types.{Ty, int, junk, var, tuple, pointer, hidden, code, nil, push, svar, gap, items, Arg, arg, fill, aStack, Wf, Args}
 use Rattle.valid.specs.Program.{Block, Program}
 use Rattle.exec.specs.Machine.{Word, intKind, codeKind, tupleKind, integer, height, junkWord}
 
@@ -31,14 +31,15 @@ pub record Label (P : Program) (l : ℕ) (q : List Kind) (a r : Ty stack) : Type
 
 module _ (P : Program) where
   -- the word has the closed type: "`I` integers and `N` junk; .. a tuple type, each handle whose tuple was made with it; .. a pointer
-  -- type, the height that counts its list's items, whatever the stack holds now"
-  abbrev pub Has : Tuples → Word → Ty value → Type 0
-  Has Ψ w int = w .kind ≡ intKind
-  Has Ψ w junk = w ≡ junkWord
-  Has Ψ w (var k) = ⊥
-  Has Ψ w (tuple c) = (w .kind ≡ tupleKind) × Made Ψ (w .number) c
-  Has Ψ w (pointer a) = w ≡ height (items a)
-  Has Ψ w (code q a r) = (w .kind ≡ codeKind) × Label P (w .number) q a r
+  -- type, the height that counts its list's items, whatever the stack holds now"; "a word has a closed `H` type exactly if it has t with
+  -- some closed value type for the bound variable". A family, since t so filled is no part of `H,t`.
+  pub data Has (Ψ : Tuples) : Word → Ty value → Type 0 where
+    is-int : {w : Word} → w .kind ≡ intKind → Has Ψ w int
+    is-junk : {w : Word} → w ≡ junkWord → Has Ψ w junk
+    is-tuple : {w : Word} {c : Ty stack} → w .kind ≡ tupleKind → Made Ψ (w .number) c → Has Ψ w (tuple c)
+    is-height : {w : Word} {a : Ty stack} → w ≡ height (items a) → Has Ψ w (pointer a)
+    is-label : {w : Word} {q : List Kind} {a r : Ty stack} → w .kind ≡ codeKind → Label P (w .number) q a r → Has Ψ w (code q a r)
+    is-package : {w : Word} {t : Ty value} (u : Ty value) → Wf [] aStack u → Has Ψ w (fill 0 (arg value u ∷ []) t) → Has Ψ w (hidden t)
 
   -- words against closed types, one by one: registers, a stack from the top, a tuple's components. Nothing is asked of a register
   -- of which nothing is known.

@@ -11,10 +11,11 @@ registerCount = 8
 pub data Kind : Type 0 where
   value stack : Kind
 
--- Type lines. A code row's letters stand as written; a register's row is `none` for `-`.
+-- Type lines. A code row's letters stand as written; a register's row is `none` for `-`. `rowH t` is the package "`H,t`, which binds one
+-- value variable in t" (document 02, point 3).
 pub data Row : Type 0 where
   rowI rowN rowE : Row
-  rowV rowX rowP : ℕ → Row
+  rowV rowX rowP rowH : ℕ → Row
   rowU : List ℕ → Row
   rowK rowA : ℕ → ℕ → Row
   rowC : List Kind → ℕ → List (Option ℕ) → Row
@@ -24,9 +25,11 @@ pub data Base : Type 0 where
   reg lit lab : ℕ → Base
 
 -- "A register or label may carry 1 to 8 type arguments and the resulting row": `inst`, the argument rows as written.
+-- "`pack` (argument row, operand, and the resulting `H` row, written `!a:v=h`, ..)" (document 02, point 3).
 pub data Operand : Type 0 where
   plain : Base → Operand
   inst : Base → List ℕ → ℕ → Operand
+  pack : ℕ → Base → ℕ → Operand
 
 -- `add,d,s,v` `sub,d,s,v` `mul,d,s,v`
 pub data Arith : Type 0 where
@@ -36,7 +39,7 @@ pub data Arith : Type 0 where
 pub data Branch : Type 0 where
   beq bneq bgt blt bgte blte : Branch
 
--- The fields stand in the order of the text: d, s, r registers; i, n numbers; t a row.
+-- The fields stand in the order of the text: d, s, r registers; i, n numbers; t a row. `unpack,d,v` is of document 02, point 3.
 pub data Instr : Type 0 where
   aop : Arith → ℕ → ℕ → Operand → Instr
   bop : Branch → ℕ → Operand → Instr
@@ -50,6 +53,7 @@ pub data Instr : Type 0 where
   ssp : ℕ → ℕ → ℕ → ℕ → Instr
   jmp : Operand → Instr
   halt : ℕ → Instr
+  unpack : ℕ → Operand → Instr
 
 -- A line is a type line, a block's line with its code row, or an instruction.
 pub data Entry : Type 0 where

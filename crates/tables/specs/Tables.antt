@@ -3,9 +3,9 @@ use Prim.Native.Nat.{ℕ, zero, suc, _+_, _-_, _*_}
 use mathlib.Core.Bool.{cond}
 use mathlib.Core.Option.{Option, none, some}
 use mathlib.Core.List.{List, [], _∷_, map, reverse}
-use lib.Dec.{eqb}
+use lib.Dec.{eqb, ltb}
 use lib.ListN.{getD}
-use Rattle.syntax.specs.Syntax.{Kind, value, stack, Row, rowI, rowN, rowE, rowV, rowX, rowP, rowU, rowK, rowA, rowC, Base, reg, lit, lab, Operand, plain, inst, add, sub, mul, beq, bneq, bgt, blt, bgte, blte, Instr, aop, bop, mov, ld, st, malloc, getsp, setsp, salloc, sfree, sld, sst, slp, ssp, jmp, halt}
+use Rattle.syntax.specs.Syntax.{Kind, value, stack, Row, rowI, rowN, rowE, rowV, rowX, rowP, rowH, rowU, rowK, rowA, rowC, Base, reg, lit, lab, Operand, plain, inst, pack, add, sub, mul, beq, bneq, bgt, blt, bgte, blte, Instr, aop, bop, mov, ld, st, malloc, getsp, setsp, salloc, sfree, sld, sst, slp, ssp, jmp, halt, unpack}
 use Rattle.text.specs.PassOne.{Listing}
 
 -- entry k of the record i in a table whose records have w entries
@@ -18,10 +18,10 @@ span l i zero = []
 span l i (suc n) = getD l i 0 ∷ span l (suc i) n
 
 -- ---- rows
--- A row has four entries: its kind, in the order of the forms (I N V U P C E X K A from 0), two numbers, and one that decoding leaves
+-- A row has four entries: its kind, in the order of the forms (I N V U P C H E X K A from 0), two numbers, and one that decoding leaves
 -- alone (the count of a stack row's items). The numbers: V, X: k; U: where its components start in `parts`, and how many; P: s; C: s, and
--- where its registers start in `parts`; K: t, s; A: the two stacks. At a C row's start stand eight registers, 0 for `-` and else one more
--- than the row; then the count of letters; then the letters in the order of their variables, 0 for v and 1 for s.
+-- where its registers start in `parts`; H: t; K: t, s; A: the two stacks. At a C row's start stand eight registers, 0 for `-` and else one
+-- more than the row; then the count of letters; then the letters in the order of their variables, 0 for v and 1 for s.
 pub record RowTable : Type 0 where
   pub rows : List ℕ
   pub parts : List ℕ
@@ -53,9 +53,10 @@ rowFrom ps k a b =
     (cond (eqb k 3) (rowU (span ps a b))
     (cond (eqb k 4) (rowP a)
     (cond (eqb k 5) (codeRowAt ps a b)
-    (cond (eqb k 6) rowE
-    (cond (eqb k 7) (rowX a)
-    (cond (eqb k 8) (rowK a b) (rowA a b)))))))))
+    (cond (eqb k 6) (rowH a)
+    (cond (eqb k 7) rowE
+    (cond (eqb k 8) (rowX a)
+    (cond (eqb k 9) (rowK a b) (rowA a b))))))))))
 
 -- row r of the table
 unfoldable pub rowAt : RowTable → ℕ → Row
@@ -71,8 +72,9 @@ abbrev pub rowsIn : RowTable → ℕ → List Row
 rowsIn τ n = rowsFrom τ 0 n
 
 -- ---- operands
--- An operand has four entries: its base's kind (0 register, 1 literal, 2 label), the count of its arguments (none: it is plain), the
--- resulting row, and where its arguments start in `args`; its base's number stands in `numbers`.
+-- An operand has four entries: its kind (0 register, 1 literal, 2 label; 4, 5, 6 a package of such), the count of its arguments (none: it
+-- is plain), the resulting row, and where its arguments start in `args`; its base's number stands in `numbers`. A package has one
+-- argument, and its resulting row is its `H` row.
 pub record OperandTable : Type 0 where
   pub operands : List ℕ
   pub numbers : List ℕ
@@ -89,10 +91,16 @@ unfoldable pub operandOf : Base → List ℕ → ℕ → Operand
 operandOf b [] t = plain b
 operandOf b (a ∷ ts) t = inst b (a ∷ ts) t
 
+-- the operand of kind k whose base has number n: with the arguments ts and the resulting row t, or, from kind 4 on, the package with
+-- the argument row a
+unfoldable pub operandFrom : ℕ → ℕ → List ℕ → ℕ → ℕ → Operand
+operandFrom k n ts a t = cond (ltb k 4) (operandOf (baseOf k n) ts t) (pack a (baseOf (k - 4) n) t)
+
 -- operand v of the table
 unfoldable pub operandAt : OperandTable → ℕ → Operand
 operandAt ω v =
-    operandOf (baseOf (cell 4 (ω .operands) v 0) (getD (ω .numbers) v 0)) (span (ω .args) (cell 4 (ω .operands) v 3) (cell 4 (ω .operands) v 1)) (cell 4 (ω .operands) v 2)
+    operandFrom (cell 4 (ω .operands) v 0) (getD (ω .numbers) v 0) (span (ω .args) (cell 4 (ω .operands) v 3) (cell 4 (ω .operands) v 1))
+    (getD (ω .args) (cell 4 (ω .operands) v 3) 0) (cell 4 (ω .operands) v 2)
 
 -- operands v to v + n - 1
 unfoldable pub operandsAt : OperandTable → ℕ → ℕ → List Operand
@@ -100,8 +108,8 @@ operandsAt ω v zero = []
 operandsAt ω v (suc n) = operandAt ω v ∷ operandsAt ω (suc v) n
 
 -- ---- instructions
--- An instruction has eight entries: its code, in the order of the forms (add 0 .. halt 22), its numbers in the order of the text, at most
--- four, where its operands start and how many there are, and one that is not used.
+-- An instruction has eight entries: its code, in the order of the forms (add 0 .. halt 22, unpack 23), its numbers in the order of the
+-- text, at most four, where its operands start and how many there are, and one that is not used.
 abbrev pub instrFrom : OperandTable → ℕ → ℕ → ℕ → ℕ → ℕ → ℕ → ℕ → Instr
 instrFrom ω k a b c d v n =
     cond (eqb k 0) (aop add a b (operandAt ω v))
@@ -125,7 +133,8 @@ instrFrom ω k a b c d v n =
     (cond (eqb k 18) (sst a b)
     (cond (eqb k 19) (slp a b c)
     (cond (eqb k 20) (ssp a b c d)
-    (cond (eqb k 21) (jmp (operandAt ω v)) (halt a))))))))))))))))))))))
+    (cond (eqb k 21) (jmp (operandAt ω v))
+    (cond (eqb k 23) (unpack a (operandAt ω v)) (halt a)))))))))))))))))))))))
 
 -- instruction j of the table
 unfoldable pub instrAt : List ℕ → OperandTable → ℕ → Instr

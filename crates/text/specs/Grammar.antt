@@ -1,4 +1,4 @@
--- What a line says: the forms of document 01's "Program text", one entry of the table for each, in its order.
+-- What a line says: the forms of document 01's "Program text" and of document 02's point 3, one entry of the table for each.
 use Prim.Native.Nat.{ℕ, _-_}
 use Prim.Native.Char.{code}
 use Prim.Native.String.{String}
@@ -7,7 +7,7 @@ use mathlib.Core.Option.{Option, none, some}
 use mathlib.Core.List.{List, [], _∷_}
 use lib.Dec.{eqb, leb}
 use lib.ListN.{length}
-use Rattle.syntax.specs.Syntax.{registerCount, Kind, value, stack, rowI, rowN, rowE, rowV, rowX, rowP, rowU, rowK, rowA, rowC, Base, reg, lit, lab, Operand, plain, inst, Arith, add, sub, mul, Branch, beq, bneq, bgt, blt, bgte, blte, aop, bop, mov, ld, st, malloc, getsp, setsp, salloc, sfree, sld, sst, slp, ssp, jmp, halt, Entry, row, block, instr}
+use Rattle.syntax.specs.Syntax.{registerCount, Kind, value, stack, rowI, rowN, rowE, rowV, rowX, rowP, rowH, rowU, rowK, rowA, rowC, Base, reg, lit, lab, Operand, plain, inst, pack, Arith, add, sub, mul, Branch, beq, bneq, bgt, blt, bgte, blte, aop, bop, mov, ld, st, malloc, getsp, setsp, salloc, sfree, sld, sst, slp, ssp, jmp, halt, unpack, Entry, row, block, instr}
 use Rattle.syntax.specs.Partial.{chain, guarded}
 use Rattle.text.specs.Bytes.{bytes, sameBytes, split, Line, ended, unended, fieldsOf, number, literal}
 
@@ -94,14 +94,26 @@ unfoldable pub carried : List Field → Field → Option Operand
 carried [] t = none
 carried (b ∷ ts) t = chain (carrier b) (λ c. chain (each rowNumber ts) (λ rs. chain (rowNumber t) (λ r. guarded (leb 1 (length ts) && leb (length ts) 8) (inst c rs r))))
 
--- an operand from its parts between `=`: one is a plain operand, two are what carries arguments and the resulting row
+-- "`!a:v=h`, v a register, literal or label without type arguments" (document 02, point 3), from its parts between `:`, `!` taken away
+unfoldable pub packed : List Field → Field → Option Operand
+packed [] t = none
+packed (a ∷ []) t = none
+packed (a ∷ b ∷ []) t = chain (rowNumber a) (λ u. chain (orLiteral (carrier b) b) (λ c. chain (rowNumber t) (λ h. some (pack u c h))))
+packed (a ∷ b ∷ c ∷ fs) t = none
+
+-- what stands before `=`: behind `!` what is packed, else what carries arguments
+unfoldable pub before : Field → Field → Option Operand
+before [] t = none
+before (b ∷ l) t = cond (eqb b (code "!")) (packed (split (code ":") l) t) (carried (split (code ":") (b ∷ l)) t)
+
+-- an operand from its parts between `=`: one is a plain operand, two are what carries arguments or is packed, and the resulting row
 abbrev pub fromParts : List Field → Option Operand
 fromParts [] = none
 fromParts (b ∷ []) = chain (orLiteral (carrier b) b) (λ c. some (plain c))
-fromParts (l ∷ t ∷ []) = carried (split (code ":") l) t
+fromParts (l ∷ t ∷ []) = before l t
 fromParts (l ∷ t ∷ u ∷ ps) = none
 
--- "An operand v is a register, a literal of 32 signed bits, or `#` and a label (0 to 63)."
+-- "An operand v is a register, a literal of 32 signed bits, or `#` and a label (0 to 63)"; or one with arguments, or a package.
 unfoldable pub operand : Field → Option Operand
 operand f = fromParts (split (code "=") f)
 
@@ -132,6 +144,7 @@ forms =
     ∷ named "U" (rest (λ n. leb n 16) rowNumber (λ ts. row (rowU ts)))
     ∷ named "P" (do s ← rowNumber; end (row (rowP s)))
     ∷ named "C" (do q ← letters; s ← rowNumber; rest (λ n. eqb n registerCount) known (λ rs. row (rowC q s rs)))
+    ∷ named "H" (do t ← rowNumber; end (row (rowH t)))
     ∷ named "E" (end (row rowE))
     ∷ named "X" (do k ← index; end (row (rowX k)))
     ∷ named "K" (do t ← rowNumber; s ← rowNumber; end (row (rowK t s)))
@@ -160,6 +173,7 @@ forms =
     ∷ named "ssp" (do d ← register; i ← index; s ← register; t ← rowNumber; end (instr (ssp d i s t)))
     ∷ named "jmp" (do v ← operand; end (instr (jmp v)))
     ∷ named "halt" (do t ← rowNumber; end (instr (halt t)))
+    ∷ named "unpack" (do d ← register; v ← operand; end (instr (unpack d v)))
     ∷ []
 
 -- the form of that name; none if there is none

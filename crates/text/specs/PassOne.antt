@@ -5,7 +5,7 @@ use mathlib.Core.Option.{Option, none, some}
 use mathlib.Core.List.{List, [], _∷_, _++_, map}
 use lib.Dec.{leb, ltb}
 use lib.ListN.{length}
-use Rattle.syntax.specs.Syntax.{Row, Instr, aop, bop, mov, ld, st, malloc, getsp, setsp, salloc, sfree, sld, sst, slp, ssp, jmp, halt, Entry, row, block, instr}
+use Rattle.syntax.specs.Syntax.{Row, Instr, aop, bop, mov, ld, st, malloc, getsp, setsp, salloc, sfree, sld, sst, slp, ssp, jmp, halt, unpack, Entry, row, block, instr}
 use Rattle.syntax.specs.Fault.{Fault, fault, given, Pass}
 use Rattle.text.specs.Bytes.{linesOf}
 use Rattle.text.specs.Grammar.{parse}
@@ -29,6 +29,7 @@ isLast (slp d s i) = false
 isLast (ssp d i s t) = false
 isLast (jmp v) = true
 isLast (halt t) = true
+isLast (unpack d v) = false
 
 -- where a line stands: among the type lines, in a block that has not ended, or behind one that has
 pub data Place : Type 0 where

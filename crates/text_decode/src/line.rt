@@ -21,13 +21,14 @@ use text_fields::plain_operands::OperandRead;
 
 // By the form's place: the kinds of its plain fields, 1 register, 2 row, 3 index, 4 amount, 0 for none, the first the lowest of four octal
 // digits; above them how many operands follow: none, one, or up to 16.
-const FORMS: [u32; 34] = [
+const FORMS: [u32; 36] = [
     0, // I
     0, // N
     3, // V
     0, // U
     2, // P
     0, // C
+    2, // H
     0, // E
     3, // X
     18, // K
@@ -56,6 +57,7 @@ const FORMS: [u32; 34] = [
     1113, // ssp
     4096, // jmp
     2, // halt
+    4097, // unpack
 ];
 
 // What FORMS says of a form: the kinds of its plain fields, and the most operands.
@@ -122,7 +124,7 @@ fn no_entry() -> Said
 
 // The entry of FORMS, taken apart.
 fn form_at(code: usize) -> Form
-    requires { ⌜ code < 34 ⌝ }
+    requires { ⌜ code < 36 ⌝ }
     ensures { λ r. ⌜ r ≡ formOf code ⌝ }
 {
     let w = FORMS[code];
@@ -366,7 +368,7 @@ fn read_operands(
         let start = a + (m as usize);
         let x = text_fields::operand_at(rest, i + 1, &mut image[mid..to], start);
         let o = x.read;
-        if 3 <= o.kind {
+        if o.kind == 3 {
             return Count {
                 ok: false,
                 count: n,
@@ -504,7 +506,7 @@ pub(crate) fn read_form(
     numbers: &mut [u32],
     u: Used,
 ) -> Said
-    requires { ⌜ FieldRoom p (now image) (now numbers) u × (code < 34) × (u .rows ≤ 512) × StopAt (now rest) at ⌝ }
+    requires { ⌜ FieldRoom p (now image) (now numbers) u × (code < 36) × (u .rows ≤ 512) × StopAt (now rest) at ⌝ }
     ensures { λ r. ⌜ FormIs code (fieldsFrom (lineIn (now (rest .entry))) (at + 1)) (17 * u .rows) (u .operands) (u .args) (partSection p (now (image .entry))) (partSection p (now (image .exit))) (operandsIn p (now (image .entry)) (now (numbers .entry))) (operandsIn p (now (image .exit)) (now (numbers .exit))) r × Carried (now (rest .entry)) (r .args) × AtEnd (now (rest .entry)) (r .ok) (r .next) × Outside (p .parts) (p .uses) (now (image .entry)) (now (image .exit)) ⌝ }
 {
     let from = p.parts;

@@ -74,32 +74,35 @@ fn put_instr(instrs: &mut [u16], j: usize, code: u16, s: Said, v: u16)
 
 // Stores what the fields of a line say, at the first place that is not in use.
 fn put_line(code: usize, s: Said, image: &mut [u16], p: Places, u: Used) -> Line
-    requires { ⌜ EntryRoom p (now image) u × (code < 34) × Few u ⌝ }
+    requires { ⌜ EntryRoom p (now image) u × (code < 36) × Few u ⌝ }
     ensures { λ r. ⌜ Stored code s u (rowSection p (now (image .entry))) (instrSection p (now (image .entry))) (blockSection p (now (image .entry))) (rowSection p (now (image .exit))) (instrSection p (now (image .exit))) (blockSection p (now (image .exit))) r × Outside (p .rows) (p .parts) (now (image .entry)) (now (image .exit)) ⌝ }
 {
     let rows = p.rows;
     let blocks = p.blocks;
     let instrs = p.instrs;
     let parts = p.parts;
-    if code < 10 {
+    if code < 11 {
         put_row(&mut image[rows..blocks], u.rows, code as u16, s.a, s.b);
         return Line::Row;
     }
-    if code == 10 {
+    if code == 11 {
         put_block(&mut image[blocks..instrs], u.blocks, s.a, u.instrs as u16);
         return Line::Block;
     }
     put_instr(
         &mut image[instrs..parts],
         u.instrs,
-        (code - 11) as u16,
+        (code - 12) as u16,
         s,
         u.operands as u16,
     );
-    if code < 32 {
+    if code < 33 {
         return Line::Instruction(s.count as usize, s.args as usize);
     }
-    Line::Last(s.count as usize, s.args as usize)
+    if code < 35 {
+        return Line::Last(s.count as usize, s.args as usize);
+    }
+    Line::Instruction(s.count as usize, s.args as usize)
 }
 
 // The fields behind a line's first, which ends at f: the text from there on goes to their reader, which stops at the line's LF.
@@ -112,7 +115,7 @@ fn read_rest(
     numbers: &mut [u32],
     u: Used,
 ) -> Said
-    requires { ⌜ FieldRoom p (now image) (now numbers) u × (code < 34) × StopAt (now text) f × Few u ⌝ }
+    requires { ⌜ FieldRoom p (now image) (now numbers) u × (code < 36) × StopAt (now text) f × Few u ⌝ }
     ensures { λ r. ⌜ FormIs code (fieldsFrom (lineIn (now (text .entry))) (f + 1)) (17 * u .rows) (u .operands) (u .args) (partSection p (now (image .entry))) (partSection p (now (image .exit))) (operandsIn p (now (image .entry)) (now (numbers .entry))) (operandsIn p (now (image .exit)) (now (numbers .exit))) r × Carried (now (text .entry)) (r .args) × AtEnd (now (text .entry)) (r .ok) (f + r .next) × Outside (p .parts) (p .uses) (now (image .entry)) (now (image .exit)) ⌝ }
 {
     crate::line::read_form(&text[f..], 0, code, image, p, numbers, u)
@@ -138,7 +141,7 @@ pub(crate) fn read_line(
 {
     let f = text_lines::field_end(text, 0);
     let code = text_fields::names::name_code(&text[0..f]);
-    if 34 <= code {
+    if 36 <= code {
         return no_line();
     }
     let s = read_rest(text, f, code, image, p, numbers, u);

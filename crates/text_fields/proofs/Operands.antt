@@ -12,9 +12,9 @@ use lib.ListN.{length, getD, take, drop}
 use lib.Seq.{sets}
 use borrow.Author.Tests.{eq-eqb, ne-eqb, le-leb, lt-leb}
 use Rattle.syntax.specs.Partial.{chain, guarded}
-use Rattle.syntax.specs.Syntax.{Base, reg, lit, lab, Operand, inst}
+use Rattle.syntax.specs.Syntax.{Base, reg, lit, lab, Operand, inst, pack}
 use Rattle.text.specs.Bytes.{split, number, literal}
-use Rattle.text.specs.Grammar.{rowNumber, index, labelNumber, register, each, carrier, orLiteral, carried, fromParts, operand}
+use Rattle.text.specs.Grammar.{rowNumber, index, labelNumber, register, each, carrier, orLiteral, carried, packed, before, fromParts, operand}
 use Rattle.text_lines.specs.Parts.{firstPart}
 use Rattle.text_lines.proofs.Parts.{only, split-is, split-more, split-last}
 use Rattle.text_fields.specs.declared.plain_operands.OperandRead.{OperandRead}
@@ -234,6 +234,11 @@ inst-is o l at c ts t k n m e p q w =
     let a : _≡_ {A = OperandRead} (record { kind = k; number = n; count = m; row = t }) (answerOf (some (inst c ts t))) = λ i. record { kind = p i; number = q i; count = w i; row = t } in
     record { answer = a ∙ ap answerOf (sym e); stored = ap (λ (x : Option Operand). sets l at (argsOf x)) (sym e) }
 
+-- the same of an equal operand
+pub same-is : {o p : Option Operand} {l : List ℕ} {at : ℕ} {r : OperandRead} {after : List ℕ} → o ≡ p → OperandIs o l at r after → OperandIs p l at r after
+same-is {l = l} {at = at} e g =
+    record { answer = g .answer ∙ ap answerOf e; stored = g .stored ∙ ap (λ (x : Option Operand). sets l at (argsOf x)) e }
+
 plain-args : (o : Option Base) → argsOf (asPlain o) ≡ []
 unfolding argsOf
 plain-args none = refl
@@ -284,13 +289,110 @@ module _ (l t : List ℕ) (e : ℕ) (is : e ≡ 0 + length (firstPart 58 (drop 0
           let i = inst-is (carried (split 58 l) t) out at (w .0) (v .0) r (c .kind) (c .number) n (sides ∙ v .3) (w .2) (w .3) (ne ∙ v .2) in
           record { answer = i .answer; stored = ap (sets out at) (each-is ps (v .0) (v .1) .1) ∙ i .stored }
 
+-- ---- packages
+abbrev wrapped : Option ℕ → Option Base → Option ℕ → Option Operand
+wrapped a b h = chain a (λ u. chain b (λ c. chain h (λ t. some (pack u c t))))
+
+no-base : (a h : Option ℕ) → wrapped a none h ≡ none
+no-base none h = refl
+no-base (some u) h = refl
+
+no-hidden : (a : Option ℕ) (b : Option Base) → wrapped a b none ≡ none
+no-hidden none b = refl
+no-hidden (some u) none = refl
+no-hidden (some u) (some c) = refl
+
+wrapped-is : {a : Option ℕ} {b : Option Base} {h : Option ℕ} {u t : ℕ} {c : Base} → a ≡ some u → b ≡ some c → h ≡ some t → wrapped a b h ≡ some (pack u c t)
+wrapped-is p q r = λ i. wrapped (p i) (q i) (r i)
+
+pack-is : (o : Option Operand) (l : List ℕ) (at : ℕ) (a : ℕ) (c : Base) (h k n : ℕ) → o ≡ some (pack a c h) → k ≡ baseKind c → n ≡ baseNumber c → OperandIs o l at (record { kind = k + 4; number = n; count = 1; row = h }) (sets l at (a ∷ []))
+unfolding answerOf argsOf
+pack-is o l at a c h k n e p q =
+    let w : _≡_ {A = OperandRead} (record { kind = k + 4; number = n; count = 1; row = h }) (answerOf (some (pack a c h))) = λ i. record { kind = p i + 4; number = q i; count = 1; row = h } in
+    record { answer = w ∙ ap answerOf (sym e); stored = ap (λ (x : Option Operand). sets l at (argsOf x)) (sym e) }
+
+-- on each way through `packed`: e is where the argument's row ends, d where the first part of what follows does
+module _ (l t : List ℕ) (e : ℕ) (is : e ≡ 0 + length (firstPart 58 (drop 0 l))) where
+  pub pack-alone : length l ≤ e → packed (split 58 l) t ≡ none
+  unfolding packed
+  pack-alone h = ap (λ (ps : List (List ℕ)). packed ps t) (split-last 58 l 0 e is h)
+
+  module _ (h : e < length l) (v : List ℕ) (ve : v ≡ drop (e + 1) l) (d : ℕ) (ds : d ≡ 0 + length (firstPart 58 (drop 0 v))) where
+    parts : split 58 l ≡ take (e - 0) (drop 0 l) ∷ split 58 v
+    parts = split-more 58 l 0 e is h ∙ ap (λ (s : List ℕ). take (e - 0) (drop 0 l) ∷ split 58 s) (sym ve)
+
+    pub pack-more : d < length v → packed (split 58 l) t ≡ none
+    unfolding packed
+    pack-more k =
+        let q = split-more 58 v 0 d ds k ∙ ap (λ (ps : List (List ℕ)). take (d - 0) (drop 0 v) ∷ ps) (split-is 58 (drop (d + 1) v)) in
+        ap (λ (ps : List (List ℕ)). packed ps t) (parts ∙ ap (λ (ps : List (List ℕ)). take (e - 0) (drop 0 l) ∷ ps) q)
+
+    module _ (k : length v ≤ d) where
+      parts-two : packed (split 58 l) t ≡ wrapped (rowNumber (take (e - 0) (drop 0 l))) (orLiteral (carrier v) v) (rowNumber t)
+      unfolding packed
+      parts-two =
+          let m : length v ≤ length (firstPart 58 v) = omega arith in
+          ap (λ (ps : List (List ℕ)). packed ps t) (parts ∙ ap (λ (ps : List (List ℕ)). take (e - 0) (drop 0 l) ∷ ps) (only 58 v m))
+
+      pub pack-argument : rowNumber (take (e - 0) (drop 0 l)) ≡ none → packed (split 58 l) t ≡ none
+      pack-argument q = parts-two ∙ ap (λ (a : Option ℕ). wrapped a (orLiteral (carrier v) v) (rowNumber t)) q
+
+      pub pack-row : rowNumber t ≡ none → packed (split 58 l) t ≡ none
+      pack-row q =
+          let a = rowNumber (take (e - 0) (drop 0 l)) in
+          parts-two ∙ ap (wrapped a (orLiteral (carrier v) v)) q ∙ no-hidden a (orLiteral (carrier v) v)
+
+      module _ (c : OperandRead) (ce : c ≡ answerOf (fromParts (v ∷ []))) where
+        pub pack-base : 3 ≤ c .kind → packed (split 58 l) t ≡ none
+        pack-base q =
+            let a = rowNumber (take (e - 0) (drop 0 l)) in
+            let b = base-none (orLiteral (carrier v) v) (let w = ap (λ (r : OperandRead). r .kind) ce in omega arith) in
+            parts-two ∙ ap (λ (o : Option Base). wrapped a o (rowNumber t)) b ∙ no-base a (rowNumber t)
+
+        pub pack-all : c .kind < 3 → (a r : ℕ) → rowNumber (take (e - 0) (drop 0 l)) ≡ some a → rowNumber t ≡ some r
+            → (out : List ℕ) (at : ℕ) → OperandIs (packed (split 58 l) t) out at (record {
+              kind = c .kind + 4;
+              number = c .number;
+              count = 1;
+              row = r;
+            }) (sets out at (a ∷ []))
+        pack-all q a r ae re out at =
+            let w = a-carrier (orLiteral (carrier v) v) c ce q in
+            pack-is (packed (split 58 l) t) out at a (w .0) r (c .kind) (c .number) (parts-two ∙ wrapped-is ae (w .1) re) (w .2) (w .3)
+
+-- on each way through `before`
+module _ (l t : List ℕ) where
+  pub before-none : length l ≡ 0 → before l t ≡ none
+  unfolding before
+  before-none e = go l e
+    where
+      go : (l : List ℕ) → length l ≡ 0 → before l t ≡ none
+      go [] e = refl
+      go (b ∷ l) e = absurd (omega arith)
+
+  pub before-pack : (length l ≡ 0 → ⊥) → getD l 0 0 ≡ 33 → before l t ≡ packed (split 58 (drop 1 l)) t
+  unfolding before
+  before-pack h e = go l h e
+    where
+      go : (l : List ℕ) → (length l ≡ 0 → ⊥) → getD l 0 0 ≡ 33 → before l t ≡ packed (split 58 (drop 1 l)) t
+      go [] h e = absurd (h refl)
+      go (b ∷ l) h e = simp (eq-eqb b 33 e)
+
+  pub before-carried : (length l ≡ 0 → ⊥) → (getD l 0 0 ≡ 33 → ⊥) → before l t ≡ carried (split 58 l) t
+  unfolding before
+  before-carried h e = go l h e
+    where
+      go : (l : List ℕ) → (length l ≡ 0 → ⊥) → (getD l 0 0 ≡ 33 → ⊥) → before l t ≡ carried (split 58 l) t
+      go [] h e = absurd (h refl)
+      go (b ∷ l) h e = simp (ne-eqb b 33 e)
+
 -- ---- the parts of the field
 module _ (f : List ℕ) where
   pub one-part : split 61 f ≡ f ∷ [] → operand f ≡ fromParts (f ∷ [])
   unfolding operand
   one-part e = ap fromParts e
 
-  pub two-parts : (l t : List ℕ) → split 61 f ≡ l ∷ split 61 t → split 61 t ≡ t ∷ [] → operand f ≡ carried (split 58 l) t
+  pub two-parts : (l t : List ℕ) → split 61 f ≡ l ∷ split 61 t → split 61 t ≡ t ∷ [] → operand f ≡ before l t
   unfolding operand
   two-parts l t e h = ap fromParts (e ∙ ap (λ (ps : List (List ℕ)). l ∷ ps) h)
 
@@ -309,7 +411,7 @@ module _ (f : List ℕ) (e : ℕ) (is : e ≡ 0 + length (firstPart 61 (drop 0 f
         let t = drop (e + 1) f in
         more-parts f (take (e - 0) (drop 0 f)) t (take (d - 0) (drop 0 t)) (drop (d + 1) t) (split-more 61 f 0 e is h) (split-more 61 t 0 d ds k)
 
-    pub field-sides : length (drop (e + 1) f) ≤ d → operand f ≡ carried (split 58 (take (e - 0) (drop 0 f))) (drop (e + 1) f)
+    pub field-sides : length (drop (e + 1) f) ≤ d → operand f ≡ before (take (e - 0) (drop 0 f)) (drop (e + 1) f)
     field-sides k =
         let t = drop (e + 1) f in
         two-parts f (take (e - 0) (drop 0 f)) t (split-more 61 f 0 e is h) (only 61 t (omega arith))

@@ -12,7 +12,7 @@ use Rattle.text_fields.specs.plain_operands.Answers.{OperandIs, PlainAt}
 use Rattle.text_fields.specs.Answers.{OperandAt}
 
 pub plain-operand : (s : List ℕ) (at : ℕ) (l : List ℕ) (to : ℕ) (r : Placed) → PlainAt s at r → r .read .kind < 3 → OperandAt s at l to r l
-plain-operand s at l to r g h = record { read = g .read h l to; ends = g .ends }
+plain-operand s at l to r g h = record { read = g .read h l to; ends = λ z. g .ends h }
 
 pub any-at : (s : List ℕ) (at : ℕ) (l : List ℕ) (to : ℕ) → InLine s at → (e : ℕ) → e ≡ at + length (fieldIn s at) → (o : OperandRead) (after : List ℕ) → OperandIs (operand (take (e - at) (drop at s))) l to o after → OperandAt s at l to (record { read = o; next = e }) after
 any-at s at l to p e is o after g = record { read = rw (← (field-part s at e p is)) g; ends = λ z. is }

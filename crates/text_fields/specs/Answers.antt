@@ -1,5 +1,5 @@
 -- What the answer for an operand at a place of a line stands for.
-use Prim.Native.Nat.{ℕ, _+_, _<_}
+use Prim.Native.Nat.{ℕ, _+_}
 use mathlib.Core.Path.{_≡_}
 use mathlib.Core.List.{List}
 use lib.ListN.{length}
@@ -12,4 +12,4 @@ use Rattle.text_fields.specs.plain_operands.Answers.{OperandIs}
 -- that field ends if it is one
 pub record OperandAt (s : List ℕ) (at : ℕ) (before : List ℕ) (to : ℕ) (r : Placed) (after : List ℕ) : Type 0 where
   pub read : OperandIs (operand (fieldIn s at)) before to (r .read) after
-  pub ends : r .read .kind < 3 → r .next ≡ at + length (fieldIn s at)
+  pub ends : (r .read .kind ≡ 3 → ⊥) → r .next ≡ at + length (fieldIn s at)

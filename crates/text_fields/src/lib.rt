@@ -1,5 +1,5 @@
-// Fields of a line: numbers (module numbers), names and letters (names), operands: plain ones (plain_operands), and here those that carry
-// type arguments and a resulting row. Promises: each answer, and what is written into lent memory, is what crate text says of the field, on
+// Fields of a line: numbers (module numbers), names and letters (names), operands: plain ones (plain_operands), and here packages and those
+// that carry type arguments and a resulting row. Promises: each answer, and what is written into lent memory, is what crate text says of the field, on
 // every input; nothing is written past the end of what is lent. Asks: that the place of the field is in the line.
 pub mod names;
 pub mod numbers;
@@ -9,7 +9,7 @@ ghost use mathlib.Core.Path.{_≡_};
 ghost use mathlib.Core.List.{[], _∷_};
 ghost use lib.Seq.{sets};
 ghost use Rattle.text.specs.Bytes.{split};
-ghost use Rattle.text.specs.Grammar.{rowNumber, carrier, carried, fromParts, operand};
+ghost use Rattle.text.specs.Grammar.{rowNumber, carrier, carried, packed, before, fromParts, operand};
 ghost use Rattle.text_lines.specs.Parts.{InLine};
 ghost use Rattle.text_fields.specs.numbers.Numbers.{numberOf};
 ghost use Rattle.text_fields.specs.plain_operands.Answers.{answerOf, OperandIs};
@@ -146,6 +146,60 @@ fn carried(l: &[u8], t: &[u8], out: &mut [u16], at: usize) -> OperandRead
     }
 }
 
+// Writes the row at `at`, if that is a place.
+fn put_row(out: &mut [u16], at: usize, row: u16)
+    ensures { λ _. ⌜ now (out .exit) ≡ sets (now (out .entry)) at (row ∷ []) ⌝ }
+{
+    if at < out.len() {
+        out[at] = row;
+    }
+}
+
+// A package: its argument's row and what is packed, l, which stand behind `!`, and its `H` row, t.
+fn packed(l: &[u8], t: &[u8], out: &mut [u16], at: usize) -> OperandRead
+    ensures { λ r. ⌜ OperandIs (packed (split colon (now (l .entry))) (now (t .entry))) (now (out .entry)) at r (now (out .exit)) ⌝ }
+{
+    let e = text_lines::part_end(l, 0, b':');
+    if l.len() <= e {
+        return crate::plain_operands::no_operand();
+    }
+    let k = e + 1;
+    let v = &l[k..];
+    if text_lines::part_end(v, 0, b':') < v.len() {
+        return crate::plain_operands::no_operand();
+    }
+    let c = base(v);
+    if 3 <= c.kind {
+        return crate::plain_operands::no_operand();
+    }
+    let Number::Value(a) = crate::numbers::row_number(&l[0..e]) else {
+        return crate::plain_operands::no_operand();
+    };
+    let Number::Value(h) = crate::numbers::row_number(t) else {
+        return crate::plain_operands::no_operand();
+    };
+    put_row(out, at, a as u16);
+    OperandRead {
+        kind: c.kind + 4,
+        number: c.number,
+        count: 1,
+        row: h as u16,
+    }
+}
+
+// The two sides of `=`, l and t: behind `!` what is packed, else a carrier with arguments.
+fn sides(l: &[u8], t: &[u8], out: &mut [u16], at: usize) -> OperandRead
+    ensures { λ r. ⌜ OperandIs (before (now (l .entry)) (now (t .entry))) (now (out .entry)) at r (now (out .exit)) ⌝ }
+{
+    if l.len() == 0 {
+        return crate::plain_operands::no_operand();
+    }
+    if l[0] == b'!' {
+        return packed(&l[1..], t, out, at);
+    }
+    carried(l, t, out, at)
+}
+
 // An operand, looked for at its `=`. The rows of its arguments, at most eight, are written from `at` on; nothing where it is plain or none.
 fn any_operand(f: &[u8], out: &mut [u16], at: usize) -> OperandRead
     ensures { λ r. ⌜ OperandIs (operand (now (f .entry))) (now (out .entry)) at r (now (out .exit)) ⌝ }
@@ -159,7 +213,7 @@ fn any_operand(f: &[u8], out: &mut [u16], at: usize) -> OperandRead
     if text_lines::part_end(t, 0, b'=') < t.len() {
         return crate::plain_operands::no_operand();
     }
-    carried(&f[0..e], t, out, at)
+    sides(&f[0..e], t, out, at)
 }
 
 // The operand whose field starts at `at`; its arguments as above.

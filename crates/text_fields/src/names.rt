@@ -35,9 +35,9 @@ fn pack(f: &[u8]) -> u64
     k
 }
 
-// The place of a packed name among those of type lines and of blocks; 11 where it is none of them.
+// The place of a packed name among those of type lines and of blocks; 12 where it is none of them.
 fn row_name(k: u64) -> usize
-    ensures { λ r. ⌜ r ≡ keyPlace (take 11 (keysOf forms)) k ⌝ }
+    ensures { λ r. ⌜ r ≡ keyPlace (take 12 (keysOf forms)) k ⌝ }
 {
     match k {
         329 => 0, // I
@@ -46,18 +46,19 @@ fn row_name(k: u64) -> usize
         341 => 3, // U
         336 => 4, // P
         323 => 5, // C
-        325 => 6, // E
-        344 => 7, // X
-        331 => 8, // K
-        321 => 9, // A
-        322 => 10, // B
-        _ => 11,
+        328 => 6, // H
+        325 => 7, // E
+        344 => 8, // X
+        331 => 9, // K
+        321 => 10, // A
+        322 => 11, // B
+        _ => 12,
     }
 }
 
-// The place of a packed name among those of instructions; 23 where it is none of them.
+// The place of a packed name among those of instructions; 24 where it is none of them.
 fn instr_name(k: u64) -> usize
-    ensures { λ r. ⌜ r ≡ keyPlace (drop 11 (keysOf forms)) k ⌝ }
+    ensures { λ r. ⌜ r ≡ keyPlace (drop 12 (keysOf forms)) k ⌝ }
 {
     match k {
         23356513 => 0, // add
@@ -83,23 +84,24 @@ fn instr_name(k: u64) -> usize
         24146803 => 20, // ssp
         24145258 => 21, // jmp
         6248227176 => 22, // halt
-        _ => 23,
+        399549557403253 => 23, // unpack
+        _ => 24,
     }
 }
 
-// The place of the form that the field names: I 0, N 1, .. halt 33; 34 where there is none.
+// The place of the form that the field names: I 0, N 1, .. unpack 35; 36 where there is none.
 pub fn name_code(f: &[u8]) -> usize
     ensures { λ r. ⌜ r ≡ nameCode (now (f .entry)) ⌝ }
 {
     if 6 < f.len() {
-        return 34;
+        return 36;
     }
     let k = pack(f);
     let r = row_name(k);
-    if r < 11 {
+    if r < 12 {
         return r;
     }
-    instr_name(k) + 11
+    instr_name(k) + 12
 }
 
 // The field is a dash alone.

@@ -11,8 +11,8 @@ ghost use Rattle.text_lines.specs.Parts.{InLine};
 ghost use Rattle.text_fields.specs.plain_operands.Answers.{answerOf, PlainAt};
 ghost use Rattle.text_fields.specs.plain_operands.Pieces.{skipOf, lowOf, highOf, kindOf, valueOf};
 
-// An operand's answer: its base's kind (0 register, 1 literal, 2 label; 3 where the field is no operand) and number, the
-// count of its arguments, and the resulting row.
+// An operand's answer: its kind (0 register, 1 literal, 2 label; 4, 5, 6 a package of such; 3 where the field is no operand), its base's
+// number, the count of its arguments, and the resulting row.
 pub struct OperandRead {
     pub kind: u16,
     pub number: u32,

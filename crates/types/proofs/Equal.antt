@@ -7,7 +7,7 @@ use mathlib.Core.List.{List, [], _∷_}
 use lib.Dec.{eqb, eqb→eq, eqb-refl}
 use lib.Dec.{T as So}
 use Rattle.syntax.specs.Syntax.{Kind, value, stack}
-use Rattle.types.specs.Types.{Ty, int, junk, var, tuple, pointer, code, nil, push, svar, gap}
+use Rattle.types.specs.Types.{Ty, int, junk, var, tuple, pointer, hidden, code, nil, push, svar, gap}
 use Rattle.types.specs.Equal.{same, sameLetters}
 
 pub and-inv : (a b : Bool) → a && b ≡ true → (a ≡ true) × (b ≡ true)
@@ -51,36 +51,49 @@ same-sound int junk e = none-true e
 same-sound int (var k′) e = none-true e
 same-sound int (tuple a′) e = none-true e
 same-sound int (pointer a′) e = none-true e
+same-sound int (hidden t′) e = none-true e
 same-sound int (code q′ a′ r′) e = none-true e
 same-sound junk int e = none-true e
 same-sound junk junk e = refl
 same-sound junk (var k′) e = none-true e
 same-sound junk (tuple a′) e = none-true e
 same-sound junk (pointer a′) e = none-true e
+same-sound junk (hidden t′) e = none-true e
 same-sound junk (code q′ a′ r′) e = none-true e
 same-sound (var k) int e = none-true e
 same-sound (var k) junk e = none-true e
 same-sound (var k) (var k′) e = ap var (eqb→eq k k′ (to-so _ e))
 same-sound (var k) (tuple a′) e = none-true e
 same-sound (var k) (pointer a′) e = none-true e
+same-sound (var k) (hidden t′) e = none-true e
 same-sound (var k) (code q′ a′ r′) e = none-true e
 same-sound (tuple a) int e = none-true e
 same-sound (tuple a) junk e = none-true e
 same-sound (tuple a) (var k′) e = none-true e
 same-sound (tuple a) (tuple a′) e = ap tuple (same-sound a a′ e)
 same-sound (tuple a) (pointer a′) e = none-true e
+same-sound (tuple a) (hidden t′) e = none-true e
 same-sound (tuple a) (code q′ a′ r′) e = none-true e
 same-sound (pointer a) int e = none-true e
 same-sound (pointer a) junk e = none-true e
 same-sound (pointer a) (var k′) e = none-true e
 same-sound (pointer a) (tuple a′) e = none-true e
 same-sound (pointer a) (pointer a′) e = ap pointer (same-sound a a′ e)
+same-sound (pointer a) (hidden t′) e = none-true e
 same-sound (pointer a) (code q′ a′ r′) e = none-true e
+same-sound (hidden t) int e = none-true e
+same-sound (hidden t) junk e = none-true e
+same-sound (hidden t) (var k′) e = none-true e
+same-sound (hidden t) (tuple a′) e = none-true e
+same-sound (hidden t) (pointer a′) e = none-true e
+same-sound (hidden t) (hidden t′) e = ap hidden (same-sound t t′ e)
+same-sound (hidden t) (code q′ a′ r′) e = none-true e
 same-sound (code q a r) int e = none-true e
 same-sound (code q a r) junk e = none-true e
 same-sound (code q a r) (var k′) e = none-true e
 same-sound (code q a r) (tuple a′) e = none-true e
 same-sound (code q a r) (pointer a′) e = none-true e
+same-sound (code q a r) (hidden t′) e = none-true e
 same-sound (code q a r) (code q′ a′ r′) e = let h = and-inv (sameLetters q q′) (same a a′ && same r r′) e in let j = and-inv (same a a′) (same r r′) (h .1) in ap (λ z. code z a r) (sameLetters-sound q q′ (h .0)) ∙ ap₂ (code q′) (same-sound a a′ (j .0)) (same-sound r r′ (j .1))
 same-sound nil nil e = refl
 same-sound nil (push t′ a′) e = none-true e
@@ -106,6 +119,7 @@ same-refl junk = refl
 same-refl (var k) = so-true (eqb k k) (eqb-refl k)
 same-refl (tuple a) = same-refl a
 same-refl (pointer a) = same-refl a
+same-refl (hidden t) = same-refl t
 same-refl (code q a r) = rw (sameLetters-refl q, same-refl a, same-refl r)
 same-refl nil = refl
 same-refl (push t a) = rw (same-refl t, same-refl a)

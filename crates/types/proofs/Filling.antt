@@ -8,7 +8,7 @@ use mathlib.Core.List.{List, [], _∷_, _++_, map, append-assoc}
 use lib.ListN.{length, length-append, getElem?}
 use borrow.Author.Tests.{lt-ltb, le-ltb}
 use Rattle.syntax.specs.Syntax.{Kind, value, stack}
-use Rattle.types.specs.Types.{Ty, int, junk, var, tuple, pointer, code, nil, push, svar, gap, join, items, variable, below, Act, walk, raising, raise, Arg, arg, ofKind, place, filling, fill, fillArg, Use, aStack, aTuple, aFile, Wf, Args, noargs, more}
+use Rattle.types.specs.Types.{Ty, int, junk, var, tuple, pointer, hidden, code, nil, push, svar, gap, join, items, variable, below, Act, walk, raising, raise, Arg, arg, ofKind, place, filling, fill, fillArg, Use, aStack, aTuple, aFile, Wf, Args, noargs, more}
 
 -- ---- lists of items and walks
 pub join-assoc : (a b c : Ty stack) → join (join a b) c ≡ join a (join b c)
@@ -44,6 +44,22 @@ unfolding walk variable
 walk-variable f d value k = refl
 walk-variable f d stack k = join-nil (f d stack k)
 
+-- two acts that agree everywhere walk alike
+module _ (f g : Act) (h : (d : ℕ) (κ : Kind) (k : ℕ) → f d κ k ≡ g d κ k) where
+  pub walk-ext : (d : ℕ) {κ : Kind} (t : Ty κ) → walk f d t ≡ walk g d t
+  unfolding walk
+  walk-ext d int = refl
+  walk-ext d junk = refl
+  walk-ext d (var k) = h d value k
+  walk-ext d (tuple a) = ap tuple (walk-ext d a)
+  walk-ext d (pointer a) = ap pointer (walk-ext d a)
+  walk-ext d (hidden t) = ap hidden (walk-ext (suc d) t)
+  walk-ext d (code q a r) = ap₂ (code q) (walk-ext (length q + d) a) (walk-ext (length q + d) r)
+  walk-ext d nil = refl
+  walk-ext d (push t a) = ap₂ push (walk-ext d t) (walk-ext d a)
+  walk-ext d (svar k a) = ap₂ join (h d stack k) (walk-ext d a)
+  walk-ext d (gap a) = ap gap (walk-ext d a)
+
 -- two walks in a row are one. The three may start at different depths
 module _ (F G H : Act) (m n : ℕ) (h : (e : ℕ) (κ : Kind) (k : ℕ) → walk F (e + m) (G (e + n) κ k) ≡ H e κ k) where
   pub fuse : (e x y : ℕ) → x ≡ e + m → y ≡ e + n → {κ : Kind} (t : Ty κ) → walk F x (walk G y t) ≡ walk H e t
@@ -53,6 +69,7 @@ module _ (F G H : Act) (m n : ℕ) (h : (e : ℕ) (κ : Kind) (k : ℕ) → walk
   fuse e x y p q (var k) = rw (p, q) (h e value k)
   fuse e x y p q (tuple a) = ap tuple (fuse e x y p q a)
   fuse e x y p q (pointer a) = ap pointer (fuse e x y p q a)
+  fuse e x y p q (hidden t) = ap hidden (fuse (suc e) (suc x) (suc y) (omega arith) (omega arith) t)
   fuse e x y p q (code l a r) = ap₂ (code l) (fuse (length l + e) (length l + x) (length l + y) (omega arith) (omega arith) a) (fuse (length l + e) (length l + x) (length l + y) (omega arith) (omega arith) r)
   fuse e x y p q nil = refl
   fuse e x y p q (push t a) = ap₂ push (fuse e x y p q t) (fuse e x y p q a)
@@ -95,6 +112,7 @@ module _ (f : Act) (h : (d : ℕ) (κ : Kind) (k : ℕ) → k < d → f d κ k �
   walk-closed D m d l (var k) w = unfold variable in let g = get-lt D k value w in h d value k (omega arith)
   walk-closed D m d l (tuple a) w = ap tuple (walk-closed D aTuple d l a w)
   walk-closed D m d l (pointer a) w = ap pointer (walk-closed D aStack d l a w)
+  walk-closed D m d l (hidden t) w = ap hidden (walk-closed (value ∷ D) aStack (suc d) (omega arith) t w)
   walk-closed D m d l (code q a r) w = let g = length-append q D in ap₂ (code q) (walk-closed (q ++ D) aStack (length q + d) (omega arith) a (w .0)) (walk-closed (q ++ D) aFile (length q + d) (omega arith) r (w .1))
   walk-closed D m d l nil w = refl
   walk-closed D m d l (push t a) w = ap₂ push (walk-closed D m d l t (w .0)) (walk-closed D m d l a (w .1))
@@ -124,12 +142,53 @@ raising-high : (m d : ℕ) (κ : Kind) (j : ℕ) → raising m d κ (j + d) ≡ 
 unfolding raising
 raising-high m d κ j = below-ge d j (variable κ (j + d)) (λ j. variable κ (j + (m + d)))
 
+-- a walk that puts one item for each stack variable leaves as many items
+pub walk-items : (f : Act) (d : ℕ) → ((k : ℕ) → items (f d stack k) ≡ 1) → (a : Ty stack) → items (walk f d a) ≡ items a
+unfolding items walk
+walk-items f d h nil = refl
+walk-items f d h (push t a) = ap suc (walk-items f d h a)
+walk-items f d h (svar k a) =
+    let x = walk-items f d h a in
+    let y = h k in
+    let z = items-join (f d stack k) (walk f d a) in
+    omega arith
+walk-items f d h (gap a) = ap suc (walk-items f d h a)
+
+-- raising puts a variable for each
+pub raising-is : (m d : ℕ) (κ : Kind) (k : ℕ) → (j : ℕ) × (raising m d κ k ≡ variable κ j)
+raising-is m d κ k = go (side d k)
+  where
+    go : Side d k → (j : ℕ) × (raising m d κ k ≡ variable κ j)
+    go (lo h) = (k, raising-low m d κ k h)
+    go (hi j p) = (j + (m + d), rw p (raising-high m d κ j))
+
+pub raising-items : (m d : ℕ) (a : Ty stack) → items (walk (raising m) d a) ≡ items a
+unfolding items variable
+raising-items m d a = walk-items (raising m) d (λ k. ap items (raising-is m d stack k .1)) a
+
+pub raise-items : (m : ℕ) (a : Ty stack) → items (raise m a) ≡ items a
+unfolding raise
+raise-items m a = raising-items m 0 a
+
 pub raise-variable : (m : ℕ) (κ : Kind) (j : ℕ) → raise m (variable κ j) ≡ variable κ (j + m)
 unfolding raise
 raise-variable m κ j =
     let p = add-zero j in
     let q = add-zero m in
     walk-variable (raising m) 0 κ j ∙ rw (p, q) at (raising-high m 0 κ j)
+
+-- raised twice is raised by both
+pub raise-raise : (m n : ℕ) {κ : Kind} (t : Ty κ) → raise m (raise n t) ≡ raise (m + n) t
+unfolding raise
+raise-raise m n t =
+    fuse (raising m) (raising n) (raising (m + n)) 0 0 (λ e κ k. rw add-zero (go e κ k (side e k))) 0 0 0 (omega arith) (omega arith) t
+  where
+    go : (e : ℕ) (κ : Kind) (k : ℕ) → Side e k → walk (raising m) e (raising n e κ k) ≡ raising (m + n) e κ k
+    go e κ k (lo h) = rw (raising-low n e κ k h, walk-variable, raising-low m e κ k h, raising-low (m + n) e κ k h)
+    go e κ k (hi j p) =
+        let q : j + (n + e) ≡ (j + n) + e = omega arith in
+        let r : (j + n) + (m + e) ≡ j + ((m + n) + e) = omega arith in
+        rw (p, raising-high n e κ j, walk-variable, q, raising-high m e κ (j + n), raising-high (m + n) e κ j) (ap (variable κ) r)
 
 pub filling-low : (A : List Arg) (d : ℕ) (κ : Kind) (k : ℕ) → k < d → filling A d κ k ≡ variable κ k
 unfolding filling
@@ -241,6 +300,22 @@ module _ (Θ : List Arg) (Δ : List Kind) (c : Args [] Θ Δ) where
   pub close-fill-commute : (A : List Arg) (d : ℕ) {κ : Kind} (t : Ty κ) → fill d Θ (fill d A t) ≡ fill d (map (fillArg Θ) A) (fill (d + length (map (fillArg Θ) A)) Θ t)
   close-fill-commute A d t = close-fill Θ Δ c A d t ∙ sym (fill-fill (map (fillArg Θ) A) d t)
 
+-- one that was raised past the arguments in front does not see them: the types held until an unpack
+module _ (B Θ : List Arg) where
+  raising-past : (e : ℕ) (κ : Kind) (k : ℕ) → walk (filling (B ++ Θ)) e (raising (length B) e κ k) ≡ filling Θ e κ k
+  raising-past e κ k = go (side e k)
+    where
+      go : Side e k → walk (filling (B ++ Θ)) e (raising (length B) e κ k) ≡ filling Θ e κ k
+      go (lo h) = rw (raising-low (length B) e κ k h, walk-variable, filling-low (B ++ Θ) e κ k h, filling-low Θ e κ k h)
+      go (hi j p) =
+          rw (p, raising-high (length B) e κ j, walk-variable, filling-high Θ e κ j)
+          (ap (filling (B ++ Θ) e κ) (omega arith) ∙ filling-high (B ++ Θ) e κ (j + length B) ∙ place-out B Θ κ e j)
+
+  pub fill-raised : {κ : Kind} (t : Ty κ) → fill 0 (B ++ Θ) (raise (length B) t) ≡ fill 0 Θ t
+  unfolding fill raise
+  fill-raised t =
+      fuse (filling (B ++ Θ)) (raising (length B)) (filling Θ) 0 0 (λ e κ k. rw add-zero (raising-past e κ k)) 0 0 0 (omega arith) (omega arith) t
+
 -- ---- filling well-formed types with closed arguments gives closed types
 pub wf-more : (D E : List Kind) (m : Use) {κ : Kind} (t : Ty κ) → Wf D m t → Wf (D ++ E) m t
 wf-more D E m int w = tt
@@ -248,6 +323,7 @@ wf-more D E m junk w = tt
 wf-more D E m (var k) w = get-more D E k value w
 wf-more D E m (tuple a) w = wf-more D E aTuple a w
 wf-more D E m (pointer a) w = wf-more D E aStack a w
+wf-more D E m (hidden t) w = wf-more (value ∷ D) E aStack t w
 wf-more D E m (code q a r) w = rw (← (append-assoc q D E)) (wf-more (q ++ D) E aStack a (w .0), wf-more (q ++ D) E aFile r (w .1), w .2)
 wf-more D E m nil w = tt
 wf-more D E m (push t a) w = (wf-more D E m t (w .0), wf-more D E m a (w .1))
@@ -268,6 +344,7 @@ wf-use D m n junk w = w
 wf-use D m n (var k) w = w
 wf-use D m n (tuple a) w = w
 wf-use D m n (pointer a) w = w
+wf-use D m n (hidden t) w = w
 wf-use D m n (code q a r) w = w
 
 regs≢stack : ¬ (aFile ≡ aStack)
@@ -286,41 +363,59 @@ wf-place noargs D κ d j e = let z : _≡_ {A = ℕ} 0 1 = cc in absurd (omega a
 wf-place (more {κ = κ′} {t = t} w a) D κ d zero e = let g = ofKind-wf κ κ′ t w in rw (raising-closed d 0 (ofKind κ (arg κ′ t)) g) (wf-more [] D aStack (ofKind κ (arg κ′ t)) g)
 wf-place (more w a) D κ d (suc j) e = wf-place a D κ d j e
 
-module _ (Θ : List Arg) (Δ : List Kind) (c : Args [] Θ Δ) where
-  wf-filling : (D E : List Kind) (d : ℕ) → E ≡ D ++ Δ → d ≡ length D → (κ : Kind) (k : ℕ) → getElem? E k ≡ some κ → Wf D aStack (filling Θ d κ k)
-  wf-filling D E d p q κ k w = go (side d k)
-    where
-      u : getElem? (D ++ Δ) k ≡ some κ
-      u = rw p at w
+get-up : {A : Type 0} (l r : List A) (k : ℕ) (x : A) → getElem? r k ≡ some x → getElem? (l ++ r) (k + length l) ≡ some x
+get-up [] r k x e = rw add-zero e
+get-up (y ∷ l) r k x e = rw add-suc (get-up l r k x e)
 
-      low : (κ : Kind) → getElem? D k ≡ some κ → Wf D aStack (variable κ k)
-      low value g = unfold variable in g
-      low stack g = unfold variable in (refl, g, tt)
+wf-variable : (D : List Kind) (κ : Kind) (k : ℕ) → getElem? D k ≡ some κ → Wf D aStack (variable κ k)
+unfolding variable
+wf-variable D value k g = g
+wf-variable D stack k g = (refl, g, tt)
 
-      go : Side d k → Wf D aStack (filling Θ d κ k)
-      go (lo h) = rw (filling-low Θ d κ k h) (low κ (get-low D Δ k κ (omega arith) u))
-      go (hi j e) = rw (e, filling-high Θ d κ j) (wf-place c D κ d j (get-high D Δ j κ (rw (e, q) at u)))
-
-  pub wf-walk : (D E : List Kind) (m : Use) (d : ℕ) → E ≡ D ++ Δ → d ≡ length D → {κ : Kind} (t : Ty κ) → Wf E m t → Wf D m (walk (filling Θ) d t)
+-- a walk that puts types well-formed under E for the variables of Δ, whatever binders D stand around them
+module _ (f : Act) (Δ E : List Kind) (h : (D : List Kind) (κ : Kind) (k : ℕ) → getElem? (D ++ Δ) k ≡ some κ → Wf (D ++ E) aStack (f (length D) κ k)) where
+  wf-walk : (D : List Kind) (m : Use) {κ : Kind} (t : Ty κ) → Wf (D ++ Δ) m t → Wf (D ++ E) m (walk f (length D) t)
   unfolding walk
-  wf-walk D E m d p q int w = tt
-  wf-walk D E m d p q junk w = tt
-  wf-walk D E m d p q (var k) w = wf-use D aStack m (filling Θ d value k) (wf-filling D E d p q value k w)
-  wf-walk D E m d p q (tuple a) w = wf-walk D E aTuple d p q a w
-  wf-walk D E m d p q (pointer a) w = wf-walk D E aStack d p q a w
-  wf-walk D E m d p q (code l a r) w =
-      let pe : l ++ E ≡ (l ++ D) ++ Δ = rw p (sym (append-assoc l D Δ)) in
-      let pd : length l + d ≡ length (l ++ D) = rw (length-append, q) in
-      (wf-walk (l ++ D) (l ++ E) aStack (length l + d) pe pd a (w .0), wf-walk (l ++ D) (l ++ E) aFile (length l + d) pe pd r (w .1), items-walk (filling Θ) (length l + d) (l ++ E) aFile r (w .1) regs≢stack ∙ w .2)
-  wf-walk D E m d p q nil w = tt
-  wf-walk D E m d p q (push t a) w = (wf-walk D E m d p q t (w .0), wf-walk D E m d p q a (w .1))
-  wf-walk D E m d p q (svar k a) w = wf-join D m (filling Θ d stack k) (walk (filling Θ) d a) (rw (w .0) (wf-filling D E d p q stack k (w .1))) (wf-walk D E m d p q a (w .2))
-  wf-walk D E m d p q (gap a) w = (w .0, wf-walk D E m d p q a (w .1))
+  wf-walk D m int w = tt
+  wf-walk D m junk w = tt
+  wf-walk D m (var k) w = wf-use (D ++ E) aStack m (f (length D) value k) (h D value k w)
+  wf-walk D m (tuple a) w = wf-walk D aTuple a w
+  wf-walk D m (pointer a) w = wf-walk D aStack a w
+  wf-walk D m (hidden t) w = wf-walk (value ∷ D) aStack t w
+  wf-walk D m (code l a r) w =
+      let a′ = wf-walk (l ++ D) aStack a (rw append-assoc (w .0)) in
+      let r′ = wf-walk (l ++ D) aFile r (rw append-assoc (w .1)) in
+      let n = items-walk f (length l + length D) (l ++ (D ++ Δ)) aFile r (w .1) regs≢stack in
+      (rw (append-assoc, length-append) at a′, rw (append-assoc, length-append) at r′, n ∙ w .2)
+  wf-walk D m nil w = tt
+  wf-walk D m (push t a) w = (wf-walk D m t (w .0), wf-walk D m a (w .1))
+  wf-walk D m (svar k a) w = wf-join (D ++ E) m (f (length D) stack k) (walk f (length D) a) (rw (w .0) (h D stack k (w .1))) (wf-walk D m a (w .2))
+  wf-walk D m (gap a) w = (w .0, wf-walk D m a (w .1))
+
+-- letters N put in front: the types held until then, raised
+pub raise-wf : (N Δ : List Kind) (m : Use) {κ : Kind} (t : Ty κ) → Wf Δ m t → Wf (N ++ Δ) m (raise (length N) t)
+unfolding raise
+raise-wf N Δ m t w = wf-walk (raising (length N)) Δ (N ++ Δ) (λ D κ k e. go D κ k e (side (length D) k)) [] m t w
+  where
+    go : (D : List Kind) (κ : Kind) (k : ℕ) → getElem? (D ++ Δ) k ≡ some κ → Side (length D) k → Wf (D ++ (N ++ Δ)) aStack (raising (length N) (length D) κ k)
+    go D κ k e (lo h) = rw (raising-low (length N) (length D) κ k h) (wf-variable (D ++ (N ++ Δ)) κ k (get-more D (N ++ Δ) k κ (get-low D Δ k κ h e)))
+    go D κ k e (hi j p) =
+        let q : j + length N + length D ≡ j + (length N + length D) = omega arith in
+        let g = get-up D (N ++ Δ) (j + length N) κ (get-up N Δ j κ (get-high D Δ j κ (rw p at e))) in
+        rw (p, raising-high (length N) (length D) κ j) (wf-variable (D ++ (N ++ Δ)) κ (j + (length N + length D)) (rw q at g))
+
+module _ (Θ : List Arg) (Δ : List Kind) (c : Args [] Θ Δ) where
+  wf-filling : (D : List Kind) (κ : Kind) (k : ℕ) → getElem? (D ++ Δ) k ≡ some κ → Wf (D ++ []) aStack (filling Θ (length D) κ k)
+  wf-filling D κ k e = go (side (length D) k)
+    where
+      go : Side (length D) k → Wf (D ++ []) aStack (filling Θ (length D) κ k)
+      go (lo h) = rw (filling-low Θ (length D) κ k h) (wf-variable (D ++ []) κ k (get-more D [] k κ (get-low D Δ k κ h e)))
+      go (hi j p) = rw (p, filling-high Θ (length D) κ j) (wf-place c (D ++ []) κ (length D) j (get-high D Δ j κ (rw p at e)))
 
   -- closing gives closed types, and turns arguments for Δ into closed arguments
   pub fill-wf : (m : Use) {κ : Kind} (t : Ty κ) → Wf Δ m t → Wf [] m (fill 0 Θ t)
   unfolding fill
-  fill-wf m t w = wf-walk [] Δ m 0 refl refl t w
+  fill-wf m t w = wf-walk (filling Θ) Δ [] wf-filling [] m t w
 
   pub close-args : {A : List Arg} {q : List Kind} → Args Δ A q → Args [] (map (fillArg Θ) A) q
   unfolding fillArg

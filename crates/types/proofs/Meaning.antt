@@ -11,9 +11,9 @@ use lib.Dec.{ltb}
 use lib.ListN.{length, getD, take, drop, take-append-drop, length-append}
 use lib.Seq.{length-take-le}
 use borrow.Author.Tests.{ltb-true}
-use Rattle.syntax.specs.Syntax.{Kind, value, stack, Row, rowI, rowN, rowE, rowV, rowX, rowP, rowU, rowK, rowA, rowC}
+use Rattle.syntax.specs.Syntax.{Kind, value, stack, Row, rowI, rowN, rowE, rowV, rowX, rowP, rowH, rowU, rowK, rowA, rowC}
 use Rattle.syntax.specs.Fault.{Fault, given, Clear}
-use Rattle.types.specs.Types.{junk, tuple, pointer, code, push, gap, join, Arg, arg, kindOf, ofKind}
+use Rattle.types.specs.Types.{junk, tuple, pointer, hidden, code, push, gap, join, Arg, arg, kindOf, ofKind}
 use Rattle.types.specs.Rows.{typeAt, components, registers, meaning, typesOf, isValue, Ref, knownRefs, rowRefs, allBelow, allOfSort, sizeOf, refsFaults, rowsFaults}
 use Rattle.types.proofs.Equal.{and-inv, not-false}
 use Rattle.types.proofs.InTurn.{in-turn-length, in-turn-snoc, in-turn-more, in-turn-before}
@@ -79,6 +79,7 @@ module _ (n : ℕ) (A B : List Arg) (same : (t : ℕ) → t < n → typeIn A t �
   meaning-same (rowC q s rs) e =
       let k = and-inv _ _ e in
       ap₂ (λ a r. arg value (code (reverse q) a r)) (at-same stack s (ltb-true s n (k .0))) (registers-same rs (k .1))
+  meaning-same (rowH t) e = ap (λ u. arg value (hidden u)) (at-same value t (ltb-true t n (and-inv _ _ e .0)))
   meaning-same rowE e = refl
   meaning-same (rowX k) e = refl
   meaning-same (rowK t s) e =
@@ -106,6 +107,7 @@ kind-is A (rowV k) = refl
 kind-is A (rowU ts) = refl
 kind-is A (rowP s) = refl
 kind-is A (rowC q s rs) = refl
+kind-is A (rowH t) = refl
 kind-is A rowE = refl
 kind-is A (rowX k) = refl
 kind-is A (rowK t s) = refl

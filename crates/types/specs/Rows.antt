@@ -5,9 +5,9 @@ use mathlib.Core.Option.{Option, none, some}
 use mathlib.Core.List.{List, [], _∷_, _++_, map, reverse}
 use lib.Dec.{ltb}
 use lib.ListN.{length, getD, getElem?, take}
-use Rattle.syntax.specs.Syntax.{Kind, value, stack, Row, rowI, rowN, rowE, rowV, rowX, rowP, rowU, rowK, rowA, rowC, Base, reg, lit, lab, Operand, plain, inst, Instr, aop, bop, mov, ld, st, malloc, getsp, setsp, salloc, sfree, sld, sst, slp, ssp, jmp, halt, Entry, row, block, instr}
+use Rattle.syntax.specs.Syntax.{Kind, value, stack, Row, rowI, rowN, rowE, rowV, rowX, rowP, rowH, rowU, rowK, rowA, rowC, Base, reg, lit, lab, Operand, plain, inst, pack, Instr, aop, bop, mov, ld, st, malloc, getsp, setsp, salloc, sfree, sld, sst, slp, ssp, jmp, halt, unpack, Entry, row, block, instr}
 use Rattle.syntax.specs.Fault.{Fault, given, Pass}
-use Rattle.types.specs.Types.{Ty, int, junk, var, tuple, pointer, code, nil, push, svar, gap, join, Arg, arg, ofKind}
+use Rattle.types.specs.Types.{Ty, int, junk, var, tuple, pointer, hidden, code, nil, push, svar, gap, join, Arg, arg, ofKind}
 
 -- ---- what rows mean, each by the rows before it
 -- what f says of each row, by what it said of the rows before it: `before`, which stands in front
@@ -38,6 +38,7 @@ meaning table (rowV k) = arg value (var k)
 meaning table (rowU ts) = arg value (tuple (components table ts))
 meaning table (rowP s) = arg value (pointer (typeAt stack table s))
 meaning table (rowC q s rs) = arg value (code (reverse q) (typeAt stack table s) (registers table rs))
+meaning table (rowH t) = arg value (hidden (typeAt value table t))
 meaning table rowE = arg stack nil
 meaning table (rowX k) = arg stack (svar k nil)
 meaning table (rowK t s) = arg stack (push (typeAt value table t) (typeAt stack table s))
@@ -50,9 +51,9 @@ typesOf rows = inTurn meaning [] rows
 -- ---- which rows and labels a line names, and what they must be
 -- "value, stack or code row where another is needed (.. value or stack for an argument)"
 pub data Sort : Type 0 where
-  valueRow stackRow codeRow anyRow : Sort
+  valueRow stackRow codeRow hiddenRow anyRow : Sort
 
--- "Value rows": I N V U P C; the others are stack rows
+-- "Value rows": I N V U P C, and H (document 02, point 3); the others are stack rows
 unfoldable pub isValue : Row → Bool
 isValue rowI = true
 isValue rowN = true
@@ -60,6 +61,7 @@ isValue (rowV k) = true
 isValue (rowU ts) = true
 isValue (rowP s) = true
 isValue (rowC q s rs) = true
+isValue (rowH t) = true
 isValue rowE = false
 isValue (rowX k) = false
 isValue (rowK t s) = false
@@ -73,16 +75,32 @@ isCode (rowV k) = false
 isCode (rowU ts) = false
 isCode (rowP s) = false
 isCode (rowC q s rs) = true
+isCode (rowH t) = false
 isCode rowE = false
 isCode (rowX k) = false
 isCode (rowK t s) = false
 isCode (rowA s₁ s₂) = false
+
+-- a package's row (document 02, point 3)
+unfoldable pub isHidden : Row → Bool
+isHidden rowI = false
+isHidden rowN = false
+isHidden (rowV k) = false
+isHidden (rowU ts) = false
+isHidden (rowP s) = false
+isHidden (rowC q s rs) = false
+isHidden (rowH t) = true
+isHidden rowE = false
+isHidden (rowX k) = false
+isHidden (rowK t s) = false
+isHidden (rowA s₁ s₂) = false
 
 -- the row is of the sort needed
 unfoldable pub isOf : Sort → Row → Bool
 isOf valueRow r = isValue r
 isOf stackRow r = not (isValue r)
 isOf codeRow r = isCode r
+isOf hiddenRow r = isHidden r
 isOf anyRow r = true
 
 -- a row that a line names, and the sort that it must be of
@@ -108,15 +126,18 @@ rowRefs (rowV k) = []
 rowRefs (rowU ts) = map (ref valueRow) ts
 rowRefs (rowP s) = ref stackRow s ∷ []
 rowRefs (rowC q s rs) = ref stackRow s ∷ knownRefs rs
+rowRefs (rowH t) = ref valueRow t ∷ []
 rowRefs rowE = []
 rowRefs (rowX k) = []
 rowRefs (rowK t s) = ref valueRow t ∷ ref stackRow s ∷ []
 rowRefs (rowA s₁ s₂) = ref stackRow s₁ ∷ ref stackRow s₂ ∷ []
 
--- the rows that an operand names: its arguments ("value or stack") and its resulting row ("code")
+-- the rows that an operand names: its arguments ("value or stack") and its resulting row ("code"); a package's is an `H` row
+-- (document 02, point 3)
 unfoldable pub operandRefs : Operand → List Ref
 operandRefs (plain b) = []
 operandRefs (inst b ts t) = map (ref anyRow) ts ++ ref codeRow t ∷ []
+operandRefs (pack a b h) = ref anyRow a ∷ ref hiddenRow h ∷ []
 
 -- the rows that operands name
 unfoldable pub operandsRefs : List Operand → List Ref
@@ -154,6 +175,7 @@ names (slp d s i) = only []
 names (ssp d i s t) = only (t ∷ [])
 names (jmp v) = operand v
 names (halt t) = only (t ∷ [])
+names (unpack d v) = operand v
 
 -- the label of a base, if it is one
 unfoldable pub baseLabels : Base → List ℕ
@@ -166,6 +188,7 @@ unfoldable pub labels : List Operand → List ℕ
 labels [] = []
 labels (plain b ∷ vs) = baseLabels b ++ labels vs
 labels (inst b ts t ∷ vs) = baseLabels b ++ labels vs
+labels (pack a b h ∷ vs) = baseLabels b ++ labels vs
 
 -- ---- faults
 -- the row, if it exists, is of the sort needed

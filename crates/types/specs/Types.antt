@@ -12,11 +12,13 @@ use Rattle.syntax.specs.Syntax.{registerCount, Kind, value, stack}
 
 -- One family: at `value` the value types, at `stack` lists of items. Such a list is a stack type, a tuple's components, or the
 -- eight registers of a code type; `gap` is a register of which nothing is known. A code type has its letters in the order of
--- their variables (the last letter, variable 0, first), then its stack and its registers. Variables count binders outward.
+-- their variables (the last letter, variable 0, first), then its stack and its registers. `hidden t` is `H,t`, ∃α.τ: it binds one value
+-- variable in t. Variables count binders outward.
 pub data Ty : Kind → Type 0 where
   int junk : Ty value
   var : ℕ → Ty value
   tuple pointer : Ty stack → Ty value
+  hidden : Ty value → Ty value
   code : List Kind → Ty stack → Ty stack → Ty value
   nil : Ty stack
   push : Ty value → Ty stack → Ty stack
@@ -59,6 +61,7 @@ walk f d junk = junk
 walk f d (var k) = f d value k
 walk f d (tuple a) = tuple (walk f d a)
 walk f d (pointer a) = pointer (walk f d a)
+walk f d (hidden t) = hidden (walk f (suc d) t)
 walk f d (code q a r) = code q (walk f (length q + d) a) (walk f (length q + d) r)
 walk f d nil = nil
 walk f d (push t a) = push (walk f d t) (walk f d a)
@@ -124,6 +127,7 @@ meets θ d junk = true
 meets θ d (var k) = below d k true (fitsKind value θ)
 meets θ d (tuple a) = meets θ d a
 meets θ d (pointer a) = meets θ d a
+meets θ d (hidden t) = meets θ (suc d) t
 meets θ d (code q a r) = meets θ (length q + d) a && meets θ (length q + d) r
 meets θ d nil = true
 meets θ d (push t a) = meets θ d t && meets θ d a
@@ -148,6 +152,7 @@ Wf Δ u junk = Unit
 Wf Δ u (var k) = getElem? Δ k ≡ some value
 Wf Δ u (tuple a) = Wf Δ aTuple a
 Wf Δ u (pointer a) = Wf Δ aStack a
+Wf Δ u (hidden t) = Wf (value ∷ Δ) aStack t
 Wf Δ u (code q a r) = Wf (q ++ Δ) aStack a × Wf (q ++ Δ) aFile r × (items r ≡ registerCount)
 Wf Δ u nil = Unit
 Wf Δ u (push t a) = Wf Δ u t × Wf Δ u a

@@ -2,7 +2,7 @@
 use mathlib.Core.Path.{_≡_, refl, ap, ap₂, sym, _∙_, subst}
 use mathlib.Core.Bool.{Bool, true, false, _&&_, not}
 use mathlib.Core.List.{List, []}
-use Prim.Native.Nat.{ℕ, _+_, _-_, _<_, _≤_}
+use Prim.Native.Nat.{ℕ, _+_, _-_, _*_, _<_, _≤_}
 use native.Mathlib.Omega.{arith}
 use lib.ListN.{length, getD, set, take, drop, length-drop}
 use lib.Seq.{getD-set-same, length-take-le}
@@ -10,7 +10,9 @@ use Rattle.types.specs.Types.{nil, join, Arg, meets}
 use Rattle.types.specs.Equal.{same}
 use Rattle.types.proofs.Filling.{join-nil}
 use Rattle.tables.specs.Tables.{RowTable}
-use Rattle.types_rows.specs.Read.{meanS, stackUnder, argsOf}
+use Rattle.types_rows.specs.Read.{meanS, lift, stackUnder, argsOf}
+use Rattle.types_rows.specs.Environments.{shifted}
+use Rattle.types_rows.proofs.Environments.{shifted-now}
 use Rattle.types_equal.specs.pending.Pending.{side, entryType, pendingType, entryMeets, pendingMeets, Low, Pends, mass}
 use Rattle.types_equal.proofs.pending.Meets.{and-true, no-args}
 use Rattle.types_equal.proofs.pending.Entries.{own-type, own-meets}
@@ -29,18 +31,18 @@ pends-more m l k n ws h p i b =
     let f = p i b in
     ((λ z. let g = f .0 z in omega arith), (λ z. let g = f .1 z in let u = g .2 in (g .0, g .1, omega arith)))
 
-fit-agree : (τ : RowTable) (A : List Arg) (by d by₂ d₂ n o : ℕ) (ls ls₃ rs rs₃ : List ℕ) → Agree n ls ls₃ → Agree o rs rs₃ → fitPending τ A by d by₂ d₂ ls₃ n rs₃ o ≡ fitPending τ A by d by₂ d₂ ls n rs o
+fit-agree : (τ : RowTable) (A : List Arg) (ρ : ℕ → ℕ) (d : ℕ) (ρ₂ : ℕ → ℕ) (d₂ n o : ℕ) (ls ls₃ rs rs₃ : List ℕ) → Agree n ls ls₃ → Agree o rs rs₃ → fitPending τ A ρ d ρ₂ d₂ ls₃ n rs₃ o ≡ fitPending τ A ρ d ρ₂ d₂ ls n rs o
 unfolding fitPending
-fit-agree τ A by d by₂ d₂ n o ls ls₃ rs rs₃ p q = ap₂ _&&_ (ap₂ same (type-agree τ A by d n ls ls₃ p) (type-agree τ [] by₂ d₂ o rs rs₃ q)) (meets-agree τ A by d n ls ls₃ p)
+fit-agree τ A ρ d ρ₂ d₂ n o ls ls₃ rs rs₃ p q = ap₂ _&&_ (ap₂ same (type-agree τ A ρ d n ls ls₃ p) (type-agree τ [] ρ₂ d₂ o rs rs₃ q)) (meets-agree τ A ρ d n ls ls₃ p)
 
 -- ---- stack rows l and r under way
-module _ (τ : RowTable) (A : List Arg) (m by d l by₂ d₂ r : ℕ) where
+module _ (τ : RowTable) (A : List Arg) (m : ℕ) (ρ : ℕ → ℕ) (d l : ℕ) (ρ₂ : ℕ → ℕ) (d₂ r : ℕ) where
   pub record Matching (ls : List ℕ) (i : ℕ) (rs : List ℕ) (j : ℕ) : Type 0 where
     pub lefts : Pends m l ls i
     pub rights : Pends 0 r rs j
-    pub fit : fitPending τ A by d by₂ d₂ ls i rs j ≡ sameStacks τ A by d l by₂ d₂ r
+    pub fit : fitPending τ A ρ d ρ₂ d₂ ls i rs j ≡ sameStacks τ A ρ d l ρ₂ d₂ r
 
-  first-type : (B : List Arg) (b e x : ℕ) (ws : List ℕ) → x < 32768 → 0 < length ws → pendingType τ B b e (set ws 0 x) 1 ≡ stackUnder τ B b e x
+  first-type : (B : List Arg) (b : ℕ → ℕ) (e x : ℕ) (ws : List ℕ) → x < 32768 → 0 < length ws → pendingType τ B b e (set ws 0 x) 1 ≡ stackUnder τ B b e x
   unfolding pendingType
   first-type B b e x ws h k = ap (λ z. join (entryType τ B b e z) nil) (getD-set-same ws 0 x 0 k) ∙ join-nil (entryType τ B b e x) ∙ own-type τ B b e x h
 
@@ -59,7 +61,7 @@ module _ (τ : RowTable) (A : List Arg) (m by d l by₂ d₂ r : ℕ) where
       record {
         lefts = first-pends m l ls (omega arith) p;
         rights = first-pends 0 r rs (omega arith) q;
-        fit = ap₂ _&&_ (ap₂ same (first-type A by d l ls (omega arith) p) (first-type [] by₂ d₂ r rs (omega arith) q)) (first-meets l ls (omega arith) p);
+        fit = ap₂ _&&_ (ap₂ same (first-type A ρ d l ls (omega arith) p) (first-type [] ρ₂ d₂ r rs (omega arith) q)) (first-meets l ls (omega arith) p);
       }
 
   -- the rows are stored in a list of two: ws at first, then ws₂, then ws₃
@@ -74,12 +76,12 @@ module _ (τ : RowTable) (A : List Arg) (m by d l by₂ d₂ r : ℕ) where
 
   module _ (ls : List ℕ) (i : ℕ) (rs : List ℕ) (j : ℕ) (g : Matching ls i rs j) (ls₂ rs₂ : List ℕ) where
     abbrev D : Duo → Type 0
-    D o = DuoIs τ A m by d by₂ d₂ ls i rs j ls₂ rs₂ o
+    D o = DuoIs τ A m ρ d ρ₂ d₂ ls i rs j ls₂ rs₂ o
 
-    pub match-over : (o : Duo) → D o → o ≡ Over → true ≡ sameStacks τ A by d l by₂ d₂ r
+    pub match-over : (o : Duo) → D o → o ≡ Over → true ≡ sameStacks τ A ρ d l ρ₂ d₂ r
     match-over o f e = sym (subst (λ (z : Duo). D z) e f) ∙ g .fit
 
-    pub match-unlike : (o : Duo) → D o → o ≡ Unlike → false ≡ sameStacks τ A by d l by₂ d₂ r
+    pub match-unlike : (o : Duo) → D o → o ≡ Unlike → false ≡ sameStacks τ A ρ d l ρ₂ d₂ r
     match-unlike o f e = sym (subst (λ (z : Duo). D z) e f) ∙ g .fit
 
     pub match-onward : (s : Duo) (n o : ℕ) → D s → s ≡ Onward n o → Matching ls₂ n rs₂ o × (mass ls₂ n < mass ls i)
@@ -89,7 +91,7 @@ module _ (τ : RowTable) (A : List Arg) (m by d l by₂ d₂ r : ℕ) where
 
     -- two value rows
     module _ (ls₃ rs₃ : List ℕ) where
-      pub match-own : (s : Duo) (t n u o : ℕ) {v : Bool} → Agree n ls₂ ls₃ → Agree o rs₂ rs₃ → D s → s ≡ OwnTwo t n u o → v ≡ fitValues τ A by d t by₂ d₂ u → v ≡ true → Matching ls₃ n rs₃ o × (mass ls₃ n < mass ls i)
+      pub match-own : (s : Duo) (t n u o : ℕ) {v : Bool} → Agree n ls₂ ls₃ → Agree o rs₂ rs₃ → D s → s ≡ OwnTwo t n u o → v ≡ fitValues τ A ρ d t ρ₂ d₂ u → v ≡ true → Matching ls₃ n rs₃ o × (mass ls₃ n < mass ls i)
       match-own s t n u o p q f e w x =
           let h = subst (λ (z : Duo). D z) e f in
           let y = h .1 .less in
@@ -97,12 +99,12 @@ module _ (τ : RowTable) (A : List Arg) (m by d l by₂ d₂ r : ℕ) where
             record {
               lefts = pends-agree m l n ls₂ ls₃ p (h .1 .keeps l (g .lefts));
               rights = pends-agree 0 r o rs₂ rs₃ q (h .2 .keeps r (g .rights));
-              fit = fit-agree τ A by d by₂ d₂ n o ls₂ ls₃ rs₂ rs₃ p q ∙ ap (λ z. z && fitPending τ A by d by₂ d₂ ls₂ n rs₂ o) (sym x ∙ w) ∙ sym (h .0) ∙ g .fit;
+              fit = fit-agree τ A ρ d ρ₂ d₂ n o ls₂ ls₃ rs₂ rs₃ p q ∙ ap (λ z. z && fitPending τ A ρ d ρ₂ d₂ ls₂ n rs₂ o) (sym x ∙ w) ∙ sym (h .0) ∙ g .fit;
             },
             omega arith,
           )
 
-      pub match-given : (s : Duo) (t n u o : ℕ) {v : Bool} → Agree n ls₂ ls₃ → Agree o rs₂ rs₃ → D s → s ≡ GivenTwo t n u o → v ≡ fitValues τ [] d 0 t by₂ d₂ u → v ≡ true → Matching ls₃ n rs₃ o × (mass ls₃ n < mass ls i)
+      pub match-given : (s : Duo) (t n u o : ℕ) {v : Bool} → Agree n ls₂ ls₃ → Agree o rs₂ rs₃ → D s → s ≡ GivenTwo t n u o → v ≡ fitValues τ [] (lift d) 0 t ρ₂ d₂ u → v ≡ true → Matching ls₃ n rs₃ o × (mass ls₃ n < mass ls i)
       match-given s t n u o p q f e w x =
           let h = subst (λ (z : Duo). D z) e f in
           let y = h .1 .less in
@@ -110,20 +112,20 @@ module _ (τ : RowTable) (A : List Arg) (m by d l by₂ d₂ r : ℕ) where
             record {
               lefts = pends-agree m l n ls₂ ls₃ p (h .1 .keeps l (g .lefts));
               rights = pends-agree 0 r o rs₂ rs₃ q (h .2 .keeps r (g .rights));
-              fit = fit-agree τ A by d by₂ d₂ n o ls₂ ls₃ rs₂ rs₃ p q ∙ ap (λ z. z && fitPending τ A by d by₂ d₂ ls₂ n rs₂ o) (sym x ∙ w) ∙ sym (h .0) ∙ g .fit;
+              fit = fit-agree τ A ρ d ρ₂ d₂ n o ls₂ ls₃ rs₂ rs₃ p q ∙ ap (λ z. z && fitPending τ A ρ d ρ₂ d₂ ls₂ n rs₂ o) (sym x ∙ w) ∙ sym (h .0) ∙ g .fit;
             },
             omega arith,
           )
 
-    pub own-not : (s : Duo) (t n u o : ℕ) {v : Bool} → D s → s ≡ OwnTwo t n u o → v ≡ fitValues τ A by d t by₂ d₂ u → v ≡ false → false ≡ sameStacks τ A by d l by₂ d₂ r
+    pub own-not : (s : Duo) (t n u o : ℕ) {v : Bool} → D s → s ≡ OwnTwo t n u o → v ≡ fitValues τ A ρ d t ρ₂ d₂ u → v ≡ false → false ≡ sameStacks τ A ρ d l ρ₂ d₂ r
     own-not s t n u o f e w x =
         let h = subst (λ (z : Duo). D z) e f in
-        ap (λ z. z && fitPending τ A by d by₂ d₂ ls₂ n rs₂ o) (sym x ∙ w) ∙ sym (h .0) ∙ g .fit
+        ap (λ z. z && fitPending τ A ρ d ρ₂ d₂ ls₂ n rs₂ o) (sym x ∙ w) ∙ sym (h .0) ∙ g .fit
 
-    pub given-not : (s : Duo) (t n u o : ℕ) {v : Bool} → D s → s ≡ GivenTwo t n u o → v ≡ fitValues τ [] d 0 t by₂ d₂ u → v ≡ false → false ≡ sameStacks τ A by d l by₂ d₂ r
+    pub given-not : (s : Duo) (t n u o : ℕ) {v : Bool} → D s → s ≡ GivenTwo t n u o → v ≡ fitValues τ [] (lift d) 0 t ρ₂ d₂ u → v ≡ false → false ≡ sameStacks τ A ρ d l ρ₂ d₂ r
     given-not s t n u o f e w x =
         let h = subst (λ (z : Duo). D z) e f in
-        ap (λ z. z && fitPending τ A by d by₂ d₂ ls₂ n rs₂ o) (sym x ∙ w) ∙ sym (h .0) ∙ g .fit
+        ap (λ z. z && fitPending τ A ρ d ρ₂ d₂ ls₂ n rs₂ o) (sym x ∙ w) ∙ sym (h .0) ∙ g .fit
 
     -- how far the two rows and what is pending reach
     pub own-low : (s : Duo) (t n u o : ℕ) → D s → s ≡ OwnTwo t n u o → (n + t ≤ l) × (o + u ≤ r)
@@ -147,5 +149,6 @@ not-false {b} e = go b e
     go true e = sym e
     go false e = refl
 
-pub plain-args : (τ : RowTable) (args : List ℕ) (d t by₂ d₂ u : ℕ) → fitValues τ (argsOf τ args 0) d 0 t by₂ d₂ u ≡ fitValues τ [] d 0 t by₂ d₂ u
-plain-args τ args d t by₂ d₂ u = ap (λ z. fitValues τ z d 0 t by₂ d₂ u) (no-args τ args 0 refl)
+-- a row of an argument, read now
+pub plain-args : (τ : RowTable) (args E : List ℕ) (e d t : ℕ) (ρ₂ : ℕ → ℕ) (d₂ u : ℕ) → e ≡ 2 * length E → fitValues τ (argsOf τ args 0) (shifted E e d) 0 t ρ₂ d₂ u ≡ fitValues τ [] (lift d) 0 t ρ₂ d₂ u
+plain-args τ args E e d t ρ₂ d₂ u h = ap₂ (λ z (f : ℕ → ℕ). fitValues τ z f 0 t ρ₂ d₂ u) (no-args τ args 0 refl) (ap (λ x. shifted E x d) h ∙ shifted-now E d)

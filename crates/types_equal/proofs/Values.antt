@@ -2,7 +2,7 @@
 use mathlib.Core.Path.{_≡_, refl, ap, ap₂, sym, _∙_, subst}
 use mathlib.Core.Bool.{Bool, true, false, _&&_, not, cond}
 use mathlib.Core.List.{List, []}
-use Prim.Native.Nat.{ℕ, zero, suc, _+_, _-_, _<_, _≤_}
+use Prim.Native.Nat.{ℕ, zero, suc, _+_, _-_, _*_, _<_, _≤_}
 use native.Mathlib.Omega.{arith}
 use native.Mathlib.Nat.{not-suc-le-zero}
 use native.Mathlib.Numerals.{add-one}
@@ -15,13 +15,16 @@ use Rattle.types.specs.Equal.{same, sameLetters}
 use Rattle.types.proofs.Equal.{same-refl}
 use Rattle.tables.specs.Tables.{RowTable, span, letterOf, lettersAt}
 use Rattle.types_rows.specs.declared.Val.{Val}
-use Rattle.types_rows.specs.declared.Val.the-variants.{Int, Junk, ValVar, ValFill, Tuple, Pointer, Code}
+use Rattle.types_rows.specs.declared.Val.the-variants.{Int, Junk, ValVar, ValFill, Tuple, Pointer, Code, Hidden}
 use Rattle.types_rows.specs.declared.Slot.{Slot}
 use Rattle.types_rows.specs.declared.Slot.the-variants.{Gap, Known}
 use Rattle.types_rows.specs.Read.{valueAt, isStackAt, slotAt, onSlot, partsOf, meanV, meanS, valueTo, acting, valueUnder, stackUnder, partsUnder, codeOf, codeUnder, argsOf, placeV, OkV, OkSlot}
+use Rattle.types_rows.specs.Environments.{shifted}
 use Rattle.types_rows.proofs.Laws.{noArg, typeV, value-read}
+use Rattle.types_rows.proofs.Environments.{shifted-now}
+use Rattle.types_equal.specs.declared.stack_pairs.Context.{Context}
 use Rattle.types_equal.specs.declared.value_pairs.Pair.{Pair}
-use Rattle.types_equal.specs.declared.value_pairs.Pair.the-variants.{Same, Differ, Filled, Tuples, Pointers, Codes}
+use Rattle.types_equal.specs.declared.value_pairs.Pair.the-variants.{Same, Differ, Filled, Tuples, Pointers, Codes, Hiddens}
 use Rattle.types_equal.specs.declared.value_pairs.Heads.{Heads}
 use Rattle.types_equal.specs.declared.value_pairs.Heads.the-variants.{Apart, Both}
 use Rattle.types_equal.specs.value_pairs.Pairs.{pairOf, slotsOf, lettersFrom}
@@ -53,6 +56,7 @@ OkP m l r (Filled j) = j < m
 OkP m l r (Tuples p q n) = (p ≤ 65535) × (q ≤ 65535) × (n ≤ 65535) × (0 < l) × (0 < r)
 OkP m l r (Pointers x y) = (x < l) × (y < r)
 OkP m l r (Codes x p y q) = (x < l) × (p ≤ 65535) × (y < r) × (q ≤ 65535)
+OkP m l r (Hiddens x y) = (x < l) × (y < r)
 
 module _ (m l r : ℕ) where
   ok-same : (b : Bool) → OkP m l r (cond b Same Differ)
@@ -71,6 +75,7 @@ module _ (m l r : ℕ) where
   ok-pair Int (Tuple q o) f g = tt
   ok-pair Int (Pointer y) f g = tt
   ok-pair Int (Code y q) f g = tt
+  ok-pair Int (Hidden y) f g = tt
   ok-pair Junk Int f g = tt
   ok-pair Junk Junk f g = tt
   ok-pair Junk (ValVar i) f g = tt
@@ -78,6 +83,7 @@ module _ (m l r : ℕ) where
   ok-pair Junk (Tuple q o) f g = tt
   ok-pair Junk (Pointer y) f g = tt
   ok-pair Junk (Code y q) f g = tt
+  ok-pair Junk (Hidden y) f g = tt
   ok-pair (ValVar k) Int f g = tt
   ok-pair (ValVar k) Junk f g = tt
   ok-pair (ValVar k) (ValVar i) f g = ok-same (eqb k i)
@@ -85,6 +91,7 @@ module _ (m l r : ℕ) where
   ok-pair (ValVar k) (Tuple q o) f g = tt
   ok-pair (ValVar k) (Pointer y) f g = tt
   ok-pair (ValVar k) (Code y q) f g = tt
+  ok-pair (ValVar k) (Hidden y) f g = tt
   ok-pair (ValFill j) w f g = f
   ok-pair (Tuple p n) Int f g = tt
   ok-pair (Tuple p n) Junk f g = tt
@@ -93,6 +100,7 @@ module _ (m l r : ℕ) where
   ok-pair (Tuple p n) (Tuple q o) f g = ok-long p q n (eqb n o) f g
   ok-pair (Tuple p n) (Pointer y) f g = tt
   ok-pair (Tuple p n) (Code y q) f g = tt
+  ok-pair (Tuple p n) (Hidden y) f g = tt
   ok-pair (Pointer x) Int f g = tt
   ok-pair (Pointer x) Junk f g = tt
   ok-pair (Pointer x) (ValVar i) f g = tt
@@ -100,6 +108,7 @@ module _ (m l r : ℕ) where
   ok-pair (Pointer x) (Tuple q o) f g = tt
   ok-pair (Pointer x) (Pointer y) f g = (f, g)
   ok-pair (Pointer x) (Code y q) f g = tt
+  ok-pair (Pointer x) (Hidden y) f g = tt
   ok-pair (Code x p) Int f g = tt
   ok-pair (Code x p) Junk f g = tt
   ok-pair (Code x p) (ValVar i) f g = tt
@@ -107,39 +116,49 @@ module _ (m l r : ℕ) where
   ok-pair (Code x p) (Tuple q o) f g = tt
   ok-pair (Code x p) (Pointer y) f g = tt
   ok-pair (Code x p) (Code y q) f g = (f .0, f .1, g .0, g .1)
+  ok-pair (Code x p) (Hidden y) f g = tt
+  ok-pair (Hidden x) Int f g = tt
+  ok-pair (Hidden x) Junk f g = tt
+  ok-pair (Hidden x) (ValVar i) f g = tt
+  ok-pair (Hidden x) (ValFill h) f g = tt
+  ok-pair (Hidden x) (Tuple q o) f g = tt
+  ok-pair (Hidden x) (Pointer y) f g = tt
+  ok-pair (Hidden x) (Code y q) f g = tt
+  ok-pair (Hidden x) (Hidden y) f g = (f, g)
 
   pub pair-ok : (n w : Val) {p q : Pair} → OkV m l n → OkV 0 r w → p ≡ pairOf n w → p ≡ q → OkP m l r q
   pair-ok n w f g e h = subst (λ (z : Pair). OkP m l r z) (sym e ∙ h) (ok-pair n w f g)
 
 -- ---- two value rows
-module _ (τ : RowTable) (A : List Arg) (by d by₂ d₂ : ℕ) where
-  parts-unlike : (l r p q n o : ℕ) → (n ≡ o → ⊥) → same (partsUnder τ A by d false l p n) (partsUnder τ [] by₂ d₂ false r q o) ≡ false
+module _ (τ : RowTable) (A : List Arg) (ρ : ℕ → ℕ) (d : ℕ) (ρ₂ : ℕ → ℕ) (d₂ : ℕ) where
+  parts-unlike : (l r p q n o : ℕ) → (n ≡ o → ⊥) → same (partsUnder τ A ρ d false l p n) (partsUnder τ [] ρ₂ d₂ false r q o) ≡ false
   unfolding partsUnder
   parts-unlike l r p q n o z =
-      same-items (walk (acting A by) d (partsOf (meanV τ) (τ .parts) false l p n)) (walk (acting [] by₂) d₂ (partsOf (meanV τ) (τ .parts) false r q o))
-      (λ h. let f = items-parts (acting A by) d (meanV τ) (τ .parts) false l p n in let g = items-parts (acting [] by₂) d₂ (meanV τ) (τ .parts) false r q o in z (omega arith))
+      same-items (walk (acting A ρ) d (partsOf (meanV τ) (τ .parts) false l p n)) (walk (acting [] ρ₂) d₂ (partsOf (meanV τ) (τ .parts) false r q o))
+      (λ h. let f = items-parts (acting A ρ) d (meanV τ) (τ .parts) false l p n in let g = items-parts (acting [] ρ₂) d₂ (meanV τ) (τ .parts) false r q o in z (omega arith))
 
-module _ (τ : RowTable) (A : List Arg) (by d by₂ d₂ : ℕ) where
+module _ (τ : RowTable) (A : List Arg) (ρ : ℕ → ℕ) (d : ℕ) (ρ₂ : ℕ → ℕ) (d₂ : ℕ) where
   abbrev pub onPair : ℕ → ℕ → Ty value → Pair → Bool
   onPair l r R Same = true
   onPair l r R Differ = false
   onPair l r R (Filled j) = same (raise d (ofKind value (getD A j noArg))) R && fitsKind value A j
-  onPair l r R (Tuples p q n) = fitParts τ A by d false l p by₂ d₂ r q n
-  onPair l r R (Pointers x y) = sameStacks τ A by d x by₂ d₂ y
-  onPair l r R (Codes x p y q) = fitCodes τ A by d l x p by₂ d₂ r y q
+  onPair l r R (Tuples p q n) = fitParts τ A ρ d false l p ρ₂ d₂ r q n
+  onPair l r R (Pointers x y) = sameStacks τ A ρ d x ρ₂ d₂ y
+  onPair l r R (Codes x p y q) = fitCodes τ A ρ d l x p ρ₂ d₂ r y q
+  onPair l r R (Hiddens x y) = fitValues τ A ρ (suc d) x ρ₂ (suc d₂) y
 
   pair-same : (l r : ℕ) (R : Ty value) (b : Bool) → b && true ≡ onPair l r R (cond b Same Differ)
   pair-same l r R true = refl
   pair-same l r R false = refl
 
   pair-long : (l r : ℕ) (R : Ty value) (p q n o : ℕ) (b : Bool) → eqb n o ≡ b
-      → same (partsUnder τ A by d false l p n) (partsUnder τ [] by₂ d₂ false r q o) && meets A d (partsOf (meanV τ) (τ .parts) false l p n) ≡ onPair l r R (cond b (Tuples p q n) Differ)
+      → same (partsUnder τ A ρ d false l p n) (partsUnder τ [] ρ₂ d₂ false r q o) && meets A d (partsOf (meanV τ) (τ .parts) false l p n) ≡ onPair l r R (cond b (Tuples p q n) Differ)
   unfolding fitParts
   pair-long l r R p q n o true e = let h = eqb-true n o e in rw h refl
-  pair-long l r R p q n o false e = ap (λ z. z && meets A d (partsOf (meanV τ) (τ .parts) false l p n)) (parts-unlike τ A by d by₂ d₂ l r p q n o (eqb-false n o e))
+  pair-long l r R p q n o false e = ap (λ z. z && meets A d (partsOf (meanV τ) (τ .parts) false l p n)) (parts-unlike τ A ρ d ρ₂ d₂ l r p q n o (eqb-false n o e))
 
-  pair-is : (l r : ℕ) (n w : Val) → OkV 0 r w → same (typeV τ A by d l n) (typeV τ [] by₂ d₂ r w) && meetsV τ A by d l n ≡ onPair l r (typeV τ [] by₂ d₂ r w) (pairOf n w)
-  unfolding same fitCodes sameStacks codeUnder codeOf walk
+  pair-is : (l r : ℕ) (n w : Val) → OkV 0 r w → same (typeV τ A ρ d l n) (typeV τ [] ρ₂ d₂ r w) && meetsV τ A ρ d l n ≡ onPair l r (typeV τ [] ρ₂ d₂ r w) (pairOf n w)
+  unfolding same fitValues fitCodes sameStacks codeUnder codeOf walk
   pair-is l r Int Int ok = refl
   pair-is l r Int Junk ok = refl
   pair-is l r Int (ValVar i) ok = refl
@@ -147,6 +166,7 @@ module _ (τ : RowTable) (A : List Arg) (by d by₂ d₂ : ℕ) where
   pair-is l r Int (Tuple q o) ok = refl
   pair-is l r Int (Pointer y) ok = refl
   pair-is l r Int (Code y q) ok = refl
+  pair-is l r Int (Hidden y) ok = refl
   pair-is l r Junk Int ok = refl
   pair-is l r Junk Junk ok = refl
   pair-is l r Junk (ValVar i) ok = refl
@@ -154,6 +174,7 @@ module _ (τ : RowTable) (A : List Arg) (by d by₂ d₂ : ℕ) where
   pair-is l r Junk (Tuple q o) ok = refl
   pair-is l r Junk (Pointer y) ok = refl
   pair-is l r Junk (Code y q) ok = refl
+  pair-is l r Junk (Hidden y) ok = refl
   pair-is l r (ValVar k) Int ok = refl
   pair-is l r (ValVar k) Junk ok = refl
   pair-is l r (ValVar k) (ValVar i) ok = pair-same l r (var i) (eqb k i)
@@ -161,14 +182,16 @@ module _ (τ : RowTable) (A : List Arg) (by d by₂ d₂ : ℕ) where
   pair-is l r (ValVar k) (Tuple q o) ok = refl
   pair-is l r (ValVar k) (Pointer y) ok = refl
   pair-is l r (ValVar k) (Code y q) ok = refl
+  pair-is l r (ValVar k) (Hidden y) ok = refl
   pair-is l r (ValFill j) w ok = refl
   pair-is l r (Tuple p n) Int ok = refl
   pair-is l r (Tuple p n) Junk ok = refl
   pair-is l r (Tuple p n) (ValVar i) ok = refl
   pair-is l r (Tuple p n) (ValFill h) ok = absurd (not-suc-le-zero ok)
-  pair-is l r (Tuple p n) (Tuple q o) ok = pair-long l r (tuple (partsUnder τ [] by₂ d₂ false r q o)) p q n o (eqb n o) refl
+  pair-is l r (Tuple p n) (Tuple q o) ok = pair-long l r (tuple (partsUnder τ [] ρ₂ d₂ false r q o)) p q n o (eqb n o) refl
   pair-is l r (Tuple p n) (Pointer y) ok = refl
   pair-is l r (Tuple p n) (Code y q) ok = refl
+  pair-is l r (Tuple p n) (Hidden y) ok = refl
   pair-is l r (Pointer x) Int ok = refl
   pair-is l r (Pointer x) Junk ok = refl
   pair-is l r (Pointer x) (ValVar i) ok = refl
@@ -176,6 +199,7 @@ module _ (τ : RowTable) (A : List Arg) (by d by₂ d₂ : ℕ) where
   pair-is l r (Pointer x) (Tuple q o) ok = refl
   pair-is l r (Pointer x) (Pointer y) ok = refl
   pair-is l r (Pointer x) (Code y q) ok = refl
+  pair-is l r (Pointer x) (Hidden y) ok = refl
   pair-is l r (Code x p) Int ok = refl
   pair-is l r (Code x p) Junk ok = refl
   pair-is l r (Code x p) (ValVar i) ok = refl
@@ -183,37 +207,50 @@ module _ (τ : RowTable) (A : List Arg) (by d by₂ d₂ : ℕ) where
   pair-is l r (Code x p) (Tuple q o) ok = refl
   pair-is l r (Code x p) (Pointer y) ok = refl
   pair-is l r (Code x p) (Code y q) ok = refl
+  pair-is l r (Code x p) (Hidden y) ok = refl
+  pair-is l r (Hidden x) Int ok = refl
+  pair-is l r (Hidden x) Junk ok = refl
+  pair-is l r (Hidden x) (ValVar i) ok = refl
+  pair-is l r (Hidden x) (ValFill h) ok = absurd (not-suc-le-zero ok)
+  pair-is l r (Hidden x) (Tuple q o) ok = refl
+  pair-is l r (Hidden x) (Pointer y) ok = refl
+  pair-is l r (Hidden x) (Code y q) ok = refl
+  pair-is l r (Hidden x) (Hidden y) ok = refl
 
-  pub value-pair : (m l r : ℕ) {n w : Val} {p q : Pair} → length A ≡ m → n ≡ valueAt (τ .rows) (placeV m by d) l → w ≡ valueAt (τ .rows) (placeV 0 by₂ d₂) r → OkV 0 r w → p ≡ pairOf n w → p ≡ q
-      → onPair l r (valueUnder τ [] by₂ d₂ r) q ≡ fitValues τ A by d l by₂ d₂ r
+  pub value-pair : (m l r : ℕ) {n w : Val} {p q : Pair} → length A ≡ m → n ≡ valueAt (τ .rows) (placeV m ρ d) l → w ≡ valueAt (τ .rows) (placeV 0 ρ₂ d₂) r → OkV 0 r w → p ≡ pairOf n w → p ≡ q
+      → onPair l r (valueUnder τ [] ρ₂ d₂ r) q ≡ fitValues τ A ρ d l ρ₂ d₂ r
   unfolding fitValues
   value-pair m l r {n} {w} {p} {q} a e f ok g h =
-      let vl : valueUnder τ A by d l ≡ typeV τ A by d l n = value-read τ A by d m l a e in
-      let vr : valueUnder τ [] by₂ d₂ r ≡ typeV τ [] by₂ d₂ r w = value-read τ [] by₂ d₂ 0 r refl f in
-      let vm : meets A d (meanV τ l) ≡ meetsV τ A by d l n = value-meets τ A by d m l a e in
-      ap (λ (z : Ty value). onPair l r z q) vr ∙ ap (onPair l r (typeV τ [] by₂ d₂ r w)) (sym h ∙ g) ∙ sym (pair-is l r n w ok) ∙ ap₂ _&&_ (ap₂ same (sym vl) (sym vr)) (sym vm)
+      let vl : valueUnder τ A ρ d l ≡ typeV τ A ρ d l n = value-read τ A ρ d m l a e in
+      let vr : valueUnder τ [] ρ₂ d₂ r ≡ typeV τ [] ρ₂ d₂ r w = value-read τ [] ρ₂ d₂ 0 r refl f in
+      let vm : meets A d (meanV τ l) ≡ meetsV τ A ρ d l n = value-meets τ A ρ d m l a e in
+      ap (λ (z : Ty value). onPair l r z q) vr ∙ ap (onPair l r (typeV τ [] ρ₂ d₂ r w)) (sym h ∙ g) ∙ sym (pair-is l r n w ok) ∙ ap₂ _&&_ (ap₂ same (sym vl) (sym vr)) (sym vm)
 
--- ---- a value argument
-module _ (τ : RowTable) (args : List ℕ) (m by d by₂ d₂ r j a : ℕ) (h : j < m) (e : a ≡ getD args j 0) where
-  pub filled-value : {b o : Bool} → b ≡ isStackAt (τ .rows) a → b ≡ false → o ≡ fitValues τ (argsOf τ args 0) d 0 (a + 1) by₂ d₂ r
-      → o ≡ same (raise d (ofKind value (getD (argsOf τ args m) j noArg))) (valueUnder τ [] by₂ d₂ r) && fitsKind value (argsOf τ args m) j
+-- ---- the insides of two packages
+pub hiddens-are : (τ : RowTable) (A : List Arg) (ρ : ℕ → ℕ) (d x : ℕ) (ρ₂ : ℕ → ℕ) (d₂ y : ℕ) {o : Bool} → o ≡ fitValues τ A ρ (d + 1) x ρ₂ (d₂ + 1) y → o ≡ fitValues τ A ρ (suc d) x ρ₂ (suc d₂) y
+hiddens-are τ A ρ d x ρ₂ d₂ y e = rw (add-one d, add-one d₂) at e
+
+-- ---- a value argument, read now
+module _ (τ : RowTable) (args E : List ℕ) (m d : ℕ) (ρ₂ : ℕ → ℕ) (d₂ r j a : ℕ) (h : j < m) (e : a ≡ getD args j 0) where
+  pub filled-value : {x : ℕ} {b o : Bool} → x ≡ 2 * length E → b ≡ isStackAt (τ .rows) a → b ≡ false → o ≡ fitValues τ (argsOf τ args 0) (shifted E x d) 0 (a + 1) ρ₂ d₂ r
+      → o ≡ same (raise d (ofKind value (getD (argsOf τ args m) j noArg))) (valueUnder τ [] ρ₂ d₂ r) && fitsKind value (argsOf τ args m) j
   unfolding fitValues valueUnder
-  filled-value {b} {o} f g i =
+  filled-value {x} {b} {o} w f g i =
       let q : a + 1 ≡ suc a = omega arith in
       let k : fitsKind value (argsOf τ args m) j ≡ true = fits-value τ args m j a h e f ∙ ap not g in
-      i ∙ rw (no-args τ args 0 refl, q, raised d (meanV τ (suc a)), meets-none 0 (meanV τ (suc a)), k, arg-type τ args m j a h e value) refl
+      i ∙ rw (no-args τ args 0 refl, q, w, shifted-now E d, raised d (meanV τ (suc a)), meets-none 0 (meanV τ (suc a)), k, arg-type τ args m j a h e value) refl
 
-  pub filled-not : {b : Bool} → b ≡ isStackAt (τ .rows) a → b ≡ true → false ≡ same (raise d (ofKind value (getD (argsOf τ args m) j noArg))) (valueUnder τ [] by₂ d₂ r) && fitsKind value (argsOf τ args m) j
+  pub filled-not : {b : Bool} → b ≡ isStackAt (τ .rows) a → b ≡ true → false ≡ same (raise d (ofKind value (getD (argsOf τ args m) j noArg))) (valueUnder τ [] ρ₂ d₂ r) && fitsKind value (argsOf τ args m) j
   filled-not f g =
       let k : fitsKind value (argsOf τ args m) j ≡ false = fits-value τ args m j a h e f ∙ ap not g in
-      rw k (sym (and-false (same (raise d (ofKind value (getD (argsOf τ args m) j noArg))) (valueUnder τ [] by₂ d₂ r))))
+      rw k (sym (and-false (same (raise d (ofKind value (getD (argsOf τ args m) j noArg))) (valueUnder τ [] ρ₂ d₂ r))))
 
--- ---- the same value row in the same context
-pub place-value : (τ : RowTable) (args : List ℕ) (m by d l by₂ d₂ r : ℕ) {b : Bool} → (b ≡ true → AtSame m by d l by₂ d₂ r) → b ≡ true → true ≡ fitValues τ (argsOf τ args m) by d l by₂ d₂ r
+-- ---- the same value row in the same context, E being the environments
+pub place-value : (τ : RowTable) (args E : List ℕ) (k : Context) (l r : ℕ) {b : Bool} → (b ≡ true → AtSame k l r) → b ≡ true → true ≡ fitValues τ (argsOf τ args (k .m)) (shifted E (k .env) (k .by)) (k .d) l (shifted E (k .env2) (k .by2)) (k .d2) r
 unfolding fitValues
-place-value τ args m by d l by₂ d₂ r f t =
+place-value τ args E k l r f t =
     let s = f t in
-    rw (no-args τ args m (s .no-args), s .row, s .lift, s .depth, meets-none d₂ (meanV τ r), same-refl (valueUnder τ [] by₂ d₂ r)) refl
+    rw (no-args τ args (k .m) (s .no-args), s .row, s .place, s .raised, s .depth, meets-none (k .d2) (meanV τ r), same-refl (valueUnder τ [] (shifted E (k .env2) (k .by2)) (k .d2) r)) refl
 
 -- ---- two tests in a row
 pub both-same : {v x y o : Bool} → v ≡ true → v ≡ x → o ≡ y → o ≡ x && y
@@ -236,30 +273,30 @@ heads-low l r t u (Known j) (Known k) a b f g e i =
     (omega arith, omega arith)
 
 -- no row and no row
-none-fits : (τ : RowTable) (A : List Arg) (by d by₂ d₂ : ℕ) → fitValues τ A by d 0 by₂ d₂ 0 ≡ true
+none-fits : (τ : RowTable) (A : List Arg) (ρ : ℕ → ℕ) (d : ℕ) (ρ₂ : ℕ → ℕ) (d₂ : ℕ) → fitValues τ A ρ d 0 ρ₂ d₂ 0 ≡ true
 unfolding fitValues valueUnder meanV valueTo walk same meets
-none-fits τ A by d by₂ d₂ = refl
+none-fits τ A ρ d ρ₂ d₂ = refl
 
-module _ (τ : RowTable) (A : List Arg) (by d : ℕ) (file : Bool) (l by₂ d₂ r : ℕ) where
+module _ (τ : RowTable) (A : List Arg) (ρ : ℕ → ℕ) (d : ℕ) (file : Bool) (l : ℕ) (ρ₂ : ℕ → ℕ) (d₂ r : ℕ) where
   abbrev pub onHeads : Bool → Heads → Bool
   onHeads b Apart = false
-  onHeads b (Both t u) = fitValues τ A by d t by₂ d₂ u && b
+  onHeads b (Both t u) = fitValues τ A ρ d t ρ₂ d₂ u && b
 
-  on-slots : (x y : Slot) (a b : Ty stack) → same (walk (acting A by) d (onSlot (meanV τ) x a)) (walk (acting [] by₂) d₂ (onSlot (meanV τ) y b)) && meets A d (onSlot (meanV τ) x a)
-      ≡ onHeads (same (walk (acting A by) d a) (walk (acting [] by₂) d₂ b) && meets A d a) (slotsOf x y)
+  on-slots : (x y : Slot) (a b : Ty stack) → same (walk (acting A ρ) d (onSlot (meanV τ) x a)) (walk (acting [] ρ₂) d₂ (onSlot (meanV τ) y b)) && meets A d (onSlot (meanV τ) x a)
+      ≡ onHeads (same (walk (acting A ρ) d a) (walk (acting [] ρ₂) d₂ b) && meets A d a) (slotsOf x y)
   unfolding same walk meets fitValues valueUnder
-  on-slots Gap Gap a b = sym (ap (λ z. z && (same (walk (acting A by) d a) (walk (acting [] by₂) d₂ b) && meets A d a)) (none-fits τ A by d by₂ d₂))
+  on-slots Gap Gap a b = sym (ap (λ z. z && (same (walk (acting A ρ) d a) (walk (acting [] ρ₂) d₂ b) && meets A d a)) (none-fits τ A ρ d ρ₂ d₂))
   on-slots Gap (Known u) a b = refl
   on-slots (Known t) Gap a b = refl
-  on-slots (Known t) (Known u) a b = and-swap (same (walk (acting A by) d (meanV τ t)) (walk (acting [] by₂) d₂ (meanV τ u))) (same (walk (acting A by) d a) (walk (acting [] by₂) d₂ b)) (meets A d (meanV τ t)) (meets A d a)
+  on-slots (Known t) (Known u) a b = and-swap (same (walk (acting A ρ) d (meanV τ t)) (walk (acting [] ρ₂) d₂ (meanV τ u))) (same (walk (acting A ρ) d a) (walk (acting [] ρ₂) d₂ b)) (meets A d (meanV τ t)) (meets A d a)
 
-  pub parts-end : (p q n : ℕ) → n ≡ 0 → true ≡ fitParts τ A by d file l p by₂ d₂ r q n
+  pub parts-end : (p q n : ℕ) → n ≡ 0 → true ≡ fitParts τ A ρ d file l p ρ₂ d₂ r q n
   unfolding fitParts partsUnder partsOf walk same meets
   parts-end p q zero e = refl
   parts-end p q (suc n) e = absurd (omega arith)
 
   pub parts-are : (p q n : ℕ) {x y : Slot} {h k : Heads} → (n ≡ 0 → ⊥) → x ≡ slotAt file l (getD (τ .parts) p 0) → y ≡ slotAt file r (getD (τ .parts) q 0) → h ≡ slotsOf x y → h ≡ k
-      → onHeads (fitParts τ A by d file l (p + 1) by₂ d₂ r (q + 1) (n - 1)) k ≡ fitParts τ A by d file l p by₂ d₂ r q n
+      → onHeads (fitParts τ A ρ d file l (p + 1) ρ₂ d₂ r (q + 1) (n - 1)) k ≡ fitParts τ A ρ d file l p ρ₂ d₂ r q n
   unfolding fitParts partsUnder partsOf
   parts-are p q zero z e f g i = absurd (z refl)
   parts-are p q (suc n) {x} {y} {h} {k} z e f g i =
@@ -268,10 +305,10 @@ module _ (τ : RowTable) (A : List Arg) (by d : ℕ) (file : Bool) (l by₂ d₂
       rw (v, w, add-one p, add-one q) (sym (on-slots (slotAt file l (getD (τ .parts) p 0)) (slotAt file r (getD (τ .parts) q 0)) (partsOf (meanV τ) (τ .parts) file l (suc p) n) (partsOf (meanV τ) (τ .parts) file r (suc q) n)))
 
 -- ---- parts, i of n being equal
-module _ (τ : RowTable) (A : List Arg) (by d : ℕ) (file : Bool) (l by₂ d₂ r p q n : ℕ) where
+module _ (τ : RowTable) (A : List Arg) (ρ : ℕ → ℕ) (d : ℕ) (file : Bool) (l : ℕ) (ρ₂ : ℕ → ℕ) (d₂ r p q n : ℕ) where
   pub record PartsLeft (i : ℕ) : Type 0 where
     pub most : i ≤ n
-    pub left : fitParts τ A by d file l (p + i) by₂ d₂ r (q + i) (n - i) ≡ fitParts τ A by d file l p by₂ d₂ r q n
+    pub left : fitParts τ A ρ d file l (p + i) ρ₂ d₂ r (q + i) (n - i) ≡ fitParts τ A ρ d file l p ρ₂ d₂ r q n
 
   pub parts-first : PartsLeft 0
   parts-first =
@@ -280,27 +317,27 @@ module _ (τ : RowTable) (A : List Arg) (by d : ℕ) (file : Bool) (l by₂ d₂
       let c : n - 0 ≡ n = omega arith in
       record { most = omega arith; left = rw (a, b, c) refl }
 
-  pub parts-last : (i : ℕ) → n ≤ i → PartsLeft i → true ≡ fitParts τ A by d file l p by₂ d₂ r q n
-  parts-last i h g = let m = g .most in parts-end τ A by d file l by₂ d₂ r (p + i) (q + i) (n - i) (omega arith) ∙ g .left
+  pub parts-last : (i : ℕ) → n ≤ i → PartsLeft i → true ≡ fitParts τ A ρ d file l p ρ₂ d₂ r q n
+  parts-last i h g = let m = g .most in parts-end τ A ρ d file l ρ₂ d₂ r (p + i) (q + i) (n - i) (omega arith) ∙ g .left
 
   module _ (i : ℕ) (g : PartsLeft i) {x y : Slot} {h : Heads} (k : i < n) (e : x ≡ slotAt file l (getD (τ .parts) (p + i) 0)) (f : y ≡ slotAt file r (getD (τ .parts) (q + i) 0)) (s : h ≡ slotsOf x y) where
-    parts-step : (k : Heads) → h ≡ k → onHeads τ A by d file l by₂ d₂ r (fitParts τ A by d file l ((p + i) + 1) by₂ d₂ r ((q + i) + 1) ((n - i) - 1)) k ≡ fitParts τ A by d file l p by₂ d₂ r q n
-    parts-step j u = parts-are τ A by d file l by₂ d₂ r (p + i) (q + i) (n - i) (λ z. omega arith) e f s u ∙ g .left
+    parts-step : (k : Heads) → h ≡ k → onHeads τ A ρ d file l ρ₂ d₂ r (fitParts τ A ρ d file l ((p + i) + 1) ρ₂ d₂ r ((q + i) + 1) ((n - i) - 1)) k ≡ fitParts τ A ρ d file l p ρ₂ d₂ r q n
+    parts-step j u = parts-are τ A ρ d file l ρ₂ d₂ r (p + i) (q + i) (n - i) (λ z. omega arith) e f s u ∙ g .left
 
-    pub parts-apart : h ≡ Apart → false ≡ fitParts τ A by d file l p by₂ d₂ r q n
+    pub parts-apart : h ≡ Apart → false ≡ fitParts τ A ρ d file l p ρ₂ d₂ r q n
     parts-apart u = parts-step Apart u
 
-    pub parts-differ : (t u : ℕ) {v : Bool} → h ≡ Both t u → v ≡ fitValues τ A by d t by₂ d₂ u → v ≡ false → false ≡ fitParts τ A by d file l p by₂ d₂ r q n
-    parts-differ t u w a b = ap (λ z. z && fitParts τ A by d file l ((p + i) + 1) by₂ d₂ r ((q + i) + 1) ((n - i) - 1)) (sym b ∙ a) ∙ parts-step (Both t u) w
+    pub parts-differ : (t u : ℕ) {v : Bool} → h ≡ Both t u → v ≡ fitValues τ A ρ d t ρ₂ d₂ u → v ≡ false → false ≡ fitParts τ A ρ d file l p ρ₂ d₂ r q n
+    parts-differ t u w a b = ap (λ z. z && fitParts τ A ρ d file l ((p + i) + 1) ρ₂ d₂ r ((q + i) + 1) ((n - i) - 1)) (sym b ∙ a) ∙ parts-step (Both t u) w
 
-    pub parts-next : (t u : ℕ) {v : Bool} → h ≡ Both t u → v ≡ fitValues τ A by d t by₂ d₂ u → v ≡ true → PartsLeft (i + 1)
+    pub parts-next : (t u : ℕ) {v : Bool} → h ≡ Both t u → v ≡ fitValues τ A ρ d t ρ₂ d₂ u → v ≡ true → PartsLeft (i + 1)
     parts-next t u w a b =
         let c : p + (i + 1) ≡ (p + i) + 1 = omega arith in
         let j : q + (i + 1) ≡ (q + i) + 1 = omega arith in
         let o : n - (i + 1) ≡ (n - i) - 1 = omega arith in
         record {
           most = omega arith;
-          left = rw (c, j, o) (ap (λ z. z && fitParts τ A by d file l ((p + i) + 1) by₂ d₂ r ((q + i) + 1) ((n - i) - 1)) (sym b ∙ a) ∙ parts-step (Both t u) w);
+          left = rw (c, j, o) (ap (λ z. z && fitParts τ A ρ d file l ((p + i) + 1) ρ₂ d₂ r ((q + i) + 1) ((n - i) - 1)) (sym b ∙ a) ∙ parts-step (Both t u) w);
         }
 
 -- ---- code
@@ -318,27 +355,27 @@ module _ (τ : RowTable) (p a : ℕ) (e : a ≡ getD (τ .parts) (p + 8) 0) wher
   unfolding lettersAt lettersFrom
   letters-at = rw (← e) refl
 
-  pub code-under : (A : List Arg) (by d l x : ℕ) → codeUnder τ A by d l x p ≡ code (lettersFrom (τ .parts) (p + 9) a) (stackUnder τ A by (a + d) x) (partsUnder τ A by (a + d) true l p 8)
+  pub code-under : (A : List Arg) (ρ : ℕ → ℕ) (d l x : ℕ) → codeUnder τ A ρ d l x p ≡ code (lettersFrom (τ .parts) (p + 9) a) (stackUnder τ A ρ (a + d) x) (partsUnder τ A ρ (a + d) true l p 8)
   unfolding codeUnder codeOf walk stackUnder partsUnder
-  code-under A by d l x = rw (letters-at, length-letters (τ .parts) (p + 9) a) refl
+  code-under A ρ d l x = rw (letters-at, length-letters (τ .parts) (p + 9) a) refl
 
   pub code-meets : (A : List Arg) (d l x : ℕ) → meets A d (codeOf τ l x p) ≡ meets A (a + d) (meanS τ x) && meets A (a + d) (partsOf (meanV τ) (τ .parts) true l p 8)
   unfolding codeOf meets
   code-meets A d l x = rw (letters-at, length-letters (τ .parts) (p + 9) a) refl
 
-module _ (τ : RowTable) (A : List Arg) (by d l by₂ d₂ r x p y q a b : ℕ) (e : a ≡ getD (τ .parts) (p + 8) 0) (f : b ≡ getD (τ .parts) (q + 8) 0) where
-  codes-are : fitCodes τ A by d l x p by₂ d₂ r y q
-      ≡ (sameLetters (lettersFrom (τ .parts) (p + 9) a) (lettersFrom (τ .parts) (q + 9) b) && (same (stackUnder τ A by (a + d) x) (stackUnder τ [] by₂ (b + d₂) y) && same (partsUnder τ A by (a + d) true l p 8) (partsUnder τ [] by₂ (b + d₂) true r q 8)))
+module _ (τ : RowTable) (A : List Arg) (ρ : ℕ → ℕ) (d l : ℕ) (ρ₂ : ℕ → ℕ) (d₂ r x p y q a b : ℕ) (e : a ≡ getD (τ .parts) (p + 8) 0) (f : b ≡ getD (τ .parts) (q + 8) 0) where
+  codes-are : fitCodes τ A ρ d l x p ρ₂ d₂ r y q
+      ≡ (sameLetters (lettersFrom (τ .parts) (p + 9) a) (lettersFrom (τ .parts) (q + 9) b) && (same (stackUnder τ A ρ (a + d) x) (stackUnder τ [] ρ₂ (b + d₂) y) && same (partsUnder τ A ρ (a + d) true l p 8) (partsUnder τ [] ρ₂ (b + d₂) true r q 8)))
       && (meets A (a + d) (meanS τ x) && meets A (a + d) (partsOf (meanV τ) (τ .parts) true l p 8))
   unfolding fitCodes same
-  codes-are = ap₂ _&&_ (ap₂ same (code-under τ p a e A by d l x) (code-under τ q b f [] by₂ d₂ r y)) (code-meets τ p a e A d l x)
+  codes-are = ap₂ _&&_ (ap₂ same (code-under τ p a e A ρ d l x) (code-under τ q b f [] ρ₂ d₂ r y)) (code-meets τ p a e A d l x)
 
-  pub codes-off : {s : Bool} → s ≡ sameLetters (lettersFrom (τ .parts) (p + 9) a) (lettersFrom (τ .parts) (q + 9) b) → s ≡ false → false ≡ fitCodes τ A by d l x p by₂ d₂ r y q
+  pub codes-off : {s : Bool} → s ≡ sameLetters (lettersFrom (τ .parts) (p + 9) a) (lettersFrom (τ .parts) (q + 9) b) → s ≡ false → false ≡ fitCodes τ A ρ d l x p ρ₂ d₂ r y q
   codes-off h i = rw (codes-are, ← h, i) refl
 
   pub codes-on : {s : Bool} → s ≡ sameLetters (lettersFrom (τ .parts) (p + 9) a) (lettersFrom (τ .parts) (q + 9) b) → s ≡ true
-      → sameStacks τ A by (a + d) x by₂ (b + d₂) y && fitParts τ A by (a + d) true l p by₂ (b + d₂) r q 8 ≡ fitCodes τ A by d l x p by₂ d₂ r y q
+      → sameStacks τ A ρ (a + d) x ρ₂ (b + d₂) y && fitParts τ A ρ (a + d) true l p ρ₂ (b + d₂) r q 8 ≡ fitCodes τ A ρ d l x p ρ₂ d₂ r y q
   unfolding sameStacks fitParts
   codes-on h i =
       rw (codes-are, ← h, i)
-      (sym (and-swap (same (stackUnder τ A by (a + d) x) (stackUnder τ [] by₂ (b + d₂) y)) (same (partsUnder τ A by (a + d) true l p 8) (partsUnder τ [] by₂ (b + d₂) true r q 8)) (meets A (a + d) (meanS τ x)) (meets A (a + d) (partsOf (meanV τ) (τ .parts) true l p 8))))
+      (sym (and-swap (same (stackUnder τ A ρ (a + d) x) (stackUnder τ [] ρ₂ (b + d₂) y)) (same (partsUnder τ A ρ (a + d) true l p 8) (partsUnder τ [] ρ₂ (b + d₂) true r q 8)) (meets A (a + d) (meanS τ x)) (meets A (a + d) (partsOf (meanV τ) (τ .parts) true l p 8))))

@@ -1,8 +1,10 @@
 -- What the comparison relies on: few rows, small sums, room for what is pending.
 use Prim.Native.Nat.{ℕ, zero, suc, _+_, _*_, _≤_, _<_}
 use mathlib.Core.List.{List}
-use lib.ListN.{getD}
+use lib.ListN.{length, getD}
 use Rattle.tables.specs.Tables.{RowTable}
+use Rattle.types_rows.specs.declared.Held.{Held}
+use Rattle.types_rows.specs.declared.Setting.{Setting}
 use Rattle.types_equal.specs.pending.Pending.{room}
 use Rattle.types_equal.specs.declared.stack_pairs.Context.{Context}
 use Rattle.types_equal.specs.declared.value_pairs.Bodies.{Bodies}
@@ -25,17 +27,35 @@ big (suc m) = 134217728
 abbrev pub Room : ℕ → ℕ → ℕ → ℕ → Type 0
 Room m by d l = by + d + 65536 * l + big m ≤ 2147483648
 
--- room for the sums of both sides, at rows l and r
-pub record Rooms (k : Context) (l r : ℕ) : Type 0 where
+-- the settings of the two sides
+abbrev pub leftOf : Context → Setting
+leftOf k = record { m = k .m; by = k .by; d = k .d; env = k .env }
+
+-- that of the right one
+abbrev pub rightOf : Context → Setting
+rightOf k = record { m = 0; by = k .by2; d = k .d2; env = k .env2 }
+
+-- small environments of two rows
+abbrev pub BothSmall : Held → Held → Type 0
+BothSmall l r = (l .env ≤ 65535) × (r .env ≤ 65535)
+
+-- room for the sums of both sides, at rows l and r; few environments or names, and small numbers of environments
+pub record Rooms (E : List ℕ) (k : Context) (l r : ℕ) : Type 0 where
   pub left : Room (k .m) (k .by) (k .d) l
   pub right : Room 0 (k .by2) (k .d2) r
+  pub envs : length E ≤ 256
+  pub env : k .env ≤ 131072
+  pub env2 : k .env2 ≤ 131072
 
 -- the same for the parts of rows l and r, under the letters of these rows
-pub record PartRooms (k : Context) (l r : ℕ) : Type 0 where
+pub record PartRooms (E : List ℕ) (k : Context) (l r : ℕ) : Type 0 where
   pub left : k .by + k .d + 65536 * l + big (k .m) ≤ 2147549184
   pub right : k .by2 + k .d2 + 65536 * r ≤ 2147549184
   pub left-row : 0 < l
   pub right-row : 0 < r
+  pub envs : length E ≤ 256
+  pub env : k .env ≤ 131072
+  pub env2 : k .env2 ≤ 131072
 
 -- the stacks of two code rows l and r are lower rows, and their registers may stand in a table
 pub record BodiesIn (c : Bodies) (l r : ℕ) : Type 0 where
@@ -49,6 +69,12 @@ pub record SpanIn (s : Span) : Type 0 where
   pub few : s .n ≤ 65535
   pub left : s .p + s .n ≤ 131072
   pub right : s .q + s .n ≤ 131072
+
+-- environments of packages, few and small: no tables of names
+pub record EnvsIn (E : List ℕ) (e f : ℕ) : Type 0 where
+  pub few : length E ≤ 64
+  pub left : e ≤ 65535
+  pub right : f ≤ 65535
 
 -- room for what is pending on both sides, in n words: at most a row's number of entries, and more for arguments
 abbrev pub Spare : ℕ → ℕ → ℕ → ℕ → Type 0

@@ -3,3 +3,4 @@ pub mod pending
 pub mod value_pairs
 pub mod stack_pairs
 pub mod filling
+pub mod names

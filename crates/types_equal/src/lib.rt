@@ -1,11 +1,13 @@
 // Equality of the types that rows stand for (crate types_rows). A stack is compared as its list of items, so that two rows of different
 // shape can be equal: both lists are read from the top, each row once (modules pending and stack_pairs; value_pairs has what is left of two
 // value rows, filling the filled types). The left row stands in a context: some of its variables are filled by argument rows, the others
-// are raised. The right row is only raised. Value rows and stack rows are compared by rules that call each other; the row number falls. The
-// same row in the same context is seen at once to be equal. Promised: the test `same` of crate types of the two types, and that no argument
-// is of the wrong kind where it fills. Asked: that there are at most 514 rows, which bounds what is pending, and 1,543 words for what is
-// pending, whatever they hold. Row numbers are links, as in crate types_rows.
+// are those of an environment (crate types_rows; module names makes tables of environments), raised. The right row has no arguments. Value
+// rows and stack rows are compared by rules that call each other; the row number falls. The same row in the same context is seen at once to
+// be equal. Promised: the test `same` of crate types of the two types, and that no argument is of the wrong kind where it fills. Asked: that
+// there are at most 514 rows, which bounds what is pending, at most 64 environments, and 1,543 words for what is pending, whatever they
+// hold. Row numbers are links, as in crate types_rows.
 pub mod filling;
+pub mod names;
 pub mod pending;
 pub mod stack_pairs;
 pub mod value_pairs;
@@ -16,6 +18,7 @@ use crate::value_pairs::Bodies;
 use crate::value_pairs::Heads;
 use crate::value_pairs::Pair;
 use crate::value_pairs::Span;
+use types_rows::Held;
 ghost use mathlib.Core.Path.{_≡_};
 ghost use Prim.Native.Nat.{_+_, _≤_};
 ghost use lib.ListN.{length};
@@ -24,27 +27,29 @@ ghost use Rattle.types.specs.Equal.{same};
 ghost use Rattle.types.specs.Rows.{typeAt, typesOf};
 ghost use Rattle.tables.specs.Tables.{rowsIn};
 ghost use Rattle.types_rows.specs.Read.{tab, lower, argsOf};
-ghost use Rattle.types_equal.specs.Bounds.{Rooms, PartRooms, BodiesIn, SpanIn, Spare, Tabled};
+ghost use Rattle.types_rows.specs.Environments.{readIn, shifted};
+ghost use Rattle.types_equal.specs.Bounds.{BothSmall, Rooms, PartRooms, BodiesIn, SpanIn, Spare, Tabled};
 ghost use Rattle.types_equal.specs.stack_pairs.Fit.{fitValues, fitCodes, fitParts, sameStacks};
 
 // Value row l in its context equals value row r in its own.
-fn eq_value(
+pub(crate) fn eq_value(
     rows: &[u16],
     parts: &[u16],
     args: &[u16],
+    envs: &[u16],
     k: Context,
     l: usize,
     r: usize,
     pending: &mut [u32],
 ) -> bool
-    requires { ⌜ Tabled (tab (now rows) (now parts)) (now args) (k .m) l r × Rooms k l r × Spare (k .m) l r (length (now pending)) ⌝ }
-    ensures { λ out. ⌜ out ≡ fitValues (tab (now (rows .entry)) (now (parts .entry))) (argsOf (tab (now (rows .entry)) (now (parts .entry))) (now (args .entry)) (k .m)) (k .by) (k .d) l (k .by2) (k .d2) r ⌝ }
+    requires { ⌜ Tabled (tab (now rows) (now parts)) (now args) (k .m) l r × Rooms (now envs) k l r × Spare (k .m) l r (length (now pending)) ⌝ }
+    ensures { λ out. ⌜ out ≡ fitValues (tab (now (rows .entry)) (now (parts .entry))) (argsOf (tab (now (rows .entry)) (now (parts .entry))) (now (args .entry)) (k .m)) (shifted (now (envs .entry)) (k .env) (k .by)) (k .d) l (shifted (now (envs .entry)) (k .env2) (k .by2)) (k .d2) r ⌝ }
 {
     if crate::stack_pairs::same_place(k, l, r) {
         return true;
     }
-    let v = types_rows::read_value(rows, l, k.m as usize, k.by as usize, k.d as usize);
-    let w = types_rows::read_value(rows, r, 0, k.by2 as usize, k.d2 as usize);
+    let v = crate::value_pairs::left_value(rows, envs, k, l);
+    let w = crate::value_pairs::right_value(rows, envs, k, r);
     let p = crate::value_pairs::pair_up(v, w);
     match p {
         Pair::Same => true,
@@ -58,10 +63,12 @@ fn eq_value(
                 m: 0,
                 by: k.d,
                 d: 0,
+                env: crate::stack_pairs::current(envs),
                 by2: k.by2,
                 d2: k.d2,
+                env2: k.env2,
             };
-            eq_value(rows, parts, args, g, a + 1, r, pending)
+            eq_value(rows, parts, args, envs, g, a + 1, r, pending)
         }
         Pair::Tuples(p, q, n) => {
             let s = Span {
@@ -70,12 +77,24 @@ fn eq_value(
                 q: q as u32,
                 n: n as u32,
             };
-            eq_parts(rows, parts, args, k, l, r, s, pending)
+            eq_parts(rows, parts, args, envs, k, l, r, s, pending)
         }
-        Pair::Pointers(x, y) => eq_stack(rows, parts, args, k, x, y, pending),
+        Pair::Pointers(x, y) => eq_stack(rows, parts, args, envs, k, x, y, pending),
         Pair::Codes(x, p, y, q) => {
             let c = Bodies { x, p, y, q };
-            eq_code(rows, parts, args, k, l, r, c, pending)
+            eq_code(rows, parts, args, envs, k, l, r, c, pending)
+        }
+        Pair::Hiddens(x, y) => {
+            let t = Context {
+                m: k.m,
+                by: k.by,
+                d: k.d + 1,
+                env: k.env,
+                by2: k.by2,
+                d2: k.d2 + 1,
+                env2: k.env2,
+            };
+            eq_value(rows, parts, args, envs, t, x, y, pending)
         }
     }
 }
@@ -85,14 +104,15 @@ fn eq_code(
     rows: &[u16],
     parts: &[u16],
     args: &[u16],
+    envs: &[u16],
     k: Context,
     l: usize,
     r: usize,
     c: Bodies,
     pending: &mut [u32],
 ) -> bool
-    requires { ⌜ Tabled (tab (now rows) (now parts)) (now args) (k .m) l r × Rooms k l r × BodiesIn c l r × Spare (k .m) l r (length (now pending)) ⌝ }
-    ensures { λ out. ⌜ out ≡ fitCodes (tab (now (rows .entry)) (now (parts .entry))) (argsOf (tab (now (rows .entry)) (now (parts .entry))) (now (args .entry)) (k .m)) (k .by) (k .d) l (c .x) (c .p) (k .by2) (k .d2) r (c .y) (c .q) ⌝ }
+    requires { ⌜ Tabled (tab (now rows) (now parts)) (now args) (k .m) l r × Rooms (now envs) k l r × BodiesIn c l r × Spare (k .m) l r (length (now pending)) ⌝ }
+    ensures { λ out. ⌜ out ≡ fitCodes (tab (now (rows .entry)) (now (parts .entry))) (argsOf (tab (now (rows .entry)) (now (parts .entry))) (now (args .entry)) (k .m)) (shifted (now (envs .entry)) (k .env) (k .by)) (k .d) l (c .x) (c .p) (shifted (now (envs .entry)) (k .env2) (k .by2)) (k .d2) r (c .y) (c .q) ⌝ }
 {
     let a = types_rows::letter_count(parts, c.p);
     let b = types_rows::letter_count(parts, c.q);
@@ -101,17 +121,19 @@ fn eq_code(
             m: k.m,
             by: k.by,
             d: (a + k.d as usize) as u32,
+            env: k.env,
             by2: k.by2,
             d2: (b + k.d2 as usize) as u32,
+            env2: k.env2,
         };
-        if eq_stack(rows, parts, args, t, c.x, c.y, pending) {
+        if eq_stack(rows, parts, args, envs, t, c.x, c.y, pending) {
             let s = Span {
                 file: true,
                 p: c.p as u32,
                 q: c.q as u32,
                 n: 8,
             };
-            return eq_parts(rows, parts, args, t, l, r, s, pending);
+            return eq_parts(rows, parts, args, envs, t, l, r, s, pending);
         }
         return false;
     }
@@ -123,14 +145,15 @@ pub(crate) fn eq_parts(
     rows: &[u16],
     parts: &[u16],
     args: &[u16],
+    envs: &[u16],
     k: Context,
     l: usize,
     r: usize,
     s: Span,
     pending: &mut [u32],
 ) -> bool
-    requires { ⌜ Tabled (tab (now rows) (now parts)) (now args) (k .m) l r × PartRooms k l r × SpanIn s × Spare (k .m) l r (length (now pending)) ⌝ }
-    ensures { λ out. ⌜ out ≡ fitParts (tab (now (rows .entry)) (now (parts .entry))) (argsOf (tab (now (rows .entry)) (now (parts .entry))) (now (args .entry)) (k .m)) (k .by) (k .d) (s .file) l (s .p) (k .by2) (k .d2) r (s .q) (s .n) ⌝ }
+    requires { ⌜ Tabled (tab (now rows) (now parts)) (now args) (k .m) l r × PartRooms (now envs) k l r × SpanIn s × Spare (k .m) l r (length (now pending)) ⌝ }
+    ensures { λ out. ⌜ out ≡ fitParts (tab (now (rows .entry)) (now (parts .entry))) (argsOf (tab (now (rows .entry)) (now (parts .entry))) (now (args .entry)) (k .m)) (shifted (now (envs .entry)) (k .env) (k .by)) (k .d) (s .file) l (s .p) (shifted (now (envs .entry)) (k .env2) (k .by2)) (k .d2) r (s .q) (s .n) ⌝ }
 {
     // The loop's invariant speaks of locals, and of no parameter that is a struct.
     let file = s.file;
@@ -148,7 +171,7 @@ pub(crate) fn eq_parts(
                 return false;
             }
             Heads::Both(t, u) => {
-                if !eq_value(rows, parts, args, k, t, u, pending) {
+                if !eq_value(rows, parts, args, envs, k, t, u, pending) {
                     return false;
                 }
             }
@@ -164,15 +187,16 @@ pub(crate) fn eq_stack(
     rows: &[u16],
     parts: &[u16],
     args: &[u16],
+    envs: &[u16],
     k: Context,
     l: usize,
     r: usize,
     pending: &mut [u32],
 ) -> bool
-    requires { ⌜ Tabled (tab (now rows) (now parts)) (now args) (k .m) l r × Rooms k l r × Spare (k .m) l r (length (now pending)) ⌝ }
-    ensures { λ out. ⌜ out ≡ sameStacks (tab (now (rows .entry)) (now (parts .entry))) (argsOf (tab (now (rows .entry)) (now (parts .entry))) (now (args .entry)) (k .m)) (k .by) (k .d) l (k .by2) (k .d2) r ⌝ }
+    requires { ⌜ Tabled (tab (now rows) (now parts)) (now args) (k .m) l r × Rooms (now envs) k l r × Spare (k .m) l r (length (now pending)) ⌝ }
+    ensures { λ out. ⌜ out ≡ sameStacks (tab (now (rows .entry)) (now (parts .entry))) (argsOf (tab (now (rows .entry)) (now (parts .entry))) (now (args .entry)) (k .m)) (shifted (now (envs .entry)) (k .env) (k .by)) (k .d) l (shifted (now (envs .entry)) (k .env2) (k .by2)) (k .d2) r ⌝ }
 {
-    if crate::stack_pairs::same_stack(rows, args, k, l, r) {
+    if crate::stack_pairs::same_stack(rows, args, envs, k, l, r) {
         return true;
     }
     crate::pending::store(pending, false, 0, l);
@@ -180,7 +204,7 @@ pub(crate) fn eq_stack(
     let mut i = 1;
     let mut j = 1;
     loop {
-        let s = crate::stack_pairs::next_pair(rows, args, k, pending, i, j);
+        let s = crate::stack_pairs::next_pair(rows, args, envs, k, pending, i, j);
         match s {
             Duo::Over => {
                 return true;
@@ -195,7 +219,7 @@ pub(crate) fn eq_stack(
             }
             Duo::OwnTwo(t, a, u, b) => {
                 let e = crate::stack_pairs::greater(a, b);
-                if !eq_value(rows, parts, args, k, t, u, &mut pending[e..]) {
+                if !eq_value(rows, parts, args, envs, k, t, u, &mut pending[e..]) {
                     return false;
                 }
                 i = a;
@@ -208,10 +232,12 @@ pub(crate) fn eq_stack(
                     m: 0,
                     by: k.d,
                     d: 0,
+                    env: crate::stack_pairs::current(envs),
                     by2: k.by2,
                     d2: k.d2,
+                    env2: k.env2,
                 };
-                if !eq_value(rows, parts, args, g, t, u, &mut pending[e..]) {
+                if !eq_value(rows, parts, args, envs, g, t, u, &mut pending[e..]) {
                     return false;
                 }
                 i = a;
@@ -251,10 +277,40 @@ pub fn equal_values(
         m: 0,
         by: 0,
         d: 0,
+        env: 0,
         by2: 0,
         d2: 0,
+        env2: 0,
     };
-    eq_value(rows, parts, rows, k, x, y, &mut pending[..1543])
+    eq_value(rows, parts, rows, &rows[..0], k, x, y, &mut pending[..1543])
+}
+
+// The value types of rows l and r, of n rows, each read in its environment, are equal. The first 1,543 words of `pending` are used; what
+// they hold does not matter.
+pub fn equal_held(
+    rows: &[u16],
+    parts: &[u16],
+    envs: &[u16],
+    n: usize,
+    l: Held,
+    r: Held,
+    pending: &mut [u32],
+) -> bool
+    requires { ⌜ (n ≤ 514) × (length (now envs) ≤ 64) × BothSmall l r × (1543 ≤ length (now pending)) ⌝ }
+    ensures { λ out. ⌜ out ≡ same (readIn (now (envs .entry)) (l .env) (typeAt value (typesOf (rowsIn (tab (now (rows .entry)) (now (parts .entry))) n)) (l .row))) (readIn (now (envs .entry)) (r .env) (typeAt value (typesOf (rowsIn (tab (now (rows .entry)) (now (parts .entry))) n)) (r .row))) ⌝ }
+{
+    let x = link_of(n, l.row);
+    let y = link_of(n, r.row);
+    let k = Context {
+        m: 0,
+        by: 0,
+        d: 0,
+        env: l.env as u32,
+        by2: 0,
+        d2: 0,
+        env2: r.env as u32,
+    };
+    crate::names::eq_named(rows, parts, rows, envs, k, x, y, &mut pending[..1543])
 }
 
 // The stack types of rows l and r, of n rows, are equal. The first 1,543 words of `pending` are used; what they hold does not matter.
@@ -275,8 +331,10 @@ pub fn equal_stacks(
         m: 0,
         by: 0,
         d: 0,
+        env: 0,
         by2: 0,
         d2: 0,
+        env2: 0,
     };
-    eq_stack(rows, parts, rows, k, x, y, &mut pending[..1543])
+    eq_stack(rows, parts, rows, &rows[..0], k, x, y, &mut pending[..1543])
 }

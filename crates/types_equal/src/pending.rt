@@ -3,6 +3,7 @@
 // two such lists, the left one in the low 16 bits of its words, the right one in the high 16 bits. Rows fall, so one entry more than the
 // link of the first row is enough, and 514 more if there are arguments. Promised: what is pending is the next item and what is pending then
 // (`NextIs`), and the other list stays as it is. Asked: that the array is as long as said.
+use types_rows::Setting;
 use types_rows::Stk;
 ghost use mathlib.Core.Path.{_≡_};
 ghost use mathlib.Core.Bool.{not};
@@ -10,6 +11,7 @@ ghost use mathlib.Core.List.{List};
 ghost use Prim.Native.Nat.{ℕ, suc, _+_, _-_, _≤_, _<_};
 ghost use lib.ListN.{length, getD, set};
 ghost use Rattle.types_rows.specs.Read.{tab, argsOf};
+ghost use Rattle.types_rows.specs.Environments.{shifted, SettingIn};
 ghost use Rattle.types_equal.specs.pending.Pending.{half, side, room, Pends, Givens, Lent, argForm, FormOf, NextIs};
 
 // Entries from here on are rows of an argument.
@@ -50,7 +52,7 @@ fn arg_form(rows: &[u16], a: usize) -> Form
 // Stack row h of an argument, raised by d.
 fn given_form(rows: &[u16], d: usize, h: usize) -> Form
     requires { ⌜ (h ≤ 65536) × (d ≤ 1099511627776) ⌝ }
-    ensures { λ out. ⌜ ((ps : List ℕ) (args : List ℕ) (m by : ℕ) → h ≤ 514 → FormOf (tab (now (rows .entry)) ps) (argsOf (tab (now (rows .entry)) ps) args m) by d m (32768 + h) out) ⌝ }
+    ensures { λ out. ⌜ ((ps : List ℕ) (args : List ℕ) (m : ℕ) (ρ : ℕ → ℕ) → h ≤ 514 → FormOf (tab (now (rows .entry)) ps) (argsOf (tab (now (rows .entry)) ps) args m) ρ d m (32768 + h) out) ⌝ }
 {
     let s = types_rows::read_stack(rows, h, 0, d, 0);
     match s {
@@ -62,12 +64,12 @@ fn given_form(rows: &[u16], d: usize, h: usize) -> Form
     }
 }
 
-// Stack row h in its context.
-fn own_form(rows: &[u16], args: &[u16], m: usize, by: usize, d: usize, h: usize) -> Form
-    requires { ⌜ (h ≤ 32767) × (by + d ≤ 1099511627776) × Givens (now args) m ⌝ }
-    ensures { λ out. ⌜ ((ps : List ℕ) → FormOf (tab (now (rows .entry)) ps) (argsOf (tab (now (rows .entry)) ps) (now (args .entry)) m) by d m h out) ⌝ }
+// Stack row h in its setting.
+fn own_form(rows: &[u16], args: &[u16], envs: &[u16], c: Setting, h: usize) -> Form
+    requires { ⌜ (h ≤ 32767) × SettingIn (now envs) c × Givens (now args) (c .m) ⌝ }
+    ensures { λ out. ⌜ ((ps : List ℕ) → FormOf (tab (now (rows .entry)) ps) (argsOf (tab (now (rows .entry)) ps) (now (args .entry)) (c .m)) (shifted (now (envs .entry)) (c .env) (c .by)) (c .d) (c .m) h out) ⌝ }
 {
-    let s = types_rows::read_stack(rows, h, m, by, d);
+    let s = types_rows::stack_in(rows, envs, c, h);
     match s {
         Stk::Nil => Form::Skip,
         Stk::StkVar(k) => Form::VarTop(k),
@@ -81,14 +83,14 @@ fn own_form(rows: &[u16], args: &[u16], m: usize, by: usize, d: usize, h: usize)
 }
 
 // Entry e.
-fn form_of(rows: &[u16], args: &[u16], m: usize, by: usize, d: usize, e: usize) -> Form
-    requires { ⌜ (e ≤ 33282) × (by + d ≤ 1099511627776) × Givens (now args) m ⌝ }
-    ensures { λ out. ⌜ ((ps : List ℕ) → FormOf (tab (now (rows .entry)) ps) (argsOf (tab (now (rows .entry)) ps) (now (args .entry)) m) by d m e out) ⌝ }
+fn form_of(rows: &[u16], args: &[u16], envs: &[u16], c: Setting, e: usize) -> Form
+    requires { ⌜ (e ≤ 33282) × SettingIn (now envs) c × Givens (now args) (c .m) ⌝ }
+    ensures { λ out. ⌜ ((ps : List ℕ) → FormOf (tab (now (rows .entry)) ps) (argsOf (tab (now (rows .entry)) ps) (now (args .entry)) (c .m)) (shifted (now (envs .entry)) (c .env) (c .by)) (c .d) (c .m) e out) ⌝ }
 {
     if e < GIVEN {
-        return own_form(rows, args, m, by, d, e);
+        return own_form(rows, args, envs, c, e);
     }
-    given_form(rows, d, e - GIVEN)
+    given_form(rows, c.d, e - GIVEN)
 }
 
 // The left half of word w, or the right one.
@@ -133,19 +135,18 @@ pub(crate) fn store(pending: &mut [u32], right: bool, n: usize, x: usize)
 pub(crate) fn next_item(
     rows: &[u16],
     args: &[u16],
-    m: usize,
-    by: usize,
-    d: usize,
+    envs: &[u16],
+    c: Setting,
     pending: &mut [u32],
     right: bool,
     top: usize,
 ) -> Next
-    requires { ⌜ (by + d ≤ 1099511627776) × Lent (now args) m (length (now pending)) × Pends m (length (now pending) - suc (room m)) (side right (now pending)) top ⌝ }
-    ensures { λ out. ⌜ ((ps : List ℕ) → NextIs (tab (now (rows .entry)) ps) (argsOf (tab (now (rows .entry)) ps) (now (args .entry)) m) by d m (side right (now (pending .entry))) top (side right (now (pending .exit))) out) × (side (not right) (now (pending .exit)) ≡ side (not right) (now (pending .entry))) ⌝ }
+    requires { ⌜ SettingIn (now envs) c × Lent (now args) (c .m) (length (now pending)) × Pends (c .m) (length (now pending) - suc (room (c .m))) (side right (now pending)) top ⌝ }
+    ensures { λ out. ⌜ ((ps : List ℕ) → NextIs (tab (now (rows .entry)) ps) (argsOf (tab (now (rows .entry)) ps) (now (args .entry)) (c .m)) (shifted (now (envs .entry)) (c .env) (c .by)) (c .d) (c .m) (side right (now (pending .entry))) top (side right (now (pending .exit))) out) × (side (not right) (now (pending .exit)) ≡ side (not right) (now (pending .entry))) ⌝ }
 {
     let mut n = top;
     while n > 0 {
-        let f = form_of(rows, args, m, by, d, entry(pending, right, n - 1));
+        let f = form_of(rows, args, envs, c, entry(pending, right, n - 1));
         match f {
             Form::Skip => {
                 n -= 1;

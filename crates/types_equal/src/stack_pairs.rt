@@ -3,27 +3,65 @@
 // Promised: each answer says what the comparison of the two stacks comes to (`fitPending`, `sameStacks`). Asked: room for what is pending,
 // and sums that are small enough.
 use crate::pending::Next;
+use types_rows::Setting;
 use types_rows::Stk;
 ghost use mathlib.Core.Path.{_≡_};
 ghost use mathlib.Core.Bool.{true, false, cond};
 ghost use mathlib.Core.List.{List};
-ghost use Prim.Native.Nat.{ℕ, _+_, _≤_};
+ghost use Prim.Native.Nat.{ℕ, _*_, _≤_};
 ghost use lib.Dec.{eqb};
 ghost use lib.ListN.{length};
 ghost use Rattle.types_rows.specs.Read.{tab, argsOf};
+ghost use Rattle.types_rows.specs.Environments.{shifted, SettingIn};
+ghost use Rattle.types_equal.specs.Bounds.{leftOf, rightOf};
 ghost use Rattle.types_equal.specs.pending.Pending.{side, Lent, PendsBoth};
 ghost use Rattle.types_equal.specs.declared.stack_pairs.Duo.the-variants.{Unlike, Onward};
 ghost use Rattle.types_equal.specs.stack_pairs.Items.{endWith, ownWith, givenWith, varWith, duoOf};
 ghost use Rattle.types_equal.specs.stack_pairs.Fit.{AtSame, sameStacks, DuoIs};
 
-// The context of the two sides: the first m variables of the left row past d are filled by arguments and later ones raised by `by`; the
-// variables of the right row past d2 are raised by by2. Of 32 bits each, since comparisons nest and each level keeps a copy.
+// The context of the two sides: the first m variables of the left row past d are filled by arguments, later ones are variables of the
+// environment env, raised by `by`; the variables of the right row past d2 are variables of env2, raised by by2. Of 32 bits each, since
+// comparisons nest and each level keeps a copy.
 pub struct Context {
     pub m: u32,
     pub by: u32,
     pub d: u32,
+    pub env: u32,
     pub by2: u32,
     pub d2: u32,
+    pub env2: u32,
+}
+
+// The setting of the left side.
+pub(crate) fn left(k: Context) -> Setting
+    ensures { λ out. ⌜ out ≡ leftOf k ⌝ }
+{
+    Setting {
+        m: k.m as usize,
+        by: k.by as usize,
+        d: k.d as usize,
+        env: k.env as usize,
+    }
+}
+
+// The setting of the right side.
+pub(crate) fn right(k: Context) -> Setting
+    ensures { λ out. ⌜ out ≡ rightOf k ⌝ }
+{
+    Setting {
+        m: 0,
+        by: k.by2 as usize,
+        d: k.d2 as usize,
+        env: k.env2 as usize,
+    }
+}
+
+// The environment of what is read now.
+pub(crate) fn current(envs: &[u16]) -> u32
+    requires { ⌜ length (now envs) ≤ 65535 ⌝ }
+    ensures { λ out. ⌜ out ≡ 2 * length (now (envs .entry)) ⌝ }
+{
+    (2 * envs.len()) as u32
 }
 
 // What is left to compare of two stacks: nothing, they are equal; nothing, they are not; what is pending after an equal variable; two
@@ -110,45 +148,31 @@ fn two_items(a: Next, b: Next) -> Duo
 pub(crate) fn next_pair(
     rows: &[u16],
     args: &[u16],
+    envs: &[u16],
     k: Context,
     pending: &mut [u32],
     i: usize,
     j: usize,
 ) -> Duo
-    requires { ⌜ (k .by + k .d ≤ 1099511627776) × (k .by2 + k .d2 ≤ 1099511627776) × Lent (now args) (k .m) (length (now pending)) × PendsBoth (k .m) (now pending) i j ⌝ }
-    ensures { λ out. ⌜ ((ps : List ℕ) → DuoIs (tab (now (rows .entry)) ps) (argsOf (tab (now (rows .entry)) ps) (now (args .entry)) (k .m)) (k .m) (k .by) (k .d) (k .by2) (k .d2) (side false (now (pending .entry))) i (side true (now (pending .entry))) j (side false (now (pending .exit))) (side true (now (pending .exit))) out) ⌝ }
+    requires { ⌜ SettingIn (now envs) (leftOf k) × SettingIn (now envs) (rightOf k) × Lent (now args) (k .m) (length (now pending)) × PendsBoth (k .m) (now pending) i j ⌝ }
+    ensures { λ out. ⌜ ((ps : List ℕ) → DuoIs (tab (now (rows .entry)) ps) (argsOf (tab (now (rows .entry)) ps) (now (args .entry)) (k .m)) (k .m) (shifted (now (envs .entry)) (k .env) (k .by)) (k .d) (shifted (now (envs .entry)) (k .env2) (k .by2)) (k .d2) (side false (now (pending .entry))) i (side true (now (pending .entry))) j (side false (now (pending .exit))) (side true (now (pending .exit))) out) ⌝ }
 {
-    let a = crate::pending::next_item(
-        rows,
-        args,
-        k.m as usize,
-        k.by as usize,
-        k.d as usize,
-        pending,
-        false,
-        i,
-    );
-    let b = crate::pending::next_item(
-        rows,
-        args,
-        0,
-        k.by2 as usize,
-        k.d2 as usize,
-        pending,
-        true,
-        j,
-    );
+    let a = crate::pending::next_item(rows, args, envs, left(k), pending, false, i);
+    let b = crate::pending::next_item(rows, args, envs, right(k), pending, true, j);
     two_items(a, b)
 }
 
 // The same row in the same context, with no arguments.
 pub(crate) fn same_place(k: Context, l: usize, r: usize) -> bool
-    ensures { λ out. ⌜ (out ≡ true → AtSame (k .m) (k .by) (k .d) l (k .by2) (k .d2) r) ⌝ }
+    ensures { λ out. ⌜ (out ≡ true → AtSame k l r) ⌝ }
 {
     if l != r {
         return false;
     }
     if k.m != 0 {
+        return false;
+    }
+    if k.env != k.env2 {
         return false;
     }
     if k.by != k.by2 {
@@ -168,11 +192,18 @@ pub(crate) fn greater(a: usize, b: usize) -> usize
 }
 
 // Stack rows l and r are seen at once to be equal: the same row in the same context, also where l is a variable that an argument fills.
-pub(crate) fn same_stack(rows: &[u16], args: &[u16], k: Context, l: usize, r: usize) -> bool
-    requires { ⌜ (l ≤ 65536) × (k .by + k .d ≤ 1099511627776) ⌝ }
-    ensures { λ out. ⌜ (out ≡ true → (ps : List ℕ) → true ≡ sameStacks (tab (now (rows .entry)) ps) (argsOf (tab (now (rows .entry)) ps) (now (args .entry)) (k .m)) (k .by) (k .d) l (k .by2) (k .d2) r) ⌝ }
+pub(crate) fn same_stack(
+    rows: &[u16],
+    args: &[u16],
+    envs: &[u16],
+    k: Context,
+    l: usize,
+    r: usize,
+) -> bool
+    requires { ⌜ (l ≤ 65536) × SettingIn (now envs) (leftOf k) ⌝ }
+    ensures { λ out. ⌜ (out ≡ true → (ps : List ℕ) → true ≡ sameStacks (tab (now (rows .entry)) ps) (argsOf (tab (now (rows .entry)) ps) (now (args .entry)) (k .m)) (shifted (now (envs .entry)) (k .env) (k .by)) (k .d) l (shifted (now (envs .entry)) (k .env2) (k .by2)) (k .d2) r) ⌝ }
 {
-    let s = types_rows::read_stack(rows, l, k.m as usize, k.by as usize, k.d as usize);
+    let s = types_rows::stack_in(rows, envs, left(k), l);
     let Stk::StkFill(j) = s else {
         return same_place(k, l, r);
     };
@@ -183,8 +214,10 @@ pub(crate) fn same_stack(rows: &[u16], args: &[u16], k: Context, l: usize, r: us
                 m: 0,
                 by: k.d,
                 d: 0,
+                env: current(envs),
                 by2: k.by2,
                 d2: k.d2,
+                env2: k.env2,
             },
             a + 1,
             r,

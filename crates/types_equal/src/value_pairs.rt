@@ -2,6 +2,7 @@
 // whether two code rows have the same letters. The crate's own file goes on with what is left. Promised: each answer is that of
 // specs/value_pairs/Pairs.antt, and of `sameLetters` of crate types, on every input. Asked: that the places of letters are small enough to
 // be added up.
+use crate::stack_pairs::Context;
 use types_rows::Slot;
 use types_rows::Val;
 ghost use mathlib.Core.Path.{_≡_};
@@ -11,8 +12,11 @@ ghost use Prim.Native.Nat.{_+_, _≤_};
 ghost use lib.Dec.{eqb};
 ghost use Rattle.types.specs.Equal.{sameLetters};
 ghost use Rattle.tables.specs.Tables.{letterOf};
+ghost use Rattle.types_rows.specs.Read.{valueAt, placeV, OkV};
+ghost use Rattle.types_rows.specs.Environments.{shifted, SettingIn};
+ghost use Rattle.types_equal.specs.Bounds.{leftOf, rightOf};
 ghost use Rattle.types_equal.specs.declared.value_pairs.Pair.the-variants.{Same, Differ, Tuples};
-ghost use Rattle.types_equal.specs.value_pairs.Pairs.{pairInt, pairJunk, pairValVar, pairTuple, pairPointer, pairCode, pairOf, gapWith, rowWith, slotsOf, lettersFrom};
+ghost use Rattle.types_equal.specs.value_pairs.Pairs.{pairInt, pairJunk, pairValVar, pairTuple, pairPointer, pairCode, pairHidden, pairOf, gapWith, rowWith, slotsOf, lettersFrom};
 
 // What is left to compare of two value rows.
 pub enum Pair {
@@ -22,6 +26,7 @@ pub enum Pair {
     Tuples(usize, usize, usize),
     Pointers(usize, usize),
     Codes(usize, usize, usize, usize),
+    Hiddens(usize, usize),
 }
 
 // Two code types: the stack x and where the registers start, p, of the left one, y and q of the right one.
@@ -46,6 +51,22 @@ pub enum Heads {
     Both(usize, usize),
 }
 
+// Value row l of the left side.
+pub(crate) fn left_value(rows: &[u16], envs: &[u16], k: Context, l: usize) -> Val
+    requires { ⌜ (l ≤ 65536) × SettingIn (now envs) (leftOf k) ⌝ }
+    ensures { λ out. ⌜ (out ≡ valueAt (now (rows .entry)) (placeV (k .m) (shifted (now (envs .entry)) (k .env) (k .by)) (k .d)) l) × OkV (k .m) l out ⌝ }
+{
+    types_rows::value_in(rows, envs, crate::stack_pairs::left(k), l)
+}
+
+// Value row r of the right side.
+pub(crate) fn right_value(rows: &[u16], envs: &[u16], k: Context, r: usize) -> Val
+    requires { ⌜ (r ≤ 65536) × SettingIn (now envs) (rightOf k) ⌝ }
+    ensures { λ out. ⌜ (out ≡ valueAt (now (rows .entry)) (placeV 0 (shifted (now (envs .entry)) (k .env2) (k .by2)) (k .d2)) r) × OkV 0 r out ⌝ }
+{
+    types_rows::value_in(rows, envs, crate::stack_pairs::right(k), r)
+}
+
 fn with_int(w: Val) -> Pair
     ensures { λ out. ⌜ out ≡ pairInt w ⌝ }
 {
@@ -57,6 +78,7 @@ fn with_int(w: Val) -> Pair
         Val::Tuple(_, _) => Pair::Differ,
         Val::Pointer(_) => Pair::Differ,
         Val::Code(_, _) => Pair::Differ,
+        Val::Hidden(_) => Pair::Differ,
     }
 }
 
@@ -71,6 +93,7 @@ fn with_junk(w: Val) -> Pair
         Val::Tuple(_, _) => Pair::Differ,
         Val::Pointer(_) => Pair::Differ,
         Val::Code(_, _) => Pair::Differ,
+        Val::Hidden(_) => Pair::Differ,
     }
 }
 
@@ -85,6 +108,7 @@ fn with_var(k: usize, w: Val) -> Pair
         Val::Tuple(_, _) => Pair::Differ,
         Val::Pointer(_) => Pair::Differ,
         Val::Code(_, _) => Pair::Differ,
+        Val::Hidden(_) => Pair::Differ,
     }
 }
 
@@ -99,6 +123,7 @@ fn with_tuple(p: usize, n: usize, w: Val) -> Pair
         Val::Tuple(q, m) => if_long(p, q, n, m),
         Val::Pointer(_) => Pair::Differ,
         Val::Code(_, _) => Pair::Differ,
+        Val::Hidden(_) => Pair::Differ,
     }
 }
 
@@ -113,6 +138,7 @@ fn with_pointer(x: usize, w: Val) -> Pair
         Val::Tuple(_, _) => Pair::Differ,
         Val::Pointer(y) => Pair::Pointers(x, y),
         Val::Code(_, _) => Pair::Differ,
+        Val::Hidden(_) => Pair::Differ,
     }
 }
 
@@ -127,6 +153,22 @@ fn with_code(x: usize, p: usize, w: Val) -> Pair
         Val::Tuple(_, _) => Pair::Differ,
         Val::Pointer(_) => Pair::Differ,
         Val::Code(y, q) => Pair::Codes(x, p, y, q),
+        Val::Hidden(_) => Pair::Differ,
+    }
+}
+
+fn with_hidden(x: usize, w: Val) -> Pair
+    ensures { λ out. ⌜ out ≡ pairHidden x w ⌝ }
+{
+    match w {
+        Val::Int => Pair::Differ,
+        Val::Junk => Pair::Differ,
+        Val::ValVar(_) => Pair::Differ,
+        Val::ValFill(_) => Pair::Differ,
+        Val::Tuple(_, _) => Pair::Differ,
+        Val::Pointer(_) => Pair::Differ,
+        Val::Code(_, _) => Pair::Differ,
+        Val::Hidden(y) => Pair::Hiddens(x, y),
     }
 }
 
@@ -160,6 +202,7 @@ pub(crate) fn pair_up(n: Val, w: Val) -> Pair
         Val::Tuple(p, c) => with_tuple(p, c, w),
         Val::Pointer(x) => with_pointer(x, w),
         Val::Code(x, p) => with_code(x, p, w),
+        Val::Hidden(x) => with_hidden(x, w),
     }
 }
 

@@ -1,22 +1,24 @@
-// The rows and labels that an instruction names (document 01, "Faults", 4 and 5): its operands with their labels, arguments and resulting
-// rows, and its row t.
+// The rows and labels that an instruction names (document 01, "Faults", 4 and 5; document 02, point 3): its operands with their labels,
+// arguments and resulting rows, and its row t.
 // Promised: `instr_fault` is the least fault of its line by the definition of pass two, whatever the parts ps of rows; 0 stands for no
 // fault. Every read is total: past a table's end stands 0.
 use crate::row_refs::Part;
 use crate::row_refs::any_ref;
 use crate::row_refs::code_ref;
+use crate::row_refs::hidden_ref;
 use crate::row_refs::list_fault;
 use crate::row_refs::lower;
 use crate::row_refs::value_ref;
-ghost use Prim.Native.Nat.{ℕ, min, _<_, _≤_};
+ghost use Prim.Native.Nat.{ℕ, _<_, _≤_};
 ghost use mathlib.Core.Path.{_≡_};
 ghost use mathlib.Core.List.{List, [], _∷_};
 ghost use lib.ListN.{getD};
-ghost use Rattle.syntax.proofs.Least.{leastOf};
+ghost use Rattle.syntax.proofs.Least.{least, leastOf};
 ghost use Rattle.tables.specs.Tables.{cell, rowsIn, operandAt, operandsAt, instrAt};
-ghost use Rattle.types.specs.Rows.{instrFaults};
+ghost use Rattle.types.specs.Rows.{hiddenRow, anyRow, instrFaults};
 ghost use Rattle.types_rows.specs.Read.{tab};
-ghost use Rattle.types_pass_two.specs.instr_refs.Instrs.{operandTable, labelLeast, operandsLeast, givenPlace, countOf};
+ghost use Rattle.types_pass_two.specs.row_refs.Least.{refLeast};
+ghost use Rattle.types_pass_two.specs.instr_refs.Instrs.{operandTable, labelLeast, operandsLeast, codeOf, givenPlace, countOf};
 
 fn wide(x: u32) -> usize
     ensures { λ r. ⌜ r ≡ x ⌝ }
@@ -62,6 +64,23 @@ fn label_fault(nb: usize, k: usize, numbers: &[u32], v: usize) -> usize
     any_ref(nb, number_at(numbers, v))
 }
 
+// Operand v, a package, whose label has the fault f: its argument, which may be of either sort, and its `H` row.
+fn package_fault(
+    rows: &[u16],
+    n: usize,
+    operands: &[u16],
+    args: &[u16],
+    v: usize,
+    f: usize,
+) -> usize
+    requires { ⌜ v ≤ 131070 ⌝ }
+    ensures { λ r. ⌜ r ≡ least f (least (refLeast (now (rows .entry)) n anyRow (getD (now (args .entry)) (cell 4 (now (operands .entry)) v 3) 0)) (refLeast (now (rows .entry)) n hiddenRow (cell 4 (now (operands .entry)) v 2))) ⌝ }
+{
+    let a = types_rows::at(args, operand_entry(operands, v, 3));
+    let h = operand_entry(operands, v, 2);
+    lower(f, lower(any_ref(n, a), hidden_ref(rows, n, h)))
+}
+
 // Operand v: its label, its arguments, its resulting row.
 fn operand_fault(
     rows: &[u16],
@@ -75,8 +94,13 @@ fn operand_fault(
     requires { ⌜ v ≤ 131070 ⌝ }
     ensures { λ r. ⌜ r ≡ operandsLeast (now (rows .entry)) n nb (operandAt (operandTable (now (operands .entry)) (now (numbers .entry)) (now (args .entry))) v ∷ []) ⌝ }
 {
+    let k = operand_entry(operands, v, 0);
+    if k >= 4 {
+        let p = label_fault(nb, k - 4, numbers, v);
+        return package_fault(rows, n, operands, args, v, p);
+    }
     let m = operand_entry(operands, v, 1);
-    let f = label_fault(nb, operand_entry(operands, v, 0), numbers, v);
+    let f = label_fault(nb, k, numbers, v);
     if m == 0 {
         return f;
     }
@@ -112,9 +136,9 @@ fn operands_fault(
     f
 }
 
-// What an instruction names, by its code (add to halt): which of its entries is its row t, 0 for none; and its operands, 0 for none,
-// 1 for one, 2 for as many as it says.
-const NAMES: [[usize; 2]; 23] = [
+// What an instruction names, by its code (add to unpack): which of its entries is its row t, 0 for none; and its operands, 0 for
+// none, 1 for one, 2 for as many as it says.
+const NAMES: [[usize; 2]; 24] = [
     [0, 1],
     [0, 1],
     [0, 1],
@@ -138,28 +162,29 @@ const NAMES: [[usize; 2]; 23] = [
     [4, 0],
     [0, 1],
     [1, 0],
+    [0, 1],
 ];
 
-// The code of instruction j; one past the last counts as the last.
+// The code of instruction j; one past the last counts as halt.
 fn code_at(instrs: &[u16], j: usize) -> usize
-    ensures { λ r. ⌜ r ≡ min (cell 8 (now (instrs .entry)) j 0) 22 ⌝ }
+    ensures { λ r. ⌜ (r ≡ codeOf (cell 8 (now (instrs .entry)) j 0)) × (r < 24) ⌝ }
 {
     let k = cell8(instrs, j, 0);
-    if k < 22 {
+    if k < 24 {
         return k;
     }
     22
 }
 
 fn given_place(k: usize) -> usize
-    requires { ⌜ k ≤ 22 ⌝ }
+    requires { ⌜ k < 24 ⌝ }
     ensures { λ r. ⌜ r ≡ givenPlace k ⌝ }
 {
     NAMES[k][0]
 }
 
 fn operand_count(k: usize, m: usize) -> usize
-    requires { ⌜ (k ≤ 22) × (m ≤ 65535) ⌝ }
+    requires { ⌜ (k < 24) × (m ≤ 65535) ⌝ }
     ensures { λ r. ⌜ (r ≡ countOf k m) × (r ≤ 65535) ⌝ }
 {
     let h = NAMES[k][1];

@@ -9,7 +9,7 @@ ghost use mathlib.Core.List.{List, [], _∷_};
 ghost use lib.Dec.{ltb};
 ghost use Rattle.syntax.proofs.Least.{least, leastOf};
 ghost use Rattle.tables.specs.Tables.{cell, span, rowsIn};
-ghost use Rattle.types.specs.Rows.{valueRow, stackRow, codeRow, ref, refsFaults};
+ghost use Rattle.types.specs.Rows.{valueRow, stackRow, codeRow, hiddenRow, ref, refsFaults};
 ghost use Rattle.types_rows.specs.Read.{tab};
 ghost use Rattle.types_pass_two.specs.row_refs.Rows.{rowRefsFaults};
 ghost use Rattle.types_pass_two.specs.row_refs.Least.{refLeast, refsLeast, partRefs, listRefs};
@@ -55,23 +55,29 @@ fn fault_if(exists: bool, fits: bool) -> usize
     if exists { if fits { 0 } else { 5 } } else { 4 }
 }
 
-// Row t is to be one of the first n, and a value row, a stack row, a code row.
+// Row t is to be one of the first n, and a value row, a stack row, a code row, a package's row.
 pub(crate) fn value_ref(rows: &[u16], n: usize, t: usize) -> usize
     ensures { λ r. ⌜ r ≡ refLeast (now (rows .entry)) n valueRow t ⌝ }
 {
-    fault_if(t < n, cell4(rows, t, 0) < 6)
+    fault_if(t < n, cell4(rows, t, 0) < 7)
 }
 
 fn stack_ref(rows: &[u16], n: usize, t: usize) -> usize
     ensures { λ r. ⌜ r ≡ refLeast (now (rows .entry)) n stackRow t ⌝ }
 {
-    fault_if(t < n, !(cell4(rows, t, 0) < 6))
+    fault_if(t < n, !(cell4(rows, t, 0) < 7))
 }
 
 pub(crate) fn code_ref(rows: &[u16], n: usize, t: usize) -> usize
     ensures { λ r. ⌜ r ≡ refLeast (now (rows .entry)) n codeRow t ⌝ }
 {
     fault_if(t < n, cell4(rows, t, 0) == 5)
+}
+
+pub(crate) fn hidden_ref(rows: &[u16], n: usize, t: usize) -> usize
+    ensures { λ r. ⌜ r ≡ refLeast (now (rows .entry)) n hiddenRow t ⌝ }
+{
+    fault_if(t < n, cell4(rows, t, 0) == 6)
 }
 
 // There is a row or label t among the first n.
@@ -127,10 +133,13 @@ pub(crate) fn row_fault(rows: &[u16], parts: &[u16], r: usize) -> usize
         let f = list_fault(rows, r, Part::Register, parts, b, 8);
         return lower(stack_ref(rows, r, a), f);
     }
-    if k == 8 {
+    if k == 6 {
+        return value_ref(rows, r, a);
+    }
+    if k == 9 {
         return lower(value_ref(rows, r, a), stack_ref(rows, r, b));
     }
-    if k > 8 {
+    if k > 9 {
         return lower(stack_ref(rows, r, a), stack_ref(rows, r, b));
     }
     0

@@ -10,7 +10,7 @@ use lib.ListN.{length, length-append, getD, List·getD-eq-default, List·getD-ap
 use lib.Seq.{getD-at}
 use borrow.Author.Tests.{ne-eqb, leb-true, leb-false, ltb-true, ltb-false, le-leb, lt-ltb, le-ltb}
 use Rattle.syntax.specs.Syntax.{Kind, value, stack, rowA}
-use Rattle.types.specs.Types.{tuple, pointer, push, gap, join, items, Arg, arg, ofKind}
+use Rattle.types.specs.Types.{tuple, pointer, hidden, push, gap, join, items, Arg, arg, ofKind}
 use Rattle.types.specs.Rows.{inTurn, typeAt, components, registers, meaning, typesOf}
 use Rattle.types.proofs.Meaning.{types-snoc as more-types}
 use Rattle.tables.specs.Tables.{RowTable, cell, span, knownOf, lettersAt, codeRowAt, rowFrom, rowAt, rowsFrom, rowsIn}
@@ -27,10 +27,10 @@ rows-snoc τ i (suc n) =
     let q : suc i + n ≡ i + suc n = omega arith in
     ap (_∷_ (rowAt τ i)) (rows-snoc τ (suc i) n ∙ ap (λ z. rowsFrom τ (suc i) n ++ rowAt τ z ∷ []) q)
 
--- ---- a kind above 8 is read as a join
-pub row-nine : (ps : List ℕ) (k a b : ℕ) → 9 ≤ k → rowFrom ps k a b ≡ rowA a b
+-- ---- a kind above 9 is read as a join
+pub row-ten : (ps : List ℕ) (k a b : ℕ) → 10 ≤ k → rowFrom ps k a b ≡ rowA a b
 unfolding rowFrom
-row-nine ps k a b h =
+row-ten ps k a b h =
     rw (
       ne-eqb k 0 (λ z. omega arith),
       ne-eqb k 1 (λ z. omega arith),
@@ -41,12 +41,13 @@ row-nine ps k a b h =
       ne-eqb k 6 (λ z. omega arith),
       ne-eqb k 7 (λ z. omega arith),
       ne-eqb k 8 (λ z. omega arith),
+      ne-eqb k 9 (λ z. omega arith),
     )
     refl
 
-pub stack-nine : (n k a b : ℕ) → 9 ≤ k → stackWith StkVar n k a b ≡ Join (lower n a) (lower n b)
+pub stack-ten : (n k a b : ℕ) → 10 ≤ k → stackWith StkVar n k a b ≡ Join (lower n a) (lower n b)
 unfolding stackWith
-stack-nine n k a b h = rw (le-ltb k 7 (omega arith), ne-eqb k 7 (λ z. omega arith), ne-eqb k 8 (λ z. omega arith)) refl
+stack-ten n k a b h = rw (le-ltb k 8 (omega arith), ne-eqb k 8 (λ z. omega arith), ne-eqb k 9 (λ z. omega arith)) refl
 
 module _ (τ : RowTable) where
   abbrev pub typesIn : ℕ → List Arg
@@ -81,11 +82,11 @@ module _ (τ : RowTable) (T : List Arg) (n : ℕ) (tv : (x : ℕ) → typeAt val
       go (suc t) e = ap₂ push (tv t) e
 
   abbrev formed : ℕ → ℕ → ℕ → Arg
-  formed k a b = cond (leb 6 k) (arg stack (buildS (meanV τ) (meanS τ) (stackWith StkVar (suc n) k a b))) (arg value (buildV (meanV τ) (meanS τ) (τ .parts) (suc n) (valueWith ValVar (suc n) k a b)))
+  formed k a b = cond (leb 7 k) (arg stack (buildS (meanV τ) (meanS τ) (stackWith StkVar (suc n) k a b))) (arg value (buildV (meanV τ) (meanS τ) (τ .parts) (suc n) (valueWith ValVar (suc n) k a b)))
 
-  row-high : (k a b : ℕ) → 9 ≤ k → meaning T (rowFrom (τ .parts) k a b) ≡ formed k a b
+  row-high : (k a b : ℕ) → 10 ≤ k → meaning T (rowFrom (τ .parts) k a b) ≡ formed k a b
   unfolding meaning
-  row-high k a b h = rw (le-leb 6 k (omega arith), row-nine (τ .parts) k a b h, stack-nine (suc n) k a b h) (ap₂ (λ x y. arg stack (join x y)) (ts a) (ts b))
+  row-high k a b h = rw (le-leb 7 k (omega arith), row-ten (τ .parts) k a b h, stack-ten (suc n) k a b h) (ap₂ (λ x y. arg stack (join x y)) (ts a) (ts b))
 
   row-means : (k a b : ℕ) → meaning T (rowFrom (τ .parts) k a b) ≡ formed k a b
   unfolding meaning rowFrom codeRowAt valueWith stackWith
@@ -95,20 +96,21 @@ module _ (τ : RowTable) (T : List Arg) (n : ℕ) (tv : (x : ℕ) → typeAt val
   row-means (suc (suc (suc zero))) a b = ap (λ z. arg value (tuple z)) (components-are a b)
   row-means (suc (suc (suc (suc zero)))) a b = ap (λ z. arg value (pointer z)) (ts a)
   row-means (suc (suc (suc (suc (suc zero))))) a b = rw (reverse-reverse (lettersAt (τ .parts) b), ts a, registers-are b 8) refl
-  row-means (suc (suc (suc (suc (suc (suc zero)))))) a b = refl
+  row-means (suc (suc (suc (suc (suc (suc zero)))))) a b = ap (λ z. arg value (hidden z)) (tv a)
   row-means (suc (suc (suc (suc (suc (suc (suc zero))))))) a b = refl
-  row-means (suc (suc (suc (suc (suc (suc (suc (suc zero)))))))) a b = ap₂ (λ x y. arg stack (push x y)) (tv a) (ts b)
-  row-means (suc (suc (suc (suc (suc (suc (suc (suc (suc k))))))))) a b = row-high (suc (suc (suc (suc (suc (suc (suc (suc (suc k))))))))) a b (omega arith)
+  row-means (suc (suc (suc (suc (suc (suc (suc (suc zero)))))))) a b = refl
+  row-means (suc (suc (suc (suc (suc (suc (suc (suc (suc zero))))))))) a b = ap₂ (λ x y. arg stack (push x y)) (tv a) (ts b)
+  row-means (suc (suc (suc (suc (suc (suc (suc (suc (suc (suc k)))))))))) a b = row-high (suc (suc (suc (suc (suc (suc (suc (suc (suc (suc k)))))))))) a b (omega arith)
 
 -- ---- rows as arguments and as types
 module _ (τ : RowTable) where
-  kind-stack : (k a b h : ℕ) → 6 ≤ k → valueWith ValVar h k a b ≡ Junk
+  kind-stack : (k a b h : ℕ) → 7 ≤ k → valueWith ValVar h k a b ≡ Junk
   unfolding valueWith
-  kind-stack k a b h l = rw (ne-eqb k 0 (λ z. omega arith), ne-eqb k 2 (λ z. omega arith), ne-eqb k 3 (λ z. omega arith), ne-eqb k 4 (λ z. omega arith), ne-eqb k 5 (λ z. omega arith)) refl
+  kind-stack k a b h l = rw (ne-eqb k 0 (λ z. omega arith), ne-eqb k 2 (λ z. omega arith), ne-eqb k 3 (λ z. omega arith), ne-eqb k 4 (λ z. omega arith), ne-eqb k 5 (λ z. omega arith), ne-eqb k 6 (λ z. omega arith)) refl
 
-  pub kind-value : (k a b h : ℕ) → k < 6 → stackWith StkVar h k a b ≡ Nil
+  pub kind-value : (k a b h : ℕ) → k < 7 → stackWith StkVar h k a b ≡ Nil
   unfolding stackWith
-  kind-value k a b h l = rw (lt-ltb k 7 (omega arith)) refl
+  kind-value k a b h l = rw (lt-ltb k 8 (omega arith)) refl
 
   -- row x as an argument, at either kind
   pub arg-is : (κ : Kind) (x : ℕ) → ofKind κ (argOf τ x) ≡ mean τ κ (suc x)
@@ -116,10 +118,10 @@ module _ (τ : RowTable) where
   arg-is κ x = go κ (isStackAt (τ .rows) x) refl
     where
       go : (κ : Kind) (b : Bool) → isStackAt (τ .rows) x ≡ b → ofKind κ (cond b (arg stack (meanS τ (suc x))) (arg value (meanV τ (suc x)))) ≡ mean τ κ (suc x)
-      go value true e = sym (value-is τ (suc x) ∙ ap (buildV (meanV τ) (meanS τ) (τ .parts) (suc x)) (kind-stack (cell 4 (τ .rows) x 0) (cell 4 (τ .rows) x 1) (cell 4 (τ .rows) x 2) (suc x) (leb-true 6 (cell 4 (τ .rows) x 0) e)))
+      go value true e = sym (value-is τ (suc x) ∙ ap (buildV (meanV τ) (meanS τ) (τ .parts) (suc x)) (kind-stack (cell 4 (τ .rows) x 0) (cell 4 (τ .rows) x 1) (cell 4 (τ .rows) x 2) (suc x) (leb-true 7 (cell 4 (τ .rows) x 0) e)))
       go value false e = refl
       go stack true e = refl
-      go stack false e = sym (stack-is τ (suc x) ∙ ap (buildS (meanV τ) (meanS τ)) (kind-value (cell 4 (τ .rows) x 0) (cell 4 (τ .rows) x 1) (cell 4 (τ .rows) x 2) (suc x) (leb-false 6 (cell 4 (τ .rows) x 0) e)))
+      go stack false e = sym (stack-is τ (suc x) ∙ ap (buildS (meanV τ) (meanS τ)) (kind-value (cell 4 (τ .rows) x 0) (cell 4 (τ .rows) x 1) (cell 4 (τ .rows) x 2) (suc x) (leb-false 7 (cell 4 (τ .rows) x 0) e)))
 
   none-is : (κ : Kind) → ofKind κ noArg ≡ mean τ κ 0
   unfolding ofKind

@@ -9,11 +9,11 @@ use lib.Dec.{eqb, leb, ltb, leb·suc-suc}
 use lib.ListN.{length, getD}
 use borrow.Author.Tests.{ne-eqb, leb-false, leb-true, ltb-true, eqb-false, le-leb, lt-leb, lt-ltb, le-ltb}
 use Rattle.syntax.specs.Syntax.{Kind, value, stack}
-use Rattle.types.specs.Types.{Ty, int, junk, var, tuple, pointer, code, nil, push, svar, gap, join, items, variable, below, walk, raise, Arg, arg, ofKind}
+use Rattle.types.specs.Types.{Ty, int, junk, var, tuple, pointer, hidden, code, nil, push, svar, gap, join, items, variable, below, walk, raise, Arg, arg, ofKind}
 use Rattle.types.proofs.Filling.{join-nil, items-join, walk-join}
 use Rattle.tables.specs.Tables.{RowTable, cell, lettersAt}
 use Rattle.types_rows.specs.declared.Val.{Val}
-use Rattle.types_rows.specs.declared.Val.the-variants.{Int, Junk, ValVar, ValFill, Tuple, Pointer, Code}
+use Rattle.types_rows.specs.declared.Val.the-variants.{Int, Junk, ValVar, ValFill, Tuple, Pointer, Code, Hidden}
 use Rattle.types_rows.specs.declared.Stk.{Stk}
 use Rattle.types_rows.specs.declared.Stk.the-variants.{Nil, StkVar, StkFill, Push, Join}
 use Rattle.types_rows.specs.declared.Slot.{Slot}
@@ -22,7 +22,7 @@ use Rattle.types_rows.specs.declared.Step.{Step}
 use Rattle.types_rows.specs.declared.Step.the-variants.{Stay, Down}
 use Rattle.types_rows.specs.declared.Item.{Item}
 use Rattle.types_rows.specs.declared.Item.the-variants.{NoItem}
-use Rattle.types_rows.specs.Read.{lower, valueWith, stackWith, valueAt, stackAt, slotAt, onSlot, partsOf, buildV, buildS, valueTo, stackTo, meanV, meanS, placed, acting, valueUnder, stackUnder, partsUnder, codeOf, codeUnder, placeV, placeS, OkV, OkS, OkSlot, dropS, takeS, itemsAt, CountedTo, downOf, Narrowed, headOf, ItemOf}
+use Rattle.types_rows.specs.Read.{lower, valueWith, stackWith, valueAt, stackAt, slotAt, onSlot, partsOf, buildV, buildS, valueTo, stackTo, meanV, meanS, placed, acting, lift, valueUnder, stackUnder, partsUnder, codeOf, codeUnder, placeV, placeS, OkV, OkS, OkSlot, dropS, takeS, itemsAt, CountedTo, downOf, Narrowed, headOf, ItemOf}
 
 pub never : {A : Type 0} → _≡_ {A = ℕ} 0 1 → A
 never e = absurd (omega arith)
@@ -63,39 +63,39 @@ slot-row h zero e = absurd (e refl)
 slot-row h (suc x) e = let q : suc x - 1 ≡ x = omega arith in rw q refl
 
 -- what is placed names no row
-pub ok-placed : (m h by d k : ℕ) {v : Val} → v ≡ placeV m by d k → OkV m 0 v → OkV m h v
-ok-placed m h by d k {v} e o = rw e (go (ltb k d) (ltb (k - d) m) (rw e at o))
+pub ok-placed : (m h : ℕ) (ρ : ℕ → ℕ) (d k : ℕ) {v : Val} → v ≡ placeV m ρ d k → OkV m 0 v → OkV m h v
+ok-placed m h ρ d k {v} e o = rw e (go (ltb k d) (ltb (k - d) m) (rw e at o))
   where
-    go : (x y : Bool) → OkV m 0 (cond x (ValVar k) (cond y (ValFill (k - d)) (ValVar (((k - d) - m) + (by + d))))) → OkV m h (cond x (ValVar k) (cond y (ValFill (k - d)) (ValVar (((k - d) - m) + (by + d)))))
+    go : (x y : Bool) → OkV m 0 (cond x (ValVar k) (cond y (ValFill (k - d)) (ValVar (ρ ((k - d) - m) + d)))) → OkV m h (cond x (ValVar k) (cond y (ValFill (k - d)) (ValVar (ρ ((k - d) - m) + d))))
     go true y o = tt
     go false true o = o
     go false false o = tt
 
-pub ok-placed-s : (m h by d k : ℕ) {v : Stk} → v ≡ placeS m by d k → OkS m 0 v → OkS m h v
-ok-placed-s m h by d k {v} e o = rw e (go (ltb k d) (ltb (k - d) m) (rw e at o))
+pub ok-placed-s : (m h : ℕ) (ρ : ℕ → ℕ) (d k : ℕ) {v : Stk} → v ≡ placeS m ρ d k → OkS m 0 v → OkS m h v
+ok-placed-s m h ρ d k {v} e o = rw e (go (ltb k d) (ltb (k - d) m) (rw e at o))
   where
-    go : (x y : Bool) → OkS m 0 (cond x (StkVar k) (cond y (StkFill (k - d)) (StkVar (((k - d) - m) + (by + d))))) → OkS m h (cond x (StkVar k) (cond y (StkFill (k - d)) (StkVar (((k - d) - m) + (by + d)))))
+    go : (x y : Bool) → OkS m 0 (cond x (StkVar k) (cond y (StkFill (k - d)) (StkVar (ρ ((k - d) - m) + d)))) → OkS m h (cond x (StkVar k) (cond y (StkFill (k - d)) (StkVar (ρ ((k - d) - m) + d))))
     go true y o = tt
     go false true o = o
     go false false o = tt
 
 -- with nothing to place
-plain-v : (k : ℕ) → placeV 0 0 0 k ≡ ValVar k
+plain-v : (k : ℕ) → placeV 0 (lift 0) 0 k ≡ ValVar k
 plain-v k =
-    let q : ((k - 0) - 0) + (0 + 0) ≡ k = omega arith in
+    let q : (((k - 0) - 0) + 0) + 0 ≡ k = omega arith in
     rw (le-ltb k 0 (omega arith), le-ltb (k - 0) 0 (omega arith), q) refl
 
-plain-s : (k : ℕ) → placeS 0 0 0 k ≡ StkVar k
+plain-s : (k : ℕ) → placeS 0 (lift 0) 0 k ≡ StkVar k
 plain-s k =
-    let q : ((k - 0) - 0) + (0 + 0) ≡ k = omega arith in
+    let q : (((k - 0) - 0) + 0) + 0 ≡ k = omega arith in
     rw (le-ltb k 0 (omega arith), le-ltb (k - 0) 0 (omega arith), q) refl
 
-pub plain-value : (rows : List ℕ) (h : ℕ) → valueAt rows (placeV 0 0 0) h ≡ valueAt rows ValVar h
+pub plain-value : (rows : List ℕ) (h : ℕ) → valueAt rows (placeV 0 (lift 0) 0) h ≡ valueAt rows ValVar h
 unfolding valueWith
 plain-value rows zero = refl
 plain-value rows (suc r) = rw (plain-v (cell 4 rows r 1)) refl
 
-pub plain-stack : (rows : List ℕ) (h : ℕ) → stackAt rows (placeS 0 0 0) h ≡ stackAt rows StkVar h
+pub plain-stack : (rows : List ℕ) (h : ℕ) → stackAt rows (placeS 0 (lift 0) 0) h ≡ stackAt rows StkVar h
 unfolding stackWith
 plain-stack rows zero = refl
 plain-stack rows (suc r) = rw (plain-s (cell 4 rows r 1)) refl
@@ -109,6 +109,7 @@ LowV h (ValFill j) = Unit
 LowV h (Tuple p n) = 0 < h
 LowV h (Pointer x) = x < h
 LowV h (Code x p) = x < h
+LowV h (Hidden x) = x < h
 
 abbrev pub LowS : ℕ → Stk → Type 0
 LowS h Nil = Unit
@@ -120,20 +121,21 @@ LowS h (Join x y) = (x < h) × (y < h)
 pub lowV-at : (rows : List ℕ) (h : ℕ) → LowV h (valueAt rows ValVar h)
 unfolding valueWith
 lowV-at rows zero = tt
-lowV-at rows (suc r) = go (cell 4 rows r 1) (cell 4 rows r 2) (eqb (cell 4 rows r 0) 0) (eqb (cell 4 rows r 0) 2) (eqb (cell 4 rows r 0) 3) (eqb (cell 4 rows r 0) 4) (eqb (cell 4 rows r 0) 5)
+lowV-at rows (suc r) = go (cell 4 rows r 1) (cell 4 rows r 2) (eqb (cell 4 rows r 0) 0) (eqb (cell 4 rows r 0) 2) (eqb (cell 4 rows r 0) 3) (eqb (cell 4 rows r 0) 4) (eqb (cell 4 rows r 0) 5) (eqb (cell 4 rows r 0) 6)
   where
-    go : (a b : ℕ) (x₁ x₂ x₃ x₄ x₅ : Bool) → LowV (suc r) (cond x₁ Int (cond x₂ (ValVar a) (cond x₃ (Tuple a b) (cond x₄ (Pointer (lower (suc r) a)) (cond x₅ (Code (lower (suc r) a) b) Junk)))))
-    go a b true x₂ x₃ x₄ x₅ = tt
-    go a b false true x₃ x₄ x₅ = tt
-    go a b false false true x₄ x₅ = omega arith
-    go a b false false false true x₅ = lower-low (suc r) a (omega arith)
-    go a b false false false false true = lower-low (suc r) a (omega arith)
-    go a b false false false false false = tt
+    go : (a b : ℕ) (x₁ x₂ x₃ x₄ x₅ x₆ : Bool) → LowV (suc r) (cond x₁ Int (cond x₂ (ValVar a) (cond x₃ (Tuple a b) (cond x₄ (Pointer (lower (suc r) a)) (cond x₅ (Code (lower (suc r) a) b) (cond x₆ (Hidden (lower (suc r) a)) Junk))))))
+    go a b true x₂ x₃ x₄ x₅ x₆ = tt
+    go a b false true x₃ x₄ x₅ x₆ = tt
+    go a b false false true x₄ x₅ x₆ = omega arith
+    go a b false false false true x₅ x₆ = lower-low (suc r) a (omega arith)
+    go a b false false false false true x₆ = lower-low (suc r) a (omega arith)
+    go a b false false false false false true = lower-low (suc r) a (omega arith)
+    go a b false false false false false false = tt
 
 pub lowS-at : (rows : List ℕ) (h : ℕ) → LowS h (stackAt rows StkVar h)
 unfolding stackWith
 lowS-at rows zero = tt
-lowS-at rows (suc r) = go (cell 4 rows r 1) (cell 4 rows r 2) (ltb (cell 4 rows r 0) 7) (eqb (cell 4 rows r 0) 7) (eqb (cell 4 rows r 0) 8)
+lowS-at rows (suc r) = go (cell 4 rows r 1) (cell 4 rows r 2) (ltb (cell 4 rows r 0) 8) (eqb (cell 4 rows r 0) 8) (eqb (cell 4 rows r 0) 9)
   where
     go : (a b : ℕ) (x₁ x₂ x₃ : Bool) → LowS (suc r) (cond x₁ Nil (cond x₂ (StkVar a) (cond x₃ (Push (lower (suc r) a) (lower (suc r) b)) (Join (lower (suc r) a) (lower (suc r) b)))))
     go a b true x₂ x₃ = tt
@@ -165,6 +167,7 @@ module _ (h : ℕ) (f g : ℕ → Ty value) (u v : ℕ → Ty stack) (e : (x : �
   same-buildV ps (Tuple p n) l = ap tuple (same-parts ps false p n l)
   same-buildV ps (Pointer x) l = ap pointer (i x l)
   same-buildV ps (Code x p) l = ap₂ (code (lettersAt ps p)) (i x l) (same-parts ps true p 8 (omega arith))
+  same-buildV ps (Hidden x) l = ap hidden (e x l)
 
   same-buildS : (n : Stk) → LowS h n → buildS f u n ≡ buildS g v n
   same-buildS Nil l = refl
@@ -202,12 +205,12 @@ module _ (τ : RowTable) where
       same-buildS h (valueTo h τ) (λ x. valueTo (suc x) τ x) (stackTo h τ) (λ x. stackTo (suc x) τ x) (λ x l. sameV h (suc x) x l (omega arith)) (λ x l. sameS h (suc x) x l (omega arith)) (stackAt (τ .rows) StkVar h) (lowS-at (τ .rows) h)
 
 -- ---- what the readers read
-module _ (rows : List ℕ) (h k a b m by d : ℕ) (p : 0 < h) (e : k ≡ cell 4 rows (h - 1) 0) (f : a ≡ cell 4 rows (h - 1) 1) (g : b ≡ cell 4 rows (h - 1) 2) where
-  pub value-of : {v : Val} → v ≡ valueWith (placeV m by d) h k a b → v ≡ valueAt rows (placeV m by d) h
-  value-of i = i ∙ rw (e, f, g) (value-link rows (placeV m by d) h p)
+module _ (rows : List ℕ) (h k a b m : ℕ) (ρ : ℕ → ℕ) (d : ℕ) (p : 0 < h) (e : k ≡ cell 4 rows (h - 1) 0) (f : a ≡ cell 4 rows (h - 1) 1) (g : b ≡ cell 4 rows (h - 1) 2) where
+  pub value-of : {v : Val} → v ≡ valueWith (placeV m ρ d) h k a b → v ≡ valueAt rows (placeV m ρ d) h
+  value-of i = i ∙ rw (e, f, g) (value-link rows (placeV m ρ d) h p)
 
-  pub stack-of : {v : Stk} → v ≡ stackWith (placeS m by d) h k a b → v ≡ stackAt rows (placeS m by d) h
-  stack-of i = i ∙ rw (e, f, g) (stack-link rows (placeS m by d) h p)
+  pub stack-of : {v : Stk} → v ≡ stackWith (placeS m ρ d) h k a b → v ≡ stackAt rows (placeS m ρ d) h
+  stack-of i = i ∙ rw (e, f, g) (stack-link rows (placeS m ρ d) h p)
 
 module _ (file : Bool) (h x : ℕ) where
   pub part-gap : {y : ℕ} → file ≡ true → x ≡ y → x ≡ 0 → (Gap ≡ slotAt file h y) × OkSlot h Gap
@@ -335,7 +338,7 @@ module _ (rows : List ℕ) (x y j n c : ℕ) (e : c ≡ itemsAt rows x) where
 pub ok-form : (m h : ℕ) {n k : Stk} → OkS m h n → n ≡ k → OkS m h k
 ok-form m h o e = rw e at o
 
-pub down-is : (rows : List ℕ) (h j n : ℕ) {f g : Stk} → f ≡ stackAt rows (placeS 0 0 0) h → f ≡ g → downOf rows g j n ≡ downOf rows (stackAt rows StkVar h) j n
+pub down-is : (rows : List ℕ) (h j n : ℕ) {f g : Stk} → f ≡ stackAt rows (placeS 0 (lift 0) 0) h → f ≡ g → downOf rows g j n ≡ downOf rows (stackAt rows StkVar h) j n
 down-is rows h j n e q = ap (λ z. downOf rows z j n) (sym q ∙ e ∙ plain-stack rows h)
 
 module _ (τ : RowTable) (r x i n : ℕ) (c : CountedTo τ r) (l : x ≤ r) where
@@ -411,122 +414,124 @@ module _ (τ : RowTable) (r j n : ℕ) where
 abbrev pub noArg : Arg
 noArg = arg value junk
 
-module _ (κ : Kind) (by d : ℕ) where
-  pub placed-is : (A : List Arg) (j : ℕ) → placed κ by d A j ≡ cond (ltb j (length A)) (raise d (ofKind κ (getD A j noArg))) (variable κ ((j - length A) + (by + d)))
+module _ (κ : Kind) (ρ : ℕ → ℕ) (d : ℕ) where
+  pub placed-is : (A : List Arg) (j : ℕ) → placed κ ρ d A j ≡ cond (ltb j (length A)) (raise d (ofKind κ (getD A j noArg))) (variable κ (ρ (j - length A) + d))
   unfolding placed
-  placed-is [] j = rw (le-ltb j 0 (omega arith)) (ap (variable κ) (omega arith))
+  placed-is [] j = let q : j - 0 ≡ j = omega arith in rw (le-ltb j 0 (omega arith), q) refl
   placed-is (a ∷ A) zero = rw (lt-ltb 0 (suc (length A)) (omega arith)) refl
   placed-is (a ∷ A) (suc j) =
       let q : suc j - suc (length A) ≡ j - length A = omega arith in
       rw (q, leb·suc-suc (suc j) (length A)) (placed-is A j)
 
-  pub acting-is : (A : List Arg) (k : ℕ) → acting A by d κ k ≡ cond (ltb k d) (variable κ k) (placed κ by d A (k - d))
+  pub acting-is : (A : List Arg) (k : ℕ) → acting A ρ d κ k ≡ cond (ltb k d) (variable κ k) (placed κ ρ d A (k - d))
   unfolding acting below
   acting-is A k = refl
 
--- ---- a row in a context, by its form with the variable placed
-module _ (τ : RowTable) (A : List Arg) (by d : ℕ) where
+-- ---- a row in a context, ρ its form with the variable placed
+module _ (τ : RowTable) (A : List Arg) (ρ : ℕ → ℕ) (d : ℕ) where
   abbrev pub typeV : ℕ → Val → Ty value
   typeV h Int = int
   typeV h Junk = junk
   typeV h (ValVar k) = var k
   typeV h (ValFill j) = raise d (ofKind value (getD A j noArg))
-  typeV h (Tuple p n) = tuple (partsUnder τ A by d false h p n)
-  typeV h (Pointer x) = pointer (stackUnder τ A by d x)
-  typeV h (Code x p) = codeUnder τ A by d h x p
+  typeV h (Tuple p n) = tuple (partsUnder τ A ρ d false h p n)
+  typeV h (Pointer x) = pointer (stackUnder τ A ρ d x)
+  typeV h (Code x p) = codeUnder τ A ρ d h x p
+  typeV h (Hidden x) = hidden (valueUnder τ A ρ (suc d) x)
 
   abbrev pub typeS : Stk → Ty stack
   typeS Nil = nil
   typeS (StkVar k) = svar k nil
   typeS (StkFill j) = raise d (ofKind stack (getD A j noArg))
-  typeS (Push t x) = push (valueUnder τ A by d t) (stackUnder τ A by d x)
-  typeS (Join x y) = join (stackUnder τ A by d x) (stackUnder τ A by d y)
+  typeS (Push t x) = push (valueUnder τ A ρ d t) (stackUnder τ A ρ d x)
+  typeS (Join x y) = join (stackUnder τ A ρ d x) (stackUnder τ A ρ d y)
 
-  placed-v : (h k : ℕ) → acting A by d value k ≡ typeV h (placeV (length A) by d k)
+  placed-v : (h k : ℕ) → acting A ρ d value k ≡ typeV h (placeV (length A) ρ d k)
   unfolding variable
-  placed-v h k = acting-is value by d A k ∙ rw (placed-is value by d A (k - d)) (go (ltb k d) (ltb (k - d) (length A)))
+  placed-v h k = acting-is value ρ d A k ∙ rw (placed-is value ρ d A (k - d)) (go (ltb k d) (ltb (k - d) (length A)))
     where
-      go : (x y : Bool) → cond x (var k) (cond y (raise d (ofKind value (getD A (k - d) noArg))) (var (((k - d) - length A) + (by + d)))) ≡ typeV h (cond x (ValVar k) (cond y (ValFill (k - d)) (ValVar (((k - d) - length A) + (by + d)))))
+      go : (x y : Bool) → cond x (var k) (cond y (raise d (ofKind value (getD A (k - d) noArg))) (var (ρ ((k - d) - length A) + d))) ≡ typeV h (cond x (ValVar k) (cond y (ValFill (k - d)) (ValVar (ρ ((k - d) - length A) + d))))
       go true y = refl
       go false true = refl
       go false false = refl
 
-  placed-s : (k : ℕ) → acting A by d stack k ≡ typeS (placeS (length A) by d k)
+  placed-s : (k : ℕ) → acting A ρ d stack k ≡ typeS (placeS (length A) ρ d k)
   unfolding variable
-  placed-s k = acting-is stack by d A k ∙ rw (placed-is stack by d A (k - d)) (go (ltb k d) (ltb (k - d) (length A)))
+  placed-s k = acting-is stack ρ d A k ∙ rw (placed-is stack ρ d A (k - d)) (go (ltb k d) (ltb (k - d) (length A)))
     where
-      go : (x y : Bool) → cond x (svar k nil) (cond y (raise d (ofKind stack (getD A (k - d) noArg))) (svar (((k - d) - length A) + (by + d)) nil)) ≡ typeS (cond x (StkVar k) (cond y (StkFill (k - d)) (StkVar (((k - d) - length A) + (by + d)))))
+      go : (x y : Bool) → cond x (svar k nil) (cond y (raise d (ofKind stack (getD A (k - d) noArg))) (svar (ρ ((k - d) - length A) + d) nil)) ≡ typeS (cond x (StkVar k) (cond y (StkFill (k - d)) (StkVar (ρ ((k - d) - length A) + d))))
       go true y = refl
       go false true = refl
       go false false = refl
 
-  pub value-under : (h : ℕ) → valueUnder τ A by d h ≡ typeV h (valueAt (τ .rows) (placeV (length A) by d) h)
+  pub value-under : (h : ℕ) → valueUnder τ A ρ d h ≡ typeV h (valueAt (τ .rows) (placeV (length A) ρ d) h)
   unfolding valueUnder valueWith walk partsUnder stackUnder codeUnder codeOf
-  value-under zero = ap (walk (acting A by) d) (value-is τ zero)
-  value-under (suc r) = ap (walk (acting A by) d) (value-is τ (suc r)) ∙ go (cell 4 (τ .rows) r 1) (cell 4 (τ .rows) r 2) (eqb (cell 4 (τ .rows) r 0) 0) (eqb (cell 4 (τ .rows) r 0) 2) (eqb (cell 4 (τ .rows) r 0) 3) (eqb (cell 4 (τ .rows) r 0) 4) (eqb (cell 4 (τ .rows) r 0) 5)
+  value-under zero = ap (walk (acting A ρ) d) (value-is τ zero)
+  value-under (suc r) = ap (walk (acting A ρ) d) (value-is τ (suc r)) ∙ go (cell 4 (τ .rows) r 1) (cell 4 (τ .rows) r 2) (eqb (cell 4 (τ .rows) r 0) 0) (eqb (cell 4 (τ .rows) r 0) 2) (eqb (cell 4 (τ .rows) r 0) 3) (eqb (cell 4 (τ .rows) r 0) 4) (eqb (cell 4 (τ .rows) r 0) 5) (eqb (cell 4 (τ .rows) r 0) 6)
     where
-      go : (a b : ℕ) (x₁ x₂ x₃ x₄ x₅ : Bool) → walk (acting A by) d (buildV (meanV τ) (meanS τ) (τ .parts) (suc r) (cond x₁ Int (cond x₂ (ValVar a) (cond x₃ (Tuple a b) (cond x₄ (Pointer (lower (suc r) a)) (cond x₅ (Code (lower (suc r) a) b) Junk))))))
-          ≡ typeV (suc r) (cond x₁ Int (cond x₂ (placeV (length A) by d a) (cond x₃ (Tuple a b) (cond x₄ (Pointer (lower (suc r) a)) (cond x₅ (Code (lower (suc r) a) b) Junk)))))
-      go a b true x₂ x₃ x₄ x₅ = refl
-      go a b false true x₃ x₄ x₅ = placed-v (suc r) a
-      go a b false false true x₄ x₅ = refl
-      go a b false false false true x₅ = refl
-      go a b false false false false true = refl
-      go a b false false false false false = refl
+      go : (a b : ℕ) (x₁ x₂ x₃ x₄ x₅ x₆ : Bool) → walk (acting A ρ) d (buildV (meanV τ) (meanS τ) (τ .parts) (suc r) (cond x₁ Int (cond x₂ (ValVar a) (cond x₃ (Tuple a b) (cond x₄ (Pointer (lower (suc r) a)) (cond x₅ (Code (lower (suc r) a) b) (cond x₆ (Hidden (lower (suc r) a)) Junk)))))))
+          ≡ typeV (suc r) (cond x₁ Int (cond x₂ (placeV (length A) ρ d a) (cond x₃ (Tuple a b) (cond x₄ (Pointer (lower (suc r) a)) (cond x₅ (Code (lower (suc r) a) b) (cond x₆ (Hidden (lower (suc r) a)) Junk))))))
+      go a b true x₂ x₃ x₄ x₅ x₆ = refl
+      go a b false true x₃ x₄ x₅ x₆ = placed-v (suc r) a
+      go a b false false true x₄ x₅ x₆ = refl
+      go a b false false false true x₅ x₆ = refl
+      go a b false false false false true x₆ = refl
+      go a b false false false false false true = refl
+      go a b false false false false false false = refl
 
-  pub stack-under : (h : ℕ) → stackUnder τ A by d h ≡ typeS (stackAt (τ .rows) (placeS (length A) by d) h)
+  pub stack-under : (h : ℕ) → stackUnder τ A ρ d h ≡ typeS (stackAt (τ .rows) (placeS (length A) ρ d) h)
   unfolding stackUnder stackWith walk valueUnder
-  stack-under zero = ap (walk (acting A by) d) (stack-is τ zero)
-  stack-under (suc r) = ap (walk (acting A by) d) (stack-is τ (suc r)) ∙ go (cell 4 (τ .rows) r 1) (cell 4 (τ .rows) r 2) (ltb (cell 4 (τ .rows) r 0) 7) (eqb (cell 4 (τ .rows) r 0) 7) (eqb (cell 4 (τ .rows) r 0) 8)
+  stack-under zero = ap (walk (acting A ρ) d) (stack-is τ zero)
+  stack-under (suc r) = ap (walk (acting A ρ) d) (stack-is τ (suc r)) ∙ go (cell 4 (τ .rows) r 1) (cell 4 (τ .rows) r 2) (ltb (cell 4 (τ .rows) r 0) 8) (eqb (cell 4 (τ .rows) r 0) 8) (eqb (cell 4 (τ .rows) r 0) 9)
     where
-      go : (a b : ℕ) (x₁ x₂ x₃ : Bool) → walk (acting A by) d (buildS (meanV τ) (meanS τ) (cond x₁ Nil (cond x₂ (StkVar a) (cond x₃ (Push (lower (suc r) a) (lower (suc r) b)) (Join (lower (suc r) a) (lower (suc r) b))))))
-          ≡ typeS (cond x₁ Nil (cond x₂ (placeS (length A) by d a) (cond x₃ (Push (lower (suc r) a) (lower (suc r) b)) (Join (lower (suc r) a) (lower (suc r) b)))))
+      go : (a b : ℕ) (x₁ x₂ x₃ : Bool) → walk (acting A ρ) d (buildS (meanV τ) (meanS τ) (cond x₁ Nil (cond x₂ (StkVar a) (cond x₃ (Push (lower (suc r) a) (lower (suc r) b)) (Join (lower (suc r) a) (lower (suc r) b))))))
+          ≡ typeS (cond x₁ Nil (cond x₂ (placeS (length A) ρ d a) (cond x₃ (Push (lower (suc r) a) (lower (suc r) b)) (Join (lower (suc r) a) (lower (suc r) b)))))
       go a b true x₂ x₃ = refl
-      go a b false true x₃ = join-nil (acting A by d stack a) ∙ placed-s a
+      go a b false true x₃ = join-nil (acting A ρ d stack a) ∙ placed-s a
       go a b false false true = refl
-      go a b false false false = walk-join (acting A by) d (meanS τ (lower (suc r) a)) (meanS τ (lower (suc r) b))
+      go a b false false false = walk-join (acting A ρ) d (meanS τ (lower (suc r) a)) (meanS τ (lower (suc r) b))
 
   -- the same from what a reader answers
-  pub stack-read : (m h : ℕ) {n k : Stk} → length A ≡ m → n ≡ stackAt (τ .rows) (placeS m by d) h → n ≡ k → stackUnder τ A by d h ≡ typeS k
+  pub stack-read : (m h : ℕ) {n k : Stk} → length A ≡ m → n ≡ stackAt (τ .rows) (placeS m ρ d) h → n ≡ k → stackUnder τ A ρ d h ≡ typeS k
   stack-read m h {n} {k} l e f =
-      let q : stackAt (τ .rows) (placeS (length A) by d) h ≡ k = rw l (sym e ∙ f) in
+      let q : stackAt (τ .rows) (placeS (length A) ρ d) h ≡ k = rw l (sym e ∙ f) in
       stack-under h ∙ ap typeS q
 
-  pub value-read : (m h : ℕ) {n : Val} → length A ≡ m → n ≡ valueAt (τ .rows) (placeV m by d) h → valueUnder τ A by d h ≡ typeV h n
+  pub value-read : (m h : ℕ) {n : Val} → length A ≡ m → n ≡ valueAt (τ .rows) (placeV m ρ d) h → valueUnder τ A ρ d h ≡ typeV h n
   value-read m h {n} l e =
-      let q : valueAt (τ .rows) (placeV (length A) by d) h ≡ n = rw l (sym e) in
+      let q : valueAt (τ .rows) (placeV (length A) ρ d) h ≡ n = rw l (sym e) in
       value-under h ∙ ap (typeV h) q
 
 -- ---- a lift keeps items apart
-module _ (by : ℕ) where
-  lifted : (d k : ℕ) (b : Ty stack) → join (acting [] by d stack k) b ≡ svar (cond (ltb k d) k ((k - d) + (by + d))) b
+module _ (ρ : ℕ → ℕ) where
+  lifted : (d k : ℕ) (b : Ty stack) → join (acting [] ρ d stack k) b ≡ svar (cond (ltb k d) k (ρ (k - d) + d)) b
   unfolding placed variable join
-  lifted d k b = rw (acting-is stack by d [] k) (go (ltb k d))
+  lifted d k b = rw (acting-is stack ρ d [] k) (go (ltb k d))
     where
-      go : (x : Bool) → join (cond x (svar k nil) (svar ((k - d) + (by + d)) nil)) b ≡ svar (cond x k ((k - d) + (by + d))) b
+      go : (x : Bool) → join (cond x (svar k nil) (svar (ρ (k - d) + d) nil)) b ≡ svar (cond x k (ρ (k - d) + d)) b
       go true = refl
       go false = refl
 
-  pub drop-lift : (d n : ℕ) (a : Ty stack) → dropS n (walk (acting [] by) d a) ≡ walk (acting [] by) d (dropS n a)
+  pub drop-lift : (d n : ℕ) (a : Ty stack) → dropS n (walk (acting [] ρ) d a) ≡ walk (acting [] ρ) d (dropS n a)
   unfolding walk dropS
   drop-lift d zero a = refl
   drop-lift d (suc n) nil = refl
   drop-lift d (suc n) (push t a) = drop-lift d n a
-  drop-lift d (suc n) (svar k a) = rw (lifted d k (walk (acting [] by) d a)) (drop-lift d n a)
+  drop-lift d (suc n) (svar k a) = rw (lifted d k (walk (acting [] ρ) d a)) (drop-lift d n a)
   drop-lift d (suc n) (gap a) = drop-lift d n a
 
-  pub take-lift : (d n : ℕ) (a : Ty stack) → takeS n (walk (acting [] by) d a) ≡ walk (acting [] by) d (takeS n a)
+  pub take-lift : (d n : ℕ) (a : Ty stack) → takeS n (walk (acting [] ρ) d a) ≡ walk (acting [] ρ) d (takeS n a)
   unfolding walk takeS
   take-lift d zero a = refl
   take-lift d (suc n) nil = refl
-  take-lift d (suc n) (push t a) = ap (push (walk (acting [] by) d t)) (take-lift d n a)
-  take-lift d (suc n) (svar k a) = rw (lifted d k (walk (acting [] by) d a), lifted d k (walk (acting [] by) d (takeS n a))) (ap (svar (cond (ltb k d) k ((k - d) + (by + d)))) (take-lift d n a))
+  take-lift d (suc n) (push t a) = ap (push (walk (acting [] ρ) d t)) (take-lift d n a)
+  take-lift d (suc n) (svar k a) = rw (lifted d k (walk (acting [] ρ) d a), lifted d k (walk (acting [] ρ) d (takeS n a))) (ap (svar (cond (ltb k d) k (ρ (k - d) + d))) (take-lift d n a))
   take-lift d (suc n) (gap a) = ap gap (take-lift d n a)
 
-module _ (τ : RowTable) (by d : ℕ) where
-  pub same-under : {r j n x i : ℕ} → Narrowed τ r j n x i → takeS n (dropS j (stackUnder τ [] by d r)) ≡ takeS n (dropS i (stackUnder τ [] by d x))
+module _ (τ : RowTable) (ρ : ℕ → ℕ) (d : ℕ) where
+  pub same-under : {r j n x i : ℕ} → Narrowed τ r j n x i → takeS n (dropS j (stackUnder τ [] ρ d r)) ≡ takeS n (dropS i (stackUnder τ [] ρ d x))
   unfolding stackUnder
-  same-under {r} {j} {n} {x} {i} w = rw (drop-lift by d j (meanS τ r), drop-lift by d i (meanS τ x), take-lift by d n (dropS j (meanS τ r)), take-lift by d n (dropS i (meanS τ x))) (ap (walk (acting [] by) d) (w .same))
+  same-under {r} {j} {n} {x} {i} w = rw (drop-lift ρ d j (meanS τ r), drop-lift ρ d i (meanS τ x), take-lift ρ d n (dropS j (meanS τ r)), take-lift ρ d n (dropS i (meanS τ x))) (ap (walk (acting [] ρ) d) (w .same))
 
 -- ---- item j
 -- a place with one item that no lower row has is that item, or past the end
@@ -541,44 +546,44 @@ stays-join rows x y i {B} e = go (leb (itemsAt rows x) i) (leb 1 (itemsAt rows x
 stays-push : (rows : List ℕ) (t x i n : ℕ) {B : Type 0} → (i ≡ 0 → ⊥) → downOf rows (Push t x) i n ≡ Stay → B
 stays-push rows t x i n z e = let q : Down x (i - 1) ≡ Stay = down-under rows t x i n z ∙ e in never (cc)
 
-placed-down : (rows : List ℕ) (by d h i n : ℕ) → downOf rows (stackAt rows (placeS 0 by d) h) i n ≡ downOf rows (stackAt rows StkVar h) i n
+placed-down : (rows : List ℕ) (ρ : ℕ → ℕ) (d h i n : ℕ) → downOf rows (stackAt rows (placeS 0 ρ d) h) i n ≡ downOf rows (stackAt rows StkVar h) i n
 unfolding stackWith
-placed-down rows by d zero i n = refl
-placed-down rows by d (suc r) i n = go (cell 4 rows r 1) (cell 4 rows r 2) (ltb (cell 4 rows r 0) 7) (eqb (cell 4 rows r 0) 7) (eqb (cell 4 rows r 0) 8)
+placed-down rows ρ d zero i n = refl
+placed-down rows ρ d (suc r) i n = go (cell 4 rows r 1) (cell 4 rows r 2) (ltb (cell 4 rows r 0) 8) (eqb (cell 4 rows r 0) 8) (eqb (cell 4 rows r 0) 9)
   where
-    on-var : (k : ℕ) (x y : Bool) → downOf rows (cond x (StkVar k) (cond y (StkFill (k - d)) (StkVar (((k - d) - 0) + (by + d))))) i n ≡ Stay
+    on-var : (k : ℕ) (x y : Bool) → downOf rows (cond x (StkVar k) (cond y (StkFill (k - d)) (StkVar (ρ ((k - d) - 0) + d)))) i n ≡ Stay
     on-var k true y = refl
     on-var k false true = refl
     on-var k false false = refl
 
-    go : (a b : ℕ) (x₁ x₂ x₃ : Bool) → downOf rows (cond x₁ Nil (cond x₂ (placeS 0 by d a) (cond x₃ (Push (lower (suc r) a) (lower (suc r) b)) (Join (lower (suc r) a) (lower (suc r) b))))) i n
+    go : (a b : ℕ) (x₁ x₂ x₃ : Bool) → downOf rows (cond x₁ Nil (cond x₂ (placeS 0 ρ d a) (cond x₃ (Push (lower (suc r) a) (lower (suc r) b)) (Join (lower (suc r) a) (lower (suc r) b))))) i n
         ≡ downOf rows (cond x₁ Nil (cond x₂ (StkVar a) (cond x₃ (Push (lower (suc r) a) (lower (suc r) b)) (Join (lower (suc r) a) (lower (suc r) b))))) i n
     go a b true x₂ x₃ = refl
     go a b false true x₃ = on-var a (ltb a d) (ltb (a - d) 0)
     go a b false false true = refl
     go a b false false false = refl
 
-module _ (τ : RowTable) (by d h j x i : ℕ) (w : Narrowed τ h j 1 x i) where
-  -- the whole from item j on, by its first item
-  from-nil : takeS 1 (dropS j (stackUnder τ [] by d h)) ≡ nil → ItemOf τ by d h (stackUnder τ [] by d h) j NoItem
-  from-nil e = one-nil (dropS j (stackUnder τ [] by d h)) e
+module _ (τ : RowTable) (ρ : ℕ → ℕ) (d h j x i : ℕ) (w : Narrowed τ h j 1 x i) where
+  -- the whole from item j on, ρ its first item
+  from-nil : takeS 1 (dropS j (stackUnder τ [] ρ d h)) ≡ nil → ItemOf τ ρ d h (stackUnder τ [] ρ d h) j NoItem
+  from-nil e = one-nil (dropS j (stackUnder τ [] ρ d h)) e
 
-  from-form : (s : Stk) → OkS 0 x s → downOf (τ .rows) s 0 1 ≡ Stay → takeS 1 (dropS j (stackUnder τ [] by d h)) ≡ takeS 1 (typeS τ [] by d s) → ItemOf τ by d h (stackUnder τ [] by d h) j (headOf s)
+  from-form : (s : Stk) → OkS 0 x s → downOf (τ .rows) s 0 1 ≡ Stay → takeS 1 (dropS j (stackUnder τ [] ρ d h)) ≡ takeS 1 (typeS τ [] ρ d s) → ItemOf τ ρ d h (stackUnder τ [] ρ d h) j (headOf s)
   unfolding takeS
   from-form Nil o q e = from-nil e
-  from-form (StkVar k) o q e = one-svar (dropS j (stackUnder τ [] by d h)) k e ∙ ap (svar k) (drop-next j (stackUnder τ [] by d h))
+  from-form (StkVar k) o q e = one-svar (dropS j (stackUnder τ [] ρ d h)) k e ∙ ap (svar k) (drop-next j (stackUnder τ [] ρ d h))
   from-form (StkFill k) o q e = absurd (not-suc-le-zero o)
   from-form (Push t y) o q e =
       let l = o .0 in
       let g = w .row-low in
-      (omega arith, one-push (dropS j (stackUnder τ [] by d h)) (valueUnder τ [] by d t) e ∙ ap (push (valueUnder τ [] by d t)) (drop-next j (stackUnder τ [] by d h)))
+      (omega arith, one-push (dropS j (stackUnder τ [] ρ d h)) (valueUnder τ [] ρ d t) e ∙ ap (push (valueUnder τ [] ρ d t)) (drop-next j (stackUnder τ [] ρ d h)))
   from-form (Join a b) o q e = stays-join (τ .rows) a b 0 q
 
-  pub item-head : {s : Stk} {o : Item} → s ≡ stackAt (τ .rows) (placeS 0 by d) x → OkS 0 x s → i ≡ 0 → o ≡ headOf s → ItemOf τ by d h (stackUnder τ [] by d h) j o
+  pub item-head : {s : Stk} {o : Item} → s ≡ stackAt (τ .rows) (placeS 0 ρ d) x → OkS 0 x s → i ≡ 0 → o ≡ headOf s → ItemOf τ ρ d h (stackUnder τ [] ρ d h) j o
   unfolding dropS
   item-head {s} {o} e k z f =
-      let q : downOf (τ .rows) s 0 1 ≡ Stay = ap (λ v. downOf (τ .rows) v 0 1) e ∙ placed-down (τ .rows) by d x 0 1 ∙ ap (λ v. downOf (τ .rows) (stackAt (τ .rows) StkVar x) v 1) (sym z) ∙ w .stays in
-      let p : takeS 1 (dropS j (stackUnder τ [] by d h)) ≡ takeS 1 (typeS τ [] by d s) = same-under τ by d w ∙ ap (λ v. takeS 1 (dropS v (stackUnder τ [] by d x))) z ∙ ap (takeS 1) (stack-read τ [] by d 0 x refl e refl) in
+      let q : downOf (τ .rows) s 0 1 ≡ Stay = ap (λ v. downOf (τ .rows) v 0 1) e ∙ placed-down (τ .rows) ρ d x 0 1 ∙ ap (λ v. downOf (τ .rows) (stackAt (τ .rows) StkVar x) v 1) (sym z) ∙ w .stays in
+      let p : takeS 1 (dropS j (stackUnder τ [] ρ d h)) ≡ takeS 1 (typeS τ [] ρ d s) = same-under τ ρ d w ∙ ap (λ v. takeS 1 (dropS v (stackUnder τ [] ρ d x))) z ∙ ap (takeS 1) (stack-read τ [] ρ d 0 x refl e refl) in
       rw f (from-form s k q p)
 
   past-form : (s : Stk) → (i ≡ 0 → ⊥) → downOf (τ .rows) s i 1 ≡ Stay → dropS i (buildS (meanV τ) (meanS τ) s) ≡ nil
@@ -588,8 +593,8 @@ module _ (τ : RowTable) (by d h j x i : ℕ) (w : Narrowed τ h j 1 x i) where
   past-form (Push t y) z q = stays-push (τ .rows) t y i 1 z q
   past-form (Join a b) z q = stays-join (τ .rows) a b i q
 
-  pub item-none : (i ≡ 0 → ⊥) → ItemOf τ by d h (stackUnder τ [] by d h) j NoItem
+  pub item-none : (i ≡ 0 → ⊥) → ItemOf τ ρ d h (stackUnder τ [] ρ d h) j NoItem
   unfolding stackUnder walk
   item-none z =
       let q : dropS i (meanS τ x) ≡ nil = ap (dropS i) (stack-is τ x) ∙ past-form (stackAt (τ .rows) StkVar x) z (w .stays) in
-      from-nil (same-under τ by d w ∙ ap (takeS 1) (drop-lift by d i (meanS τ x) ∙ ap (walk (acting [] by) d) q) ∙ take-nil 1)
+      from-nil (same-under τ ρ d w ∙ ap (takeS 1) (drop-lift ρ d i (meanS τ x) ∙ ap (walk (acting [] ρ) d) q) ∙ take-nil 1)

@@ -7,11 +7,11 @@ use mathlib.Core.List.{List, [], _∷_, map}
 use lib.Dec.{eqb, leb, ltb}
 use lib.ListN.{getD}
 use Rattle.syntax.specs.Syntax.{Kind, value, stack}
-use Rattle.types.specs.Types.{Ty, int, junk, var, tuple, pointer, code, nil, push, svar, gap, join, items, variable, below, Act, walk, raise, Arg, arg, ofKind}
+use Rattle.types.specs.Types.{Ty, int, junk, var, tuple, pointer, hidden, code, nil, push, svar, gap, join, items, variable, below, Act, walk, raise, Arg, arg, ofKind}
 use Rattle.types.specs.Rows.{typeAt, typesOf}
 use Rattle.tables.specs.Tables.{RowTable, cell, span, lettersAt, rowsIn}
 use Rattle.types_rows.specs.declared.Val.{Val}
-use Rattle.types_rows.specs.declared.Val.the-variants.{Int, Junk, ValVar, ValFill, Tuple, Pointer, Code}
+use Rattle.types_rows.specs.declared.Val.the-variants.{Int, Junk, ValVar, ValFill, Tuple, Pointer, Code, Hidden}
 use Rattle.types_rows.specs.declared.Stk.{Stk}
 use Rattle.types_rows.specs.declared.Stk.the-variants.{Nil, StkVar, StkFill, Push, Join}
 use Rattle.types_rows.specs.declared.Slot.{Slot}
@@ -37,14 +37,15 @@ valueWith f h k a b =
     (cond (eqb k 2) (f a)
     (cond (eqb k 3) (Tuple a b)
     (cond (eqb k 4) (Pointer (lower h a))
-    (cond (eqb k 5) (Code (lower h a) b) Junk))))
+    (cond (eqb k 5) (Code (lower h a) b)
+    (cond (eqb k 6) (Hidden (lower h a)) Junk)))))
 
 -- the stack row
 unfoldable pub stackWith : (ℕ → Stk) → ℕ → ℕ → ℕ → ℕ → Stk
 stackWith f h k a b =
-    cond (ltb k 7) Nil
-    (cond (eqb k 7) (f a)
-    (cond (eqb k 8) (Push (lower h a) (lower h b)) (Join (lower h a) (lower h b))))
+    cond (ltb k 8) Nil
+    (cond (eqb k 8) (f a)
+    (cond (eqb k 9) (Push (lower h a) (lower h b)) (Join (lower h a) (lower h b))))
 
 -- the value row h, 0 for none
 abbrev pub valueAt : List ℕ → (ℕ → Val) → ℕ → Val
@@ -58,7 +59,7 @@ stackAt rows f (suc r) = stackWith f (suc r) (cell 4 rows r 0) (cell 4 rows r 1)
 
 -- row r is a stack row
 abbrev pub isStackAt : List ℕ → ℕ → Bool
-isStackAt rows r = leb 6 (cell 4 rows r 0)
+isStackAt rows r = leb 7 (cell 4 rows r 0)
 
 -- a register, or a component
 abbrev pub slotAt : Bool → ℕ → ℕ → Slot
@@ -86,6 +87,7 @@ buildV v s ps h (ValFill j) = junk
 buildV v s ps h (Tuple p n) = tuple (partsOf v ps false h p n)
 buildV v s ps h (Pointer x) = pointer (s x)
 buildV v s ps h (Code x p) = code (lettersAt ps p) (s x) (partsOf v ps true h p 8)
+buildV v s ps h (Hidden x) = hidden (v x)
 
 -- the type of a stack row, by the types of lower rows
 abbrev pub buildS : (ℕ → Ty value) → (ℕ → Ty stack) → Stk → Ty stack
@@ -120,36 +122,41 @@ abbrev pub mean : RowTable → (κ : Kind) → ℕ → Ty κ
 mean τ value h = meanV τ h
 mean τ stack h = meanS τ h
 
--- ---- a row in a context: the first variables past d are filled by A, raised by d; later ones come down by the number of A and go up by `by`
+-- ---- a row in a context: the first variables past d are filled by A, raised by d; for later ones, which come down by the number of A, ρ
+-- says which variable stands for each free one
 -- the variable j places past d
-unfoldable pub placed : (κ : Kind) → ℕ → ℕ → List Arg → ℕ → Ty κ
-placed κ by d [] j = variable κ (j + (by + d))
-placed κ by d (a ∷ A) zero = raise d (ofKind κ a)
-placed κ by d (a ∷ A) (suc j) = placed κ by d A j
+unfoldable pub placed : (κ : Kind) → (ℕ → ℕ) → ℕ → List Arg → ℕ → Ty κ
+placed κ ρ d [] j = variable κ (ρ j + d)
+placed κ ρ d (a ∷ A) zero = raise d (ofKind κ a)
+placed κ ρ d (a ∷ A) (suc j) = placed κ ρ d A j
 
 -- what a context does to a variable
-unfoldable pub acting : List Arg → ℕ → Act
-acting A by d κ k = below d k (variable κ k) (placed κ by d A)
+unfoldable pub acting : List Arg → (ℕ → ℕ) → Act
+acting A ρ d κ k = below d k (variable κ k) (placed κ ρ d A)
+
+-- each free variable raised by `by`
+abbrev pub lift : ℕ → ℕ → ℕ
+lift by j = j + by
 
 -- the type of value row h in its context
-unfoldable pub valueUnder : RowTable → List Arg → ℕ → ℕ → ℕ → Ty value
-valueUnder τ A by d h = walk (acting A by) d (meanV τ h)
+unfoldable pub valueUnder : RowTable → List Arg → (ℕ → ℕ) → ℕ → ℕ → Ty value
+valueUnder τ A ρ d h = walk (acting A ρ) d (meanV τ h)
 
 -- the type of stack row h in its context
-unfoldable pub stackUnder : RowTable → List Arg → ℕ → ℕ → ℕ → Ty stack
-stackUnder τ A by d h = walk (acting A by) d (meanS τ h)
+unfoldable pub stackUnder : RowTable → List Arg → (ℕ → ℕ) → ℕ → ℕ → Ty stack
+stackUnder τ A ρ d h = walk (acting A ρ) d (meanS τ h)
 
 -- the types of parts in their context
-unfoldable pub partsUnder : RowTable → List Arg → ℕ → ℕ → Bool → ℕ → ℕ → ℕ → Ty stack
-partsUnder τ A by d file h p n = walk (acting A by) d (partsOf (meanV τ) (τ .parts) file h p n)
+unfoldable pub partsUnder : RowTable → List Arg → (ℕ → ℕ) → ℕ → Bool → ℕ → ℕ → ℕ → Ty stack
+partsUnder τ A ρ d file h p n = walk (acting A ρ) d (partsOf (meanV τ) (τ .parts) file h p n)
 
 -- the code type of row h whose stack is x and whose registers start at p
 unfoldable pub codeOf : RowTable → ℕ → ℕ → ℕ → Ty value
 codeOf τ h x p = code (lettersAt (τ .parts) p) (meanS τ x) (partsOf (meanV τ) (τ .parts) true h p 8)
 
 -- the code type of row h in its context
-unfoldable pub codeUnder : RowTable → List Arg → ℕ → ℕ → ℕ → ℕ → ℕ → Ty value
-codeUnder τ A by d h x p = walk (acting A by) d (codeOf τ h x p)
+unfoldable pub codeUnder : RowTable → List Arg → (ℕ → ℕ) → ℕ → ℕ → ℕ → ℕ → Ty value
+codeUnder τ A ρ d h x p = walk (acting A ρ) d (codeOf τ h x p)
 
 -- row a as an argument, and the first m rows of args
 unfoldable pub argOf : RowTable → ℕ → Arg
@@ -160,12 +167,12 @@ unfoldable pub argsOf : RowTable → List ℕ → ℕ → List Arg
 argsOf τ args m = map (argOf τ) (span args 0 m)
 
 -- a variable placed, m arguments being there
-abbrev pub placeV : ℕ → ℕ → ℕ → ℕ → Val
-placeV m by d k = cond (ltb k d) (ValVar k) (cond (ltb (k - d) m) (ValFill (k - d)) (ValVar (((k - d) - m) + (by + d))))
+abbrev pub placeV : ℕ → (ℕ → ℕ) → ℕ → ℕ → Val
+placeV m ρ d k = cond (ltb k d) (ValVar k) (cond (ltb (k - d) m) (ValFill (k - d)) (ValVar (ρ ((k - d) - m) + d)))
 
 -- the same of a stack variable
-abbrev pub placeS : ℕ → ℕ → ℕ → ℕ → Stk
-placeS m by d k = cond (ltb k d) (StkVar k) (cond (ltb (k - d) m) (StkFill (k - d)) (StkVar (((k - d) - m) + (by + d))))
+abbrev pub placeS : ℕ → (ℕ → ℕ) → ℕ → ℕ → Stk
+placeS m ρ d k = cond (ltb k d) (StkVar k) (cond (ltb (k - d) m) (StkFill (k - d)) (StkVar (ρ ((k - d) - m) + d)))
 
 -- ---- what the code relies on: links fall, an argument is one of m, starts and counts are small
 -- of a value row
@@ -177,6 +184,7 @@ OkV m h (ValFill j) = j < m
 OkV m h (Tuple p n) = (p ≤ 65535) × (n ≤ 65535) × (0 < h)
 OkV m h (Pointer x) = x < h
 OkV m h (Code x p) = (x < h) × (p ≤ 65535)
+OkV m h (Hidden x) = x < h
 
 -- of a stack row
 abbrev pub OkS : ℕ → ℕ → Stk → Type 0
@@ -247,7 +255,7 @@ headOf (Push t x) = ValItem t
 headOf (Join x y) = NoItem
 
 -- item j of the stack a, whose value items are rows below h
-abbrev pub ItemOf : RowTable → ℕ → ℕ → ℕ → Ty stack → ℕ → Item → Type 0
-ItemOf τ by d h a j NoItem = dropS j a ≡ nil
-ItemOf τ by d h a j (ValItem t) = (t < h) × (dropS j a ≡ push (valueUnder τ [] by d t) (dropS (suc j) a))
-ItemOf τ by d h a j (VarItem k) = dropS j a ≡ svar k (dropS (suc j) a)
+abbrev pub ItemOf : RowTable → (ℕ → ℕ) → ℕ → ℕ → Ty stack → ℕ → Item → Type 0
+ItemOf τ ρ d h a j NoItem = dropS j a ≡ nil
+ItemOf τ ρ d h a j (ValItem t) = (t < h) × (dropS j a ≡ push (valueUnder τ [] ρ d t) (dropS (suc j) a))
+ItemOf τ ρ d h a j (VarItem k) = dropS j a ≡ svar k (dropS (suc j) a)

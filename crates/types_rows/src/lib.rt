@@ -1,19 +1,21 @@
 // Type rows read from the decoded tables (crate tables): a row's form, its parts and letters, and the items of a stack row by position.
 // Sizes are taken in modules size and measure, items counted in item_counts. A row is named by a link: one more than its number, or 0 for
 // no row. What a row names that is not a lower row is no row, and no row reads as junk, or as a stack of no items. So every read is total,
-// and links fall from a row to what it names. A row is read in a context: past d binders of its own the first m variables are filled by
-// arguments, and later ones come down by m and go up by `by`. What a row means is defined in specs/Read.antt; proofs/Bridge.antt: that is
-// the type that document 01 gives it.
+// and links fall from a row to what it names. A row is read in a setting: past d binders of its own the first m variables are filled by
+// arguments; later ones come down by m, are variables of an environment (module variables), and go up by `by`. What a row means is
+// defined in specs/Read.antt; proofs/Bridge.antt: that is the type that document 01 gives it.
 pub mod item_counts;
 pub mod measure;
 pub mod size;
+pub mod variables;
 
 ghost use mathlib.Core.Path.{_≡_};
 ghost use Prim.Native.Nat.{ℕ, _+_, _-_, _*_, _≤_, _<_};
 ghost use mathlib.Core.List.{[]};
 ghost use lib.ListN.{length, getD};
 ghost use Rattle.tables.specs.Tables.{cell};
-ghost use Rattle.types_rows.specs.Read.{tab, lower, valueWith, stackWith, valueAt, stackAt, placeV, placeS, OkV, OkS, slotAt, OkSlot, itemsAt, CountedTo, isStackAt, ItemOf, stackUnder, downOf, Narrowed, headOf};
+ghost use Rattle.types_rows.specs.Read.{tab, lower, valueWith, stackWith, valueAt, stackAt, placeV, placeS, OkV, OkS, slotAt, OkSlot, itemsAt, CountedTo, isStackAt, ItemOf, lift, stackUnder, downOf, Narrowed, headOf};
+ghost use Rattle.types_rows.specs.Environments.{varIn, shifted, SettingIn};
 ghost use Rattle.types_rows.specs.declared.Stk.the-variants.{StkVar};
 
 // A value row; a row of another sort is junk. A variable is placed: it stays one, or it is filled by argument j.
@@ -27,6 +29,7 @@ pub enum Val {
     Pointer(usize),
     // its stack, and where its registers start
     Code(usize, usize),
+    Hidden(usize),
 }
 
 // A stack row; a row of another sort has no items.
@@ -55,6 +58,21 @@ pub enum Item {
 pub struct Place {
     pub row: usize,
     pub at: usize,
+}
+
+// A row, and the environment that it was read in.
+pub struct Held {
+    pub row: usize,
+    pub env: usize,
+}
+
+// What a row is read in: past d binders of its own the first m variables are filled by arguments; a later one is a variable of the
+// environment env (or of a table of names, see module variables), raised by `by`.
+pub struct Setting {
+    pub m: usize,
+    pub by: usize,
+    pub d: usize,
+    pub env: usize,
 }
 
 // A place further down that has the items looked for, or none.
@@ -115,45 +133,45 @@ pub fn is_stack(rows: &[u16], r: usize) -> bool
     ensures { λ out. ⌜ out ≡ isStackAt (now (rows .entry)) r ⌝ }
 {
     let k = entry(rows, r, 0);
-    k >= 6
+    k >= 7
 }
 
-fn place_value(k: usize, m: usize, by: usize, d: usize) -> Val
-    requires { ⌜ (k ≤ 65535) × (by + d ≤ 1099511627776) ⌝ }
-    ensures { λ out. ⌜ (out ≡ placeV m by d k) × OkV m 0 out ⌝ }
+fn place_value(envs: &[u16], k: usize, c: Setting) -> Val
+    requires { ⌜ (k ≤ 65535) × SettingIn (now envs) c ⌝ }
+    ensures { λ out. ⌜ (out ≡ placeV (c .m) (shifted (now (envs .entry)) (c .env) (c .by)) (c .d) k) × OkV (c .m) 0 out ⌝ }
 {
-    if k < d {
+    if k < c.d {
         return Val::ValVar(k);
     }
-    if k - d < m {
-        return Val::ValFill(k - d);
+    if k - c.d < c.m {
+        return Val::ValFill(k - c.d);
     }
-    Val::ValVar(k - d - m + (by + d))
+    Val::ValVar(crate::variables::name(envs, c.env, k - c.d - c.m) + c.by + c.d)
 }
 
-fn place_stack(k: usize, m: usize, by: usize, d: usize) -> Stk
-    requires { ⌜ (k ≤ 65535) × (by + d ≤ 1099511627776) ⌝ }
-    ensures { λ out. ⌜ (out ≡ placeS m by d k) × OkS m 0 out ⌝ }
+fn place_stack(envs: &[u16], k: usize, c: Setting) -> Stk
+    requires { ⌜ (k ≤ 65535) × SettingIn (now envs) c ⌝ }
+    ensures { λ out. ⌜ (out ≡ placeS (c .m) (shifted (now (envs .entry)) (c .env) (c .by)) (c .d) k) × OkS (c .m) 0 out ⌝ }
 {
-    if k < d {
+    if k < c.d {
         return Stk::StkVar(k);
     }
-    if k - d < m {
-        return Stk::StkFill(k - d);
+    if k - c.d < c.m {
+        return Stk::StkFill(k - c.d);
     }
-    Stk::StkVar(k - d - m + (by + d))
+    Stk::StkVar(crate::variables::name(envs, c.env, k - c.d - c.m) + c.by + c.d)
 }
 
 // A row of kind k with the numbers a and b.
-fn value_form(h: usize, k: usize, a: usize, b: usize, m: usize, by: usize, d: usize) -> Val
-    requires { ⌜ (0 < h) × (a ≤ 65535) × (b ≤ 65535) × (by + d ≤ 1099511627776) ⌝ }
-    ensures { λ out. ⌜ (out ≡ valueWith (placeV m by d) h k a b) × OkV m h out ⌝ }
+fn value_form(envs: &[u16], c: Setting, h: usize, k: usize, a: usize, b: usize) -> Val
+    requires { ⌜ (0 < h) × (a ≤ 65535) × (b ≤ 65535) × SettingIn (now envs) c ⌝ }
+    ensures { λ out. ⌜ (out ≡ valueWith (placeV (c .m) (shifted (now (envs .entry)) (c .env) (c .by)) (c .d)) h k a b) × OkV (c .m) h out ⌝ }
 {
     if k == 0 {
         return Val::Int;
     }
     if k == 2 {
-        return place_value(a, m, by, d);
+        return place_value(envs, a, c);
     }
     if k == 3 {
         return Val::Tuple(a, b);
@@ -164,63 +182,82 @@ fn value_form(h: usize, k: usize, a: usize, b: usize, m: usize, by: usize, d: us
     if k == 5 {
         return Val::Code(link(h, a), b);
     }
+    if k == 6 {
+        return Val::Hidden(link(h, a));
+    }
     Val::Junk
 }
 
-fn stack_form(h: usize, k: usize, a: usize, b: usize, m: usize, by: usize, d: usize) -> Stk
-    requires { ⌜ (0 < h) × (a ≤ 65535) × (b ≤ 65535) × (by + d ≤ 1099511627776) ⌝ }
-    ensures { λ out. ⌜ (out ≡ stackWith (placeS m by d) h k a b) × OkS m h out ⌝ }
+fn stack_form(envs: &[u16], c: Setting, h: usize, k: usize, a: usize, b: usize) -> Stk
+    requires { ⌜ (0 < h) × (a ≤ 65535) × (b ≤ 65535) × SettingIn (now envs) c ⌝ }
+    ensures { λ out. ⌜ (out ≡ stackWith (placeS (c .m) (shifted (now (envs .entry)) (c .env) (c .by)) (c .d)) h k a b) × OkS (c .m) h out ⌝ }
 {
-    if k < 7 {
+    if k < 8 {
         return Stk::Nil;
     }
-    if k == 7 {
-        return place_stack(a, m, by, d);
-    }
     if k == 8 {
+        return place_stack(envs, a, c);
+    }
+    if k == 9 {
         return Stk::Push(link(h, a), link(h, b));
     }
     Stk::Join(link(h, a), link(h, b))
 }
 
-// Row h as a value.
-pub fn read_value(rows: &[u16], h: usize, m: usize, by: usize, d: usize) -> Val
-    requires { ⌜ (h ≤ 65536) × (by + d ≤ 1099511627776) ⌝ }
-    ensures { λ out. ⌜ (out ≡ valueAt (now (rows .entry)) (placeV m by d) h) × OkV m h out ⌝ }
+// Row h as a value, in its setting.
+pub fn value_in(rows: &[u16], envs: &[u16], c: Setting, h: usize) -> Val
+    requires { ⌜ (h ≤ 65536) × SettingIn (now envs) c ⌝ }
+    ensures { λ out. ⌜ (out ≡ valueAt (now (rows .entry)) (placeV (c .m) (shifted (now (envs .entry)) (c .env) (c .by)) (c .d)) h) × OkV (c .m) h out ⌝ }
 {
     if h == 0 {
         return Val::Junk;
     }
     let r = h - 1;
     value_form(
+        envs,
+        c,
         h,
         entry(rows, r, 0),
         entry(rows, r, 1),
         entry(rows, r, 2),
-        m,
-        by,
-        d,
     )
 }
 
-// Row h as a stack.
-pub fn read_stack(rows: &[u16], h: usize, m: usize, by: usize, d: usize) -> Stk
-    requires { ⌜ (h ≤ 65536) × (by + d ≤ 1099511627776) ⌝ }
-    ensures { λ out. ⌜ (out ≡ stackAt (now (rows .entry)) (placeS m by d) h) × OkS m h out ⌝ }
+// Row h as a stack, in its setting.
+pub fn stack_in(rows: &[u16], envs: &[u16], c: Setting, h: usize) -> Stk
+    requires { ⌜ (h ≤ 65536) × SettingIn (now envs) c ⌝ }
+    ensures { λ out. ⌜ (out ≡ stackAt (now (rows .entry)) (placeS (c .m) (shifted (now (envs .entry)) (c .env) (c .by)) (c .d)) h) × OkS (c .m) h out ⌝ }
 {
     if h == 0 {
         return Stk::Nil;
     }
     let r = h - 1;
     stack_form(
+        envs,
+        c,
         h,
         entry(rows, r, 0),
         entry(rows, r, 1),
         entry(rows, r, 2),
-        m,
-        by,
-        d,
     )
+}
+
+// Row h as a value, with no environments.
+pub fn read_value(rows: &[u16], h: usize, m: usize, by: usize, d: usize) -> Val
+    requires { ⌜ (h ≤ 65536) × (by + d ≤ 1099511627776) ⌝ }
+    ensures { λ out. ⌜ (out ≡ valueAt (now (rows .entry)) (placeV m (lift by) d) h) × OkV m h out ⌝ }
+{
+    let c = Setting { m, by, d, env: 0 };
+    value_in(rows, &rows[..0], c, h)
+}
+
+// Row h as a stack, with no environments.
+pub fn read_stack(rows: &[u16], h: usize, m: usize, by: usize, d: usize) -> Stk
+    requires { ⌜ (h ≤ 65536) × (by + d ≤ 1099511627776) ⌝ }
+    ensures { λ out. ⌜ (out ≡ stackAt (now (rows .entry)) (placeS m (lift by) d) h) × OkS m h out ⌝ }
+{
+    let c = Setting { m, by, d, env: 0 };
+    stack_in(rows, &rows[..0], c, h)
 }
 
 // Part p of row h: a register if `file`, else a component.
@@ -311,13 +348,33 @@ fn head(s: Stk) -> Item
 // Item j of stack row h from the top, its variables past d raised by `by`.
 pub fn item_at(rows: &[u16], parts: &[u16], by: usize, d: usize, h: usize, j: usize) -> Item
     requires { ⌜ (by + d ≤ 1099511627776) × (h ≤ 65536) × CountedTo (tab (now rows) (now parts)) h ⌝ }
-    ensures { λ out. ⌜ ItemOf (tab (now (rows .entry)) (now (parts .entry))) by d h (stackUnder (tab (now (rows .entry)) (now (parts .entry))) [] by d h) j out ⌝ }
+    ensures { λ out. ⌜ ItemOf (tab (now (rows .entry)) (now (parts .entry))) (lift by) d h (stackUnder (tab (now (rows .entry)) (now (parts .entry))) [] (lift by) d h) j out ⌝ }
 {
     let w = narrow(rows, parts, h, j, 1);
     let x = w.row;
     let i = w.at;
     if i == 0 {
         return head(read_stack(rows, x, 0, by, d));
+    }
+    Item::NoItem
+}
+
+// Item j of stack row h from the top, its variables as those of environment e count now.
+pub fn item_in(rows: &[u16], parts: &[u16], envs: &[u16], e: usize, h: usize, j: usize) -> Item
+    requires { ⌜ (e ≤ 65535) × (length (now envs) ≤ 65535) × (h ≤ 65536) × CountedTo (tab (now rows) (now parts)) h ⌝ }
+    ensures { λ out. ⌜ ItemOf (tab (now (rows .entry)) (now (parts .entry))) (varIn (now (envs .entry)) e) 0 h (stackUnder (tab (now (rows .entry)) (now (parts .entry))) [] (varIn (now (envs .entry)) e) 0 h) j out ⌝ }
+{
+    let w = narrow(rows, parts, h, j, 1);
+    let x = w.row;
+    let i = w.at;
+    if i == 0 {
+        let c = Setting {
+            m: 0,
+            by: 0,
+            d: 0,
+            env: e,
+        };
+        return head(stack_in(rows, envs, c, x));
     }
     Item::NoItem
 }

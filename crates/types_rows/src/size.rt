@@ -12,7 +12,8 @@ ghost use Rattle.types_rows.specs.declared.Val.the-variants.{ValVar};
 ghost use Rattle.types_rows.specs.declared.Stk.the-variants.{StkVar};
 ghost use Rattle.types_rows.specs.size.Size.{sizeAt, slotRow, partsSize, underV, underS, PartsAt, Measured};
 
-fn less(left: usize, s: usize) -> usize
+// left - s, or 0.
+pub(crate) fn less(left: usize, s: usize) -> usize
     ensures { λ out. ⌜ out ≡ left - s ⌝ }
 {
     if left < s {
@@ -59,6 +60,7 @@ fn spend_value(rows: &[u16], parts: &[u16], sizes: &[u16], h: usize, left: usize
             let e = spend_row(rows, parts, sizes, x, left);
             spend_parts(rows, parts, sizes, h, true, p, 8, e)
         }
+        Val::Hidden(x) => spend_row(rows, parts, sizes, x, left),
     }
 }
 

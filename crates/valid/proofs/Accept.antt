@@ -8,7 +8,7 @@ use mathlib.Core.Option.{Option, none, some}
 use mathlib.Core.List.{List, [], _∷_, _++_, append-eq-nil-iff}
 use lib.ListN.{length, getElem?, replicate}
 use lib.Dec.{ltb, ltb→lt, nltb→le}
-use Rattle.syntax.specs.Syntax.{Kind, Instr, aop, bop, mov, ld, st, malloc, getsp, setsp, salloc, sfree, sld, sst, slp, ssp, jmp, halt}
+use Rattle.syntax.specs.Syntax.{Kind, Instr, aop, bop, mov, ld, st, malloc, getsp, setsp, salloc, sfree, sld, sst, slp, ssp, jmp, halt, unpack}
 use Rattle.syntax.proofs.Least.{given-none}
 use Rattle.syntax.specs.Fault.{given, Clear, Refusal, earliest}
 use Rattle.text.specs.PassOne.{isLast, passOne}
@@ -16,7 +16,7 @@ use Rattle.types.specs.Types.{code, nil, items, aStack, WfType}
 use Rattle.types.specs.Equal.{same, sameLetters}
 use Rattle.types.proofs.Equal.{and-inv, none-true, not-false, to-so, same-sound, same-refl, sameLetters-sound, sameLetters-refl}
 use Rattle.valid.specs.Program.{Block, Program, programOf}
-use Rattle.valid.specs.Rules.{Context, Seq, ⊢seq, ⊢jmp, ⊢halt, atStart, Code, ints, entryRegs, Entry, Typed, declared}
+use Rattle.valid.specs.Rules.{Context, lettersAfter, Seq, ⊢seq, ⊢jmp, ⊢halt, atStart, Code, ints, entryRegs, Entry, Typed, declared}
 use Rattle.valid.specs.Tests.{isFormed, isEntry}
 use Rattle.valid.specs.PassThree.{Judged, holds, fails, faultsOf, judge, bodyFaults, blockFaults, blocksFaults, hasNone, passThree}
 use Rattle.valid.specs.Verdict.{accepted, refused, passTwoOf, passes, instrCount, check}
@@ -52,18 +52,22 @@ module _ (P : Program) (Δ : List Kind) where
   last-typed Γ Γ′ (ssp d i s t) l e = none-true l
   last-typed Γ Γ′ (jmp v) l e = ⊢jmp (jmp-sound P Δ Γ v e)
   last-typed Γ Γ′ (halt t) l e = let h = halt-sound P Δ Γ t e in ⊢halt (h .1) (h .0)
+  last-typed Γ Γ′ (unpack d v) l e = none-true l
 
-  -- lines without a fault are a typed sequence, and back
-  pub body-typed : (Γ : Context) {xs : List Instr} → Closed xs → Clear (bodyFaults P Δ (holds Γ) xs) → Seq P Δ Γ xs
+-- lines without a fault are a typed sequence, and back
+module _ (P : Program) where
+  pub body-typed : (Δ : List Kind) (Γ : Context) {xs : List Instr} → Closed xs → Clear (bodyFaults P Δ (holds Γ) xs) → Seq P Δ Γ xs
   unfolding bodyFaults
-  body-typed Γ (ends {x} l) c = let h = holding (judge P Δ Γ x) (c .0) in last-typed Γ (h .0) x l (h .1)
-  body-typed Γ (goes {x} l k) c = let h = holding (judge P Δ Γ x) (c .0) in ⊢seq (judge-sound P Δ Γ x (h .1) l) (body-typed (h .0) k (rw (h .1) at (c .1)))
+  body-typed Δ Γ (ends {x} l) c = let h = holding (judge P Δ Γ x) (c .0) in last-typed P Δ Γ (h .0) x l (h .1)
+  body-typed Δ Γ (goes {x} l k) c =
+      let h = holding (judge P Δ Γ x) (c .0) in
+      ⊢seq (judge-sound P Δ Γ x (h .1) l) (body-typed (lettersAfter x Δ) (h .0) k (rw (h .1) at (c .1)))
 
-  pub body-clear : {Γ : Context} {xs : List Instr} → Seq P Δ Γ xs → Clear (bodyFaults P Δ (holds Γ) xs)
+  pub body-clear : {Δ : List Kind} {Γ : Context} {xs : List Instr} → Seq P Δ Γ xs → Clear (bodyFaults P Δ (holds Γ) xs)
   unfolding bodyFaults faultsOf
-  body-clear (⊢seq r s) = rw (judge-complete P Δ r) (refl, body-clear s)
-  body-clear (⊢jmp t) = (rw (jmp-complete P Δ t), tt)
-  body-clear {Γ} (⊢halt {t = t} x w) = (rw (halt-complete P Δ Γ t w x), tt)
+  body-clear {Δ} (⊢seq r s) = rw (judge-complete P Δ r) (refl, body-clear s)
+  body-clear {Δ} (⊢jmp t) = (rw (jmp-complete P Δ t), tt)
+  body-clear {Δ} {Γ} (⊢halt {t = t} x w) = (rw (halt-complete P Δ Γ t w x), tt)
 
 -- ---- a block's own line
 items-ints : (n : ℕ) → items (ints n) ≡ n
@@ -133,7 +137,7 @@ module _ (P : Program) where
   blocks-clear first [] h f = tt
   blocks-clear first (B ∷ Bs) h f =
       let k = h 0 B refl in
-      (fit-line first B (k .formed) (f B refl) (k .bounded), clear-append (bodyFaults P (B .letters) (holds (atStart B)) (B .body)) (blocksFaults P false Bs) (body-clear P (B .letters) (k .typed)) (blocks-clear false Bs (λ l. h (suc l)) (λ C e. refl)))
+      (fit-line first B (k .formed) (f B refl) (k .bounded), clear-append (bodyFaults P (B .letters) (holds (atStart B)) (B .body)) (blocksFaults P false Bs) (body-clear P (k .typed)) (blocks-clear false Bs (λ l. h (suc l)) (λ C e. refl)))
 
   -- there is a block 0, and it is fit for entry
   first-fit : (Bs : List Block) → Clear (blocksFaults P true Bs) → hasNone Bs ≡ false → (B : Block) × (getElem? Bs 0 ≡ some B) × Entry B (declared (B .regs))

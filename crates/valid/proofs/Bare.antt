@@ -5,15 +5,15 @@ use mathlib.Core.Bool.{Bool, true, false, _&&_, not}
 use mathlib.Core.Option.{Option, none, some}
 use mathlib.Core.List.{List, [], _∷_, _++_}
 use lib.Dec.{ltb}
-use Rattle.syntax.specs.Syntax.{Kind, value, stack, Base, reg, lit, lab, Operand, plain, inst, Instr, aop, bop, mov, ld, st, malloc, getsp, setsp, salloc, sfree, sld, sst, slp, ssp, jmp, halt}
+use Rattle.syntax.specs.Syntax.{Kind, value, stack, Base, reg, lit, lab, Operand, plain, inst, pack, Instr, aop, bop, mov, ld, st, malloc, getsp, setsp, salloc, sfree, sld, sst, slp, ssp, jmp, halt, unpack}
 use Rattle.syntax.specs.Fault.{fault, given, firstItem}
 use Rattle.syntax.proofs.Least.{item-given, no-item-append}
-use Rattle.types.specs.Types.{Ty, code, items, aStack}
+use Rattle.types.specs.Types.{Ty, code, items, Arg, aStack}
 use Rattle.types.proofs.Equal.{none-true}
 use Rattle.valid.specs.Program.{Block, Program}
-use Rattle.valid.specs.Rules.{Context}
-use Rattle.valid.specs.Tests.{isFormed, isEntry}
-use Rattle.valid.specs.PassThree.{Judged, holds, fails, faultsOf, _▹_, _&_, orFault, need, formed, known, integerAt, tupleAt, pointerAt, assign, base, applied, operand, operands, newTail, judge, blockFaults}
+use Rattle.valid.specs.Rules.{Context, raised}
+use Rattle.valid.specs.Tests.{asHidden, asValue, isFormed, isEntry}
+use Rattle.valid.specs.PassThree.{Judged, holds, fails, faultsOf, _▹_, _&_, orFault, need, formed, known, integerAt, tupleAt, pointerAt, assign, base, applied, packed, operand, operands, newTail, judge, blockFaults}
 
 -- no fault of the premise names an item
 abbrev pub Bare : {A : Type 0} → Judged A → Type 0
@@ -77,6 +77,7 @@ Aims (slp d s i) = false
 Aims (ssp d i s t) = false
 Aims (jmp v) = true
 Aims (halt t) = false
+Aims (unpack d v) = false
 
 module _ (P : Program) (Δ : List Kind) where
   no-known : (g : Ty stack) (r : ℕ) → Nameless (known P Δ g r)
@@ -110,11 +111,16 @@ module _ (P : Program) (Δ : List Kind) where
   no-base g (lit n) = no-held
   no-base g (lab l) = no-or 9 _
 
+  -- what a package's premises read
+  pub no-parts : (g : Ty stack) (b : Base) (a : Arg) (h : Ty value) → Nameless (base P Δ g b & orFault 14 (asValue a) & orFault 9 (asHidden h))
+  no-parts g b a h = no-base g b ⊗ no-or 14 _ ⊗ no-or 9 _
+
   no-operand : (g : Ty stack) (v : Operand) → Nameless (operand P Δ (fault 10) g v)
-  unfolding operand applied
+  unfolding operand applied packed
   no-operand g (plain b) = no-base g b
   no-operand g (inst b ts t) =
       no-need 7 _ ⊗ no-formed t ⊗ (no-base g b ▸ λ u. no-or 9 _ ▸ λ c. no-or 14 _ ▸ λ q. no-need 10 _) ▸ λ z. no-held
+  no-operand g (pack a b h) = no-need 7 _ ⊗ no-formed h ⊗ (no-parts g b _ _ ▸ λ z. no-need 10 _) ▸ λ z. no-held
 
   no-operands : (g : Ty stack) (vs : List Operand) → Nameless (operands P Δ g vs)
   unfolding operands
@@ -145,6 +151,7 @@ module _ (P : Program) (Δ : List Kind) where
       no-formed t ⊗ no-known (Γ .regs) s ⊗ (no-pointer (Γ .regs) d ▸ λ b. no-or 12 _ ⊗ no-tail Γ b i s t) ▸ λ z. no-assign _ d _
   no-judge Γ (jmp v) a = none-true (sym a)
   no-judge Γ (halt t) a = no-formed t ⊗ no-known (Γ .regs) 0 ▸ λ z. no-need 10 _ ▸ λ y. no-held
+  no-judge Γ (unpack d v) a = no-need 7 _ ⊗ (no-operand (Γ .regs) v ▸ λ t. no-or 9 _) ▸ λ z. no-assign (raised Γ) d _
 
   -- the same, as an equation
   pub bare-judge : (Γ : Context) (x : Instr) → Aims x ≡ false → Bare (judge P Δ Γ x)

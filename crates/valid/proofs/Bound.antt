@@ -5,9 +5,9 @@ use mathlib.Core.Path.{_≡_, refl, ap, _∙_}
 use mathlib.Core.List.{List}
 use Rattle.syntax.specs.Syntax.{Kind, value, stack, Instr}
 use Rattle.types.specs.Types.{Ty, items}
-use Rattle.types.proofs.Filling.{items-join}
+use Rattle.types.proofs.Filling.{items-join, raise-items}
 use Rattle.valid.specs.Program.{Block, Program}
-use Rattle.valid.specs.Rules.{Put, phere, pnew, pthere, pskip, Pops, pop0, pop1, Context, Rule, ⊢aop, ⊢bop, ⊢mov, ⊢ld, ⊢st, ⊢malloc, ⊢get-sp, ⊢set-sp, ⊢salloc, ⊢sfree, ⊢sld1, ⊢sld2, ⊢sst1, ⊢sst2, start, next, Code}
+use Rattle.valid.specs.Rules.{Put, phere, pnew, pthere, pskip, Pops, pop0, pop1, Context, Rule, ⊢aop, ⊢bop, ⊢mov, ⊢ld, ⊢st, ⊢malloc, ⊢get-sp, ⊢set-sp, ⊢salloc, ⊢sfree, ⊢sld1, ⊢sld2, ⊢sst1, ⊢sst2, ⊢unpack, start, next, Code}
 use Rattle.valid.specs.Claims.{SpWithin}
 
 -- an item for another leaves as many
@@ -44,8 +44,9 @@ rule-bounded P Δ (⊢sst2 a b c u w x y e z p f k q) h =
     let n = put-items p in
     let o = items-join a c in
     omega arith
+rule-bounded P Δ {Γ} (⊢unpack l x p) h = let k = raise-items 1 (Γ .sp) in omega arith
 
 -- the bound holds at a block's start and before each of its instructions
 pub sp-within : (P : Program) (B : Block) → Code P B → SpWithin P B
-sp-within P B c i Γ start = c .bounded
-sp-within P B c (suc i) Γ (next {Γ = Γ₀} a e r) = rule-bounded P (B .letters) r (sp-within P B c i Γ₀ a)
+sp-within P B c i Δ Γ start = c .bounded
+sp-within P B c (suc i) Δ Γ (next {Δ = Δ₀} {Γ = Γ₀} a e r) = rule-bounded P Δ₀ r (sp-within P B c i Δ₀ Γ₀ a)

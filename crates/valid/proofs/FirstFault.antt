@@ -15,7 +15,7 @@ use Rattle.syntax.proofs.Least.{leastOf}
 use Rattle.text.specs.PassOne.{isLast, passOne}
 use Rattle.types.proofs.Equal.{not-false}
 use Rattle.valid.specs.Program.{Block, Program, programOf}
-use Rattle.valid.specs.Rules.{Context, Seq, ⊢seq, ⊢jmp, ⊢halt, atStart, Before, start, next, Code, Entry}
+use Rattle.valid.specs.Rules.{Context, lettersAfter, Seq, ⊢seq, ⊢jmp, ⊢halt, atStart, Before, start, next, Code, Entry}
 use Rattle.valid.specs.PassThree.{Judged, holds, fails, faultsOf, judge, bodyFaults, blockFaults, blocksFaults, hasNone, passThree}
 use Rattle.valid.specs.Tests.{isEntry}
 use Rattle.valid.specs.Verdict.{refused, passTwoOf, passes, check}
@@ -123,56 +123,55 @@ module _ (P : Program) (Δ : List Kind) where
   clear-line-of (by-target t) = holds-none (jmp-complete P Δ t)
   clear-line-of {Γ} (by-result {t} a w) = holds-none (halt-complete P Δ Γ t w a)
 
-  body-length : (j : Judged Context) (xs : List Instr) → length (bodyFaults P Δ j xs) ≡ length xs
-  unfolding bodyFaults
-  body-length j [] = refl
-  body-length (holds Γ) (x ∷ xs) = ap suc (body-length (judge P Δ Γ x) xs)
-  body-length (fails f fs) (x ∷ xs) = ap suc (body-length (fails f fs) xs)
+body-length : (P : Program) (Δ : List Kind) (j : Judged Context) (xs : List Instr) → length (bodyFaults P Δ j xs) ≡ length xs
+unfolding bodyFaults
+body-length P Δ j [] = refl
+body-length P Δ (holds Γ) (x ∷ xs) = ap suc (body-length P (lettersAfter x Δ) (judge P Δ Γ x) xs)
+body-length P Δ (fails f fs) (x ∷ xs) = ap suc (body-length P Δ (fails f fs) xs)
 
 -- instruction i of the block has the first faults, fs
 record Faulty (P : Program) (B : Block) (i : ℕ) (fs : List Fault) : Type 0 where
   instruction : Instr
+  letters : List Kind
   types : Context
   stands : getElem? (B .body) i ≡ some instruction
-  known : Before P B i types
-  faults : faultsOf (judge P (B .letters) types instruction) ≡ fs
+  known : Before P B i letters types
+  faults : faultsOf (judge P letters types instruction) ≡ fs
   fails : ¬ (fs ≡ [])
 
 module _ (P : Program) (B : Block) where
-  abbrev Δ : List Kind
-  Δ = B .letters
-
   same-place : {i j : ℕ} {fs : List Fault} → i ≡ j → Faulty P B i fs → Faulty P B j fs
   same-place e u = rw (← e) u
 
   -- instruction j, where the types before it are known
-  here-faulty : (j : ℕ) {Γ : Context} {x : Instr} {xs : List Instr} → drop j (B .body) ≡ x ∷ xs → Before P B j Γ
+  here-faulty : (j : ℕ) {Δ : List Kind} {Γ : Context} {x : Instr} {xs : List Instr} → drop j (B .body) ≡ x ∷ xs → Before P B j Δ Γ
       → ¬ (faultsOf (judge P Δ Γ x) ≡ []) → Faulty P B j (faultsOf (judge P Δ Γ x))
-  here-faulty j e b h = record { instruction = _; types = _; stands = cons-drop (B .body) j e .0; known = b; faults = refl; fails = h }
+  here-faulty j e b h = record { instruction = _; letters = _; types = _; stands = cons-drop (B .body) j e .0; known = b; faults = refl; fails = h }
 
   -- the first line with a fault from instruction j on
-  body-faulty : (j : ℕ) {Γ : Context} {xs : List Instr} {i : ℕ} {fs : List Fault} → drop j (B .body) ≡ xs → Before P B j Γ
+  body-faulty : (j : ℕ) {Δ : List Kind} {Γ : Context} {xs : List Instr} {i : ℕ} {fs : List Fault} → drop j (B .body) ≡ xs → Before P B j Δ Γ
       → Closed xs → First (bodyFaults P Δ (holds Γ) xs) i fs → Faulty P B (j + i) fs
   unfolding bodyFaults
   body-faulty j e b (ends l) (here h) = same-place (omega arith) (here-faulty j e b h)
   body-faulty j e b (ends l) (later c h) = clear-first tt h
   body-faulty j e b (goes l k) (here h) = same-place (omega arith) (here-faulty j e b h)
-  body-faulty j {Γ} e b (goes {x} l k) (later c h) =
+  body-faulty j {Δ} {Γ} e b (goes {x} l k) (later c h) =
       let m = holding (judge P Δ Γ x) c in
       let d = cons-drop (B .body) j e in
       same-place (omega arith) (body-faulty (suc j) (d .1) (next b (d .0) (judge-sound P Δ Γ x (m .1) l)) k (rw (m .1) at h))
 
   -- and back: behind typed lines it is the first of the block's
-  from-start : {j : ℕ} {Γ : Context} {m : ℕ} {fs : List Fault} → Before P B j Γ → First (bodyFaults P Δ (holds Γ) (drop j (B .body))) m fs
-      → First (bodyFaults P Δ (holds (atStart B)) (B .body)) (j + m) fs
+  from-start : {j : ℕ} {Δ : List Kind} {Γ : Context} {m : ℕ} {fs : List Fault} → Before P B j Δ Γ
+      → First (bodyFaults P Δ (holds Γ) (drop j (B .body))) m fs
+      → First (bodyFaults P (B .letters) (holds (atStart B)) (B .body)) (j + m) fs
   unfolding bodyFaults faultsOf
   from-start start h = moved (omega arith) h
-  from-start {m} (next {i} b e r) h = moved (omega arith) (from-start {m = suc m} b (rw (drop-cons (B .body) i e, judge-complete P Δ r) (later refl h)))
+  from-start {m} (next {i} {Δ} b e r) h = moved (omega arith) (from-start {m = suc m} b (rw (drop-cons (B .body) i e, judge-complete P Δ r) (later refl h)))
 
-  faulty-body : {i : ℕ} {fs : List Fault} → Faulty P B i fs → First (bodyFaults P Δ (holds (atStart B)) (B .body)) i fs
+  faulty-body : {i : ℕ} {fs : List Fault} → Faulty P B i fs → First (bodyFaults P (B .letters) (holds (atStart B)) (B .body)) i fs
   unfolding bodyFaults
   faulty-body {i} u =
-      let h : ¬ (faultsOf (judge P Δ (u .types) (u .instruction)) ≡ []) = λ e. u .fails (sym (u .faults) ∙ e) in
+      let h : ¬ (faultsOf (judge P (u .letters) (u .types) (u .instruction)) ≡ []) = λ e. u .fails (sym (u .faults) ∙ e) in
       moved (omega arith) (from-start {m = 0} (u .known) (rw (drop-cons (B .body) i (u .stands), ← (u .faults)) (here h)))
 
 -- ---- a block's own line
@@ -201,20 +200,20 @@ pub data Found (P : Program) : ℕ → List Fault → Type 0 where
   none-found : P .blocks ≡ [] → Found P (suc (length (P .types))) (given (hasNone (P .blocks)) 8)
   block-found : (l : ℕ) (B : Block) → getElem? (P .blocks) l ≡ some B → TypedBefore P l → ¬ (blockFaults (isFirst l) B ≡ [])
       → Found P (lineOf P l) (blockFaults (isFirst l) B)
-  instr-found : (l i : ℕ) (B : Block) (x : Instr) (Γ : Context) → getElem? (P .blocks) l ≡ some B → getElem? (B .body) i ≡ some x
-      → TypedBefore P l → Opens l B → Before P B i Γ
-      → ¬ (faultsOf (judge P (B .letters) Γ x) ≡ []) → Found P (lineOf P l + suc i) (faultsOf (judge P (B .letters) Γ x))
+  instr-found : (l i : ℕ) (B : Block) (x : Instr) (Δ : List Kind) (Γ : Context) → getElem? (P .blocks) l ≡ some B → getElem? (B .body) i ≡ some x
+      → TypedBefore P l → Opens l B → Before P B i Δ Γ
+      → ¬ (faultsOf (judge P Δ Γ x) ≡ []) → Found P (lineOf P l + suc i) (faultsOf (judge P Δ Γ x))
 
 -- it is the first line that the rules do not type
 found-fault : {P : Program} {n : ℕ} {fs : List Fault} → Found P n fs → FirstFault P n
 found-fault (none-found e) = no-block e
 found-fault (block-found l B e t h) = at-block l B e t (λ o. h (opens-clear l B o))
-found-fault {P} (instr-found l i B x Γ e g t o b h) = at-instr l i B x Γ e g t o b (λ f. h (clear-line-of P (B .letters) f))
+found-fault {P} (instr-found l i B x Δ Γ e g t o b h) = at-instr l i B x Δ Γ e g t o b (λ f. h (clear-line-of P Δ f))
 
 fault-found : {P : Program} {n : ℕ} → FirstFault P n → (fs : List Fault) × Found P n fs
 fault-found (no-block e) = (_, none-found e)
 fault-found (at-block l B e t o) = (_, block-found l B e t (λ c. o (opens l B c)))
-fault-found {P} (at-instr l i B x Γ e g t o b f) = (_, instr-found l i B x Γ e g t o b (λ c. f (follows P (B .letters) Γ x c)))
+fault-found {P} (at-instr l i B x Δ Γ e g t o b f) = (_, instr-found l i B x Δ Γ e g t o b (λ c. f (follows P Δ Γ x c)))
 
 -- ---- all blocks
 -- one block more
@@ -259,8 +258,8 @@ module _ (P : Program) where
 
       at : {i : ℕ} → Faulty P B i fs → Found P (lineOf P l + suc i) fs
       at {i} u =
-          let h : ¬ (faultsOf (judge P (B .letters) (u .types) (u .instruction)) ≡ []) = λ z. u .fails (sym (u .faults) ∙ z) in
-          rw (← (u .faults)) (instr-found l i B (u .instruction) (u .types) (d .0) (u .stands) t (opens l B c) (u .known) h)
+          let h : ¬ (faultsOf (judge P (u .letters) (u .types) (u .instruction)) ≡ []) = λ z. u .fails (sym (u .faults) ∙ z) in
+          rw (← (u .faults)) (instr-found l i B (u .instruction) (u .letters) (u .types) (d .0) (u .stands) t (opens l B c) (u .known) h)
 
       go : {m : ℕ} → Split body (blocksFaults P false Bs) m fs
           → ((n : ℕ) → drop (suc l) (P .blocks) ≡ Bs → TypedBefore P (suc l) → First (blocksFaults P false Bs) n fs → Found P (lineOf P (suc l) + n) fs)
@@ -289,7 +288,7 @@ module _ (P : Program) where
           let b = bodyFaults P (B .letters) (holds (atStart B)) (B .body) in
           let x = lines-more (P .blocks) l e in
           let y = body-length P (B .letters) (holds (atStart B)) (B .body) in
-          moved (omega arith) (ih (suc (length b + m)) (rw (drop-cons (P .blocks) l e) (later (opens-clear l B (w .0)) (behind b (body-clear P (B .letters) (w .1 .typed)) h))))
+          moved (omega arith) (ih (suc (length b + m)) (rw (drop-cons (P .blocks) l e) (later (opens-clear l B (w .0)) (behind b (body-clear P (w .1 .typed)) h))))
 
   -- ---- the pass
   abbrev rows : Pass
@@ -334,9 +333,9 @@ module _ (P : Program) where
       let y = length-append rows [] in
       rw e (moved (omega arith) (behind (rows ++ []) (clear-append rows [] (clear-replicate (suc (length (P .types)))) tt) (here (λ z. cons-nil z))))
   found-pass (block-found l B e t h) = moved (omega arith) (in-blocks (from-first l 0 t (rw (drop-cons (P .blocks) l e) (here h))))
-  found-pass (instr-found l i B x Γ e g t o b h) =
-      let fs = faultsOf (judge P (B .letters) Γ x) in
-      let u : Faulty P B i fs = record { instruction = x; types = Γ; stands = g; known = b; faults = refl; fails = h } in
+  found-pass (instr-found l i B x Δ Γ e g t o b h) =
+      let fs = faultsOf (judge P Δ Γ x) in
+      let u : Faulty P B i fs = record { instruction = x; letters = Δ; types = Γ; stands = g; known = b; faults = refl; fails = h } in
       let f = later (opens-clear l B o) (before _ (faulty-body P B u)) in
       moved (omega arith) (in-blocks (from-first l (suc i) t (rw (drop-cons (P .blocks) l e) f)))
 

@@ -11,9 +11,9 @@ use lib.Dec.{eqb, leb, lit<}
 use lib.ListN.{length}
 use borrow.Author.Tests.{leb-true, eqb-true}
 use Rattle.syntax.specs.Partial.{chain, guarded}
-use Rattle.syntax.specs.Syntax.{Kind, Row, rowI, rowN, rowE, rowV, rowX, rowP, rowK, rowA, rowC, Base, Operand, plain, inst, Arith, add, sub, mul, Branch, beq, bneq, bgt, blt, bgte, blte, Instr, malloc, Entry, row, block, instr}
+use Rattle.syntax.specs.Syntax.{Kind, Row, rowI, rowN, rowE, rowV, rowX, rowP, rowH, rowK, rowA, rowC, Base, Operand, plain, inst, pack, Arith, add, sub, mul, Branch, beq, bneq, bgt, blt, bgte, blte, Instr, malloc, Entry, row, block, instr}
 use Rattle.text.specs.Bytes.{bytes, sameBytes, split, Line, ended, unended, fieldsOf, linesOf, isDecimal, spelled, number}
-use Rattle.text.specs.Grammar.{Field, Form, _>>=_, end, each, rest, rowNumber, index, register, eachLetter, letters, known, carrier, orLiteral, carried, fromParts, operand, Named, arith as arithForm, branch, forms, formNamed, entryOf, parse}
+use Rattle.text.specs.Grammar.{Field, Form, _>>=_, end, each, rest, rowNumber, index, register, eachLetter, letters, known, carrier, orLiteral, carried, packed, before, fromParts, operand, Named, arith as arithForm, branch, forms, formNamed, entryOf, parse}
 use Rattle.text.specs.PassOne.{said, entriesOf, rowsOf, Listing, grouped, listingsOf}
 use Rattle.types.specs.Rows.{names}
 use Rattle.valid.specs.Bounds.{SmallRow, Short, AllShort, SmallInstr, SmallEntry}
@@ -74,6 +74,28 @@ carried-short (b ∷ ts) t = go (carrier b) (each rowNumber ts) (each-length row
     go (some c) (some rs) h none = tt
     go (some c) (some rs) h (some r) = most c rs r h (leb 1 (length ts)) (leb (length ts) 8) refl
 
+packed-short : (ps : List Field) (t : Field) → Given Short (packed ps t)
+unfolding Given packed
+packed-short [] t = tt
+packed-short (a ∷ []) t = tt
+packed-short (a ∷ b ∷ []) t = go (rowNumber a) (orLiteral (carrier b) b) (rowNumber t)
+  where
+    go : (u : Option ℕ) (c : Option Base) (h : Option ℕ) → Given Short (chain u (λ u. chain c (λ c. chain h (λ h. some (pack u c h)))))
+    go none c h = tt
+    go (some u) none h = tt
+    go (some u) (some c) none = tt
+    go (some u) (some c) (some h) = tt
+packed-short (a ∷ b ∷ c ∷ fs) t = tt
+
+before-short : (l t : Field) → Given Short (before l t)
+unfolding Given before
+before-short [] t = tt
+before-short (b ∷ l) t = go (eqb b 33)
+  where
+    go : (x : Bool) → Given Short (cond x (packed (split 58 l) t) (carried (split 58 (b ∷ l)) t))
+    go true = packed-short (split 58 l) t
+    go false = carried-short (split 58 (b ∷ l)) t
+
 operand-short : (f : Field) → Given Short (operand f)
 unfolding Given operand
 operand-short f = go (split 61 f)
@@ -85,7 +107,7 @@ operand-short f = go (split 61 f)
     go : (ps : List Field) → Given Short (fromParts ps)
     go [] = tt
     go (b ∷ []) = base (orLiteral (carrier b) b)
-    go (l ∷ t ∷ []) = carried-short (split 58 l) t
+    go (l ∷ t ∷ []) = before-short l t
     go (l ∷ t ∷ u ∷ ps) = tt
 
 operands-short : (fs : List Field) → Given AllShort (each operand fs)
@@ -196,6 +218,7 @@ forms-small =
     also others _ _ (whatever rowNumber) _ (λ ts h e. leb-true (length ts) 16 e)
     also any _ _ (λ s. ends (row (rowP s)) tt)
     also code-small
+    also any _ _ (λ t. ends (row (rowH t)) tt)
     also ends (row rowE) tt
     also field _ index-small _ (λ k h. ends (row (rowX k)) (omega arith))
     also any _ _ (λ t. any _ _ (λ s. ends (row (rowK t s)) tt))
@@ -224,6 +247,7 @@ forms-small =
     also any _ _ (λ d. any _ _ (λ i. any _ _ (λ s. any _ _ (λ t. none-named _ refl))))
     also field _ operand-short _ (λ v h. one-named _ refl h)
     also any _ _ (λ t. none-named _ refl)
+    also any _ _ (λ d. field _ operand-short _ (λ v h. one-named _ refl h))
     also no-more
 
 -- ---- lines

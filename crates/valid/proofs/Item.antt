@@ -8,27 +8,27 @@ use mathlib.Core.Bool.{Bool, true, false, cond}
 use mathlib.Core.Option.{Option, none, some}
 use mathlib.Core.List.{List, [], _∷_, _++_, map}
 use lib.ListN.{getElem?}
-use Rattle.syntax.specs.Syntax.{Kind, value, stack, Base, Operand, plain, inst, Instr, aop, bop, mov, ld, st, malloc, getsp, setsp, salloc, sfree, sld, sst, slp, ssp, jmp, halt}
+use Rattle.syntax.specs.Syntax.{Kind, value, stack, Base, Operand, plain, inst, pack, Instr, aop, bop, mov, ld, st, malloc, getsp, setsp, salloc, sfree, sld, sst, slp, ssp, jmp, halt, unpack}
 use Rattle.syntax.specs.Fault.{Fault, fault, unfit, numberOf, Pass, Clear, Refusal, earlier, firstItem, lowest, refuse, lowestLine, orElse, earliest}
 use Rattle.syntax.proofs.Least.{leastOf, item-given, refuse-item}
 use Rattle.text.specs.PassOne.{passOne}
-use Rattle.types.specs.Types.{Ty, code, items, kindOf, filled, aStack, WfType, Args}
+use Rattle.types.specs.Types.{Ty, hidden, code, items, arg, kindOf, fill, filled, aStack, WfType, Args}
 use Rattle.types.specs.Equal.{same, sameLetters}
-use Rattle.types.proofs.Equal.{none-true, sameLetters-sound}
-use Rattle.valid.specs.Program.{Block, Program, typeOf, argsOf, asCode, programOf}
+use Rattle.types.proofs.Equal.{none-true, same-false, same-refl, sameLetters-sound}
+use Rattle.valid.specs.Program.{Block, Program, typeOf, argOf, argsOf, asCode, programOf}
 use Rattle.valid.specs.Rules.{Context, OfBase, OfOperand, Before}
-use Rattle.valid.specs.Tests.{itemAt, asInt, formedArgs, lettersLeft, isFilled, noneLeft}
-use Rattle.valid.specs.PassThree.{Judged, holds, fails, faultsOf, _▹_, _&_, orFault, need, noneOf, formed, known, integerAt, applied, operand, unfits, targetOf, judge, hasNone}
+use Rattle.valid.specs.Tests.{itemAt, asInt, asHidden, asValue, formedArg, formedArgs, lettersLeft, isFilled, noneLeft}
+use Rattle.valid.specs.PassThree.{Judged, holds, fails, faultsOf, _▹_, _&_, orFault, need, noneOf, formed, known, integerAt, applied, packed, operand, unfits, targetOf, judge, hasNone}
 use Rattle.valid.specs.Verdict.{refused, passTwoOf, passes, check}
 use Rattle.valid.specs.Claims.{Decides, one-decides, two-decides, three-decides}
-use Rattle.valid.specs.FirstItem.{Unfits, sp-unfit, register-unfit, Names, resulting-row, first-item, GoesTo, by-jump, by-branch, NamedOn, IsItem}
-use Rattle.valid.proofs.Reading.{none-some, some-inj, at-lt, at-complete, code-sound, formed-complete, args-sound, args-complete, left-sound, left-complete}
-use Rattle.valid.proofs.Judge.{Gives, gives, faulty, read, needed, formed-given, int-given, base-given, operand-given, base-complete, operand-complete}
+use Rattle.valid.specs.FirstItem.{Unfits, sp-unfit, register-unfit, Names, resulting-row, wrong-filling, first-item, GoesTo, by-jump, by-branch, NamedOn, IsItem}
+use Rattle.valid.proofs.Reading.{none-some, some-inj, at-lt, at-complete, code-sound, formed-sound, formed-complete, args-sound, args-complete, left-sound, left-complete}
+use Rattle.valid.proofs.Judge.{Gives, gives, faulty, read, needed, formed-given, int-given, base-given, parts-given, operand-given, base-complete, operand-complete}
 use Rattle.valid.proofs.Tests.{filled-exactly}
 use Rattle.valid.proofs.Verdicts.{refused-earliest, refused-decides}
 use Rattle.valid.proofs.FirstFault.{Found, none-found, block-found, instr-found, refused-found}
 use Rattle.valid.proofs.Shape.{Eight, ShapedProgram, program-shaped, ShapedContext, operand-shaped, before-shaped}
-use Rattle.valid.proofs.Bare.{Nameless, no-held, no-or, no-need, no-base, no-judge, item-block}
+use Rattle.valid.proofs.Bare.{Nameless, no-held, no-or, no-need, no-base, no-parts, no-judge, item-block}
 use Rattle.valid.proofs.Unfit.{some-fault, itemFaults, unfit-sound, unfit-complete}
 
 -- ---- from the faults to the rules
@@ -138,7 +138,7 @@ module _ (P : Program) (Δ : List Kind) where
   formed-low t = low-need 7 _ (omega arith)
 
   operand-blames : (Γ : Context) (v : Operand) → Blames (Names P Δ Γ v) (operand P Δ (unfit 99) (Γ .regs) v)
-  unfolding operand applied
+  unfolding operand applied packed formedArg
   operand-blames Γ (plain b) = silent (no-base P Δ (Γ .regs) b)
   operand-blames Γ (inst b ts t) =
       let θ = argsOf P ts in
@@ -152,6 +152,17 @@ module _ (P : Program) (Δ : List Kind) where
       by-item 99 (isFilled (typeOf P t) full) λ f.
       let no : ¬ (full ≡ some (typeOf P t)) = λ k. none-true (sym f ∙ filled-exactly (typeOf P t) full .1 k) in
       resulting-row q (map kindOf θ) (c .sp) (c .regs) a (rw (e, j) at h) w no)
+  operand-blames Γ (pack a b h) =
+      let u = argOf P a in
+      last (typeOf P h)
+      (beside (low-need 7 (formedArg Δ u) (omega arith)) (needed (fault 7) (formedArg Δ u) (λ e. e)) λ z f.
+      beside (formed-low h) (formed-given P Δ h) λ y w.
+      then (silent (no-parts P Δ (Γ .regs) b u (typeOf P h))) (parts-given P Δ (Γ .regs) b u (typeOf P h)) λ x k.
+      let full = fill 0 (arg value (x .1 .0) ∷ []) (x .1 .1) in
+      by-item 99 (same (x .0) full) λ e.
+      let no : ¬ (x .0 ≡ full) = λ q. none-true (sym e ∙ rw q (same-refl full)) in
+      let wf = formed-sound Δ aStack (x .1 .0) (rw (k .is-value) at f) in
+      wrong-filling (x .1 .0) (x .1 .1) (x .0) (k .is-value) wf (k .is-hidden) w (k .of-base) no)
 
   module _ (shaped : ShapedProgram P) (Γ : Context) (known : ShapedContext Γ) where
     -- a target has eight registers
@@ -195,6 +206,7 @@ module _ (P : Program) (Δ : List Kind) where
     judge-blames (ssp d i s t) = silent (no-judge P Δ Γ (ssp d i s t) refl)
     judge-blames (jmp v) = last Γ (record { says = λ i l e. (v, by-jump, target-blames v .says i l e) })
     judge-blames (halt t) = silent (no-judge P Δ Γ (halt t) refl)
+    judge-blames (unpack d v) = silent (no-judge P Δ Γ (unpack d v) refl)
 
     -- ---- from the rules to the faults
     -- the resulting row does not equal the filled type
@@ -206,6 +218,16 @@ module _ (P : Program) (Δ : List Kind) where
         let wf = formed-complete Δ aStack (typeOf P t) w in
         let no = filled-false (typeOf P t) (filled (argsOf P ts) q a r) n in
         rw (args-complete y, wf, base-complete P Δ x, left-complete q y, no)
+
+    -- what is packed does not have the filled type
+    unequal-filling : {b : Base} (a h : ℕ) (u t w : Ty value) → argOf P a ≡ arg value u → WfType Δ u
+        → typeOf P h ≡ hidden t → WfType Δ (typeOf P h)
+        → OfBase P Δ (Γ .regs) b w → ¬ (w ≡ fill 0 (arg value u ∷ []) t) → targetOf P Δ Γ (pack a b h) ≡ fails (unfit 99) []
+    unfolding targetOf operand formed formedArg packed _▹_ _&_ need orFault asValue asHidden
+    unequal-filling a h u t w e k i f x n =
+        let wf = formed-complete Δ aStack (typeOf P h) f in
+        let no = same-false w (fill 0 (arg value u ∷ []) t) n in
+        rw (e, formed-complete Δ aStack u k, wf, base-complete P Δ x, i, no)
 
     -- the faults of a target are its items that do not fit
     target-faults : {v : Operand} (a r : Ty stack) → OfOperand P Δ (Γ .regs) v (code [] a r)
@@ -220,6 +242,7 @@ module _ (P : Program) (Δ : List Kind) where
         → (leastOf (faultsOf (targetOf P Δ Γ v)) ≡ 10) × (firstItem (faultsOf (targetOf P Δ Γ v)) ≡ some i)
     unfolding leastOf lowest numberOf firstItem earlier faultsOf
     target-names (resulting-row {ts = ts} {t = t} q p a r y x w n) = rw (unequal-row ts t q p a r y x w n) (refl, refl)
+    target-names (wrong-filling {a = a} {h = h} u t w e k i f x n) = rw (unequal-filling a h u t w e k i f x n) (refl, refl)
     target-names (first-item a r x f) = rw (target-faults a r x) (unfit-complete P Δ Γ a r (target-eight x) (known .eight) f)
 
     -- the line's faults are its target's
@@ -245,19 +268,20 @@ item-named text c d line i = (there, back)
     shaped : ShapedProgram P
     shaped = program-shaped text d
 
-    context : (l : ℕ) (B : Block) {k : ℕ} {Γ : Context} → getElem? (P .blocks) l ≡ some B → Before P B k Γ → ShapedContext Γ
+    context : (l : ℕ) (B : Block) {k : ℕ} {Δ : List Kind} {Γ : Context} → getElem? (P .blocks) l ≡ some B → Before P B k Δ Γ → ShapedContext Γ
     context l B e b = before-shaped P shaped B (shaped .labels l B e) b
 
     named : {n : ℕ} {fs : List Fault} → Found P n fs → leastOf fs ≡ 10 → firstItem fs ≡ some i → NamedOn P n i
     named (none-found e) m h = none-some (sym (item-given (hasNone (P .blocks)) 8) ∙ h)
     named (block-found l B e t n) m h = none-some (sym (item-block _ B) ∙ h)
-    named (instr-found l k B x Γ e g t o b n) m h =
-        let w = judge-blames P (B .letters) shaped Γ (context l B e b) x .says i m h in
+    named (instr-found l k B x Δ Γ e g t o b n) m h =
+        let w = judge-blames P Δ shaped Γ (context l B e b) x .says i m h in
         record {
           l = l;
           k = k;
           B = B;
           x = x;
+          Δ = Δ;
           Γ = Γ;
           v = w .0;
           the-block = e;
@@ -278,7 +302,7 @@ item-named text c d line i = (there, back)
 
     back : NamedOn P line i → check text ≡ refused told
     back n =
-        let Δ = n .B .letters in
+        let Δ = n .Δ in
         let s = context (n .l) (n .B) (n .the-block) (n .before) in
         let e = going-faults P Δ shaped (n .Γ) s (n .goes) in
         let q = target-names P Δ shaped (n .Γ) s (n .names) in
@@ -286,7 +310,7 @@ item-named text c d line i = (there, back)
         let least : leastOf fs ≡ 10 = rw e (q .0) in
         let item : firstItem fs ≡ some i = rw e (q .1) in
         let no = some-fault fs item in
-        let f = instr-found (n .l) (n .k) (n .B) (n .x) (n .Γ) (n .the-block) (n .the-instr) (n .typed) (n .opens) (n .before) no in
+        let f = instr-found (n .l) (n .k) (n .B) (n .x) Δ (n .Γ) (n .the-block) (n .the-instr) (n .typed) (n .opens) (n .before) no in
         refused-found text c d told .1 (record { faults = fs; found = rw (sym (n .the-line)) at f; by = rw (least, item) })
 
 -- ---- every refusal
@@ -329,6 +353,7 @@ refused-item text r i e h = (ten, go (refused-decides text r e))
     is-item : (P : Program) → ShapedProgram P → (Δ : List Kind) (Γ : Context) → ShapedContext Γ → {v : Operand} {j : ℕ}
         → Names P Δ Γ v j → IsItem j
     is-item P s Δ Γ k (resulting-row q p a g y x w n) = inr refl
+    is-item P s Δ Γ k (wrong-filling u t w e f i j x n) = inr refl
     is-item P s Δ Γ k (first-item a g x f) = unfit-item (target-eight P Δ s Γ k x .1) (f .unfit)
 
     go : Decides text (r .number) → IsItem i
@@ -338,4 +363,4 @@ refused-item text r i e h = (ten, go (refused-decides text r e))
         let P = programOf text in
         let s = program-shaped text d in
         let n = item-named text c d (r .line) i .0 told in
-        is-item P s (n .B .letters) (n .Γ) (before-shaped P s (n .B) (s .labels (n .l) (n .B) (n .the-block)) (n .before)) (n .names)
+        is-item P s (n .Δ) (n .Γ) (before-shaped P s (n .B) (s .labels (n .l) (n .B) (n .the-block)) (n .before)) (n .names)

@@ -6,21 +6,21 @@ use mathlib.Core.Path.{_≡_, refl, sym}
 use mathlib.Core.Bool.{Bool, true, false, cond}
 use mathlib.Core.Option.{Option, none, some}
 use mathlib.Core.List.{List, [], _∷_, _++_, map}
-use lib.ListN.{getElem?}
-use lib.Dec.{leb, leb→le, le→leb}
+use lib.ListN.{length, getElem?}
+use lib.Dec.{leb, ltb, leb→le, le→leb, ltb→lt, lt→ltb}
 use Rattle.syntax.specs.Partial.{chain}
-use Rattle.syntax.specs.Syntax.{Kind, value, stack, Base, reg, lit, lab, Operand, plain, inst, Instr, aop, bop, mov, ld, st, malloc, getsp, setsp, salloc, sfree, sld, sst, slp, ssp, jmp, halt}
+use Rattle.syntax.specs.Syntax.{Kind, value, stack, Base, reg, lit, lab, Operand, plain, inst, pack, Instr, aop, bop, mov, ld, st, malloc, getsp, setsp, salloc, sfree, sld, sst, slp, ssp, jmp, halt, unpack}
 use Rattle.syntax.specs.Fault.{Fault, fault, unfit}
 use Rattle.text.specs.PassOne.{isLast}
-use Rattle.types.specs.Types.{Ty, int, tuple, pointer, code, nil, push, svar, gap, join, items, Arg, kindOf, filled, aStack, WfType}
+use Rattle.types.specs.Types.{Ty, int, tuple, pointer, hidden, code, nil, push, svar, gap, join, items, Arg, arg, kindOf, fill, filled, aStack, WfType}
 use Rattle.types.specs.Equal.{same, sameLetters}
 use Rattle.types.proofs.Equal.{none-true, to-so, so-true, same-sound, same-refl, sameLetters-sound}
-use Rattle.valid.specs.Program.{Block, Program, typeOf, argsOf, CodeType, asCode}
-use Rattle.valid.specs.Rules.{At, Put, junks, Context, withRegs, withSp, OfBase, ⊢reg, ⊢int, ⊢label, OfOperand, ⊢plain, ⊢tapp, OfOperands, ⊢none, ⊢more, Named, n-nil, n-same, n-any, n-gap, Target, target, Rule, ⊢aop, ⊢bop, ⊢ld, ⊢malloc, ⊢mov, ⊢get-sp, ⊢set-sp, ⊢salloc, ⊢sfree, ⊢sld1, ⊢sld2, ⊢sst1, ⊢sst2, ⊢st}
-use Rattle.valid.specs.Tests.{itemAt, replaced, under, above, asInt, asTuple, asPointer, isFormed, formedArgs, labelType, lettersLeft, isFilled, noneLeft}
-use Rattle.valid.specs.PassThree.{Judged, holds, fails, _▹_, _&_, orFault, need, noneOf, formed, known, integerAt, tupleAt, pointerAt, assign, base, applied, operand, operands, unfits, targetOf, newTail, judge}
+use Rattle.valid.specs.Program.{Block, Program, typeOf, argOf, argsOf, CodeType, asCode}
+use Rattle.valid.specs.Rules.{At, Put, junks, Context, withRegs, withSp, raised, OfBase, ⊢reg, ⊢int, ⊢label, OfOperand, ⊢plain, ⊢tapp, ⊢pack, OfOperands, ⊢none, ⊢more, Named, n-nil, n-same, n-any, n-gap, Target, target, Rule, ⊢aop, ⊢bop, ⊢ld, ⊢malloc, ⊢mov, ⊢get-sp, ⊢set-sp, ⊢salloc, ⊢sfree, ⊢sld1, ⊢sld2, ⊢sst1, ⊢sst2, ⊢st, ⊢unpack}
+use Rattle.valid.specs.Tests.{itemAt, replaced, under, above, asInt, asTuple, asPointer, asHidden, asValue, isFormed, formedArg, formedArgs, labelType, lettersLeft, isFilled, noneLeft}
+use Rattle.valid.specs.PassThree.{Judged, holds, fails, _▹_, _&_, orFault, need, noneOf, formed, known, integerAt, tupleAt, pointerAt, assign, base, applied, packed, operand, operands, unfits, targetOf, newTail, judge}
 use Rattle.valid.proofs.Clear.{cons-nil}
-use Rattle.valid.proofs.Reading.{at-sound, at-complete, put-sound, put-complete, pops-sound, pops-complete, above-sound, above-complete, int-sound, tuple-sound, pointer-sound, code-sound, formed-sound, formed-complete, args-sound, args-complete, left-sound, left-complete, filled-sound}
+use Rattle.valid.proofs.Reading.{at-sound, at-complete, put-sound, put-complete, pops-sound, pops-complete, above-sound, above-complete, int-sound, tuple-sound, pointer-sound, hidden-sound, value-sound, code-sound, formed-sound, formed-complete, args-sound, args-complete, left-sound, left-complete, filled-sound}
 
 -- ---- from no fault to the rules
 -- If the premise holds, what it gives has the property Q. The proofs below have the shape of the definitions that they follow: `▸`
@@ -136,13 +136,50 @@ module _ (P : Program) (Δ : List Kind) where
       needed f (isFilled (typeOf P t) (filled θ q (c .sp) (c .regs))) λ k.
       record { type = c; left = q; carries = rw e at h; splits = j; fills = filled-sound (typeOf P t) (filled θ q (c .sp) (c .regs)) k }
 
+  -- what is known of a base that is packed
+  record Packs (g : Ty stack) (b : Base) (a : Arg) (h : Ty value) : Type 0 where
+    filler : Ty value
+    inner : Ty value
+    is-value : a ≡ arg value filler
+    is-hidden : h ≡ hidden inner
+    carries : OfBase P Δ g b (fill 0 (arg value filler ∷ []) inner)
+
+  -- what a package's premises read: its base's type, its argument's and what its row hides
+  pub record PartsOf (g : Ty stack) (b : Base) (a : Arg) (h : Ty value) (z : Ty value × (Ty value × Ty value)) : Type 0 where
+    pub of-base : OfBase P Δ g b (z .0)
+    pub is-value : a ≡ arg value (z .1 .0)
+    pub is-hidden : h ≡ hidden (z .1 .1)
+
+  pub parts-given : (g : Ty stack) (b : Base) (a : Arg) (h : Ty value)
+      → Gives (PartsOf g b a h) (base P Δ g b & orFault 14 (asValue a) & orFault 9 (asHidden h))
+  parts-given g b a h =
+      weaken (λ z k. record { of-base = k .0; is-value = k .1 .0; is-hidden = k .1 .1 })
+      (base-given g b ⊗ read 14 (asValue a) (value-sound a) ⊗ read 9 (asHidden h) (hidden-sound h))
+
+  packed-given : (f : Fault) (g : Ty stack) (b : Base) (a : Arg) (h : ℕ) → Gives (λ u. Packs g b a (typeOf P h)) (packed P Δ f g b a h)
+  unfolding packed
+  packed-given f g b a h =
+      parts-given g b a (typeOf P h) ▸ λ z k.
+      needed f (same (z .0) (fill 0 (arg value (z .1 .0) ∷ []) (z .1 .1))) λ e.
+      let carries = rw (same-sound (z .0) (fill 0 (arg value (z .1 .0) ∷ []) (z .1 .1)) e) at (k .of-base) in
+      record { filler = z .1 .0; inner = z .1 .1; is-value = k .is-value; is-hidden = k .is-hidden; carries = carries }
+
   pub operand-given : (f : Fault) (g : Ty stack) (v : Operand) → Gives (OfOperand P Δ g v) (operand P Δ f g v)
-  unfolding operand
+  unfolding operand formedArg
   operand-given f g (plain b) = weaken (λ t h. ⊢plain h) (base-given g b)
   operand-given f g (inst b ts t) =
       needed (fault 7) (formedArgs Δ (argsOf P ts)) (args-sound Δ (argsOf P ts)) ⊗ formed-given t ⊗ applied-given f g b (argsOf P ts) t ▸ λ z h.
       let y = h .1 .1 in
       gives (⊢tapp (y .left) (map kindOf (argsOf P ts)) (y .type .sp) (y .type .regs) (h .0) (rw (y .splits) at (y .carries)) (h .1 .0) (y .fills))
+  operand-given f g (pack a b h) =
+      needed (fault 7) (formedArg Δ (argOf P a)) (λ e. e) ⊗ formed-given h ⊗ packed-given f g b (argOf P a) h ▸ λ z k.
+      let y = k .1 .1 in
+      let wf = formed-sound Δ aStack (y .filler) (rw (y .is-value) at (k .0)) in
+      gives (⊢pack (y .filler) (y .inner) (y .is-value) wf (y .is-hidden) (k .1 .0) (y .carries))
+
+  package-given : (g : Ty stack) (v : Operand)
+      → Gives (λ t. OfOperand P Δ g v (hidden t)) (operand P Δ (fault 10) g v ▹ λ t. orFault 9 (asHidden t))
+  package-given g v = operand-given (fault 10) g v ▸ λ t h. read 9 (asHidden t) (λ u e. rw (hidden-sound t u e) at h)
 
   operands-given : (g : Ty stack) (vs : List Operand) → Gives (OfOperands P Δ g vs) (operands P Δ g vs)
   unfolding operands
@@ -237,6 +274,9 @@ module _ (P : Program) (Δ : List Kind) where
       assigned (withSp Γ (join a c)) d (pointer c) λ g p. ⊢sst2 a (j .0) c (n .old) (n .new) (j .1) (n .stores) (j .2) (n .replaces) (n .puts) (h .0) (n .points) p
   judge-given Γ (jmp v) l = none-true (sym l)
   judge-given Γ (halt t) l = none-true (sym l)
+  judge-given Γ (unpack d v) l =
+      needed (fault 7) (ltb (length Δ) 64) (λ e. ltb→lt (length Δ) 64 (to-so _ e)) ⊗ package-given (Γ .regs) v ▸ λ z h.
+      assigned (raised Γ) d (z .1) λ g p. ⊢unpack (h .0) (h .1) p
 
   -- without a fault a rule types the line
   pub judge-sound : (Γ : Context) (x : Instr) {Γ′ : Context} → judge P Δ Γ x ≡ holds Γ′ → isLast x ≡ false → Rule P Δ Γ x Γ′
@@ -262,9 +302,11 @@ module _ (P : Program) (Δ : List Kind) where
   base-complete (⊢label B e) = rw e
 
   pub operand-complete : (f : Fault) {g : Ty stack} {v : Operand} {t : Ty value} → OfOperand P Δ g v t → operand P Δ f g v ≡ holds t
-  unfolding operand formed applied _▹_ _&_ need orFault asCode isFilled
+  unfolding operand formed applied packed _▹_ _&_ need orFault asCode asHidden asValue formedArg isFilled
   operand-complete f (⊢plain x) = base-complete x
   operand-complete f (⊢tapp {ts = ts} {t = t} q p a r y x w z) = rw (args-complete y, formed-complete Δ aStack (typeOf P t) w, base-complete x, left-complete q y, z, same-refl)
+  operand-complete f (⊢pack {h = h} u t e w k x y) =
+      rw (e, formed-complete Δ aStack u w, formed-complete Δ aStack (typeOf P h) x, base-complete y, k, same-refl)
 
   operands-complete : {g : Ty stack} {vs : List Operand} {a : Ty stack} → OfOperands P Δ g vs a → operands P Δ g vs ≡ holds a
   unfolding operands _▹_ _&_
@@ -283,7 +325,7 @@ module _ (P : Program) (Δ : List Kind) where
   target-complete (target r x n) = rw (operand-complete (unfit 99) x, same-refl, named-complete 1 n)
 
   pub judge-complete : {Γ Γ′ : Context} {x : Instr} → Rule P Δ Γ x Γ′ → judge P Δ Γ x ≡ holds Γ′
-  unfolding judge _▹_ _&_ need orFault integerAt tupleAt pointerAt known assign asInt asTuple asPointer formed newTail
+  unfolding judge _▹_ _&_ need orFault integerAt tupleAt pointerAt known assign asInt asTuple asPointer asHidden formed newTail
   judge-complete (⊢aop x y p) = rw (at-complete x, operand-complete (fault 10) y, put-complete p)
   judge-complete (⊢bop x y) = rw (at-complete x, target-complete y)
   judge-complete (⊢mov y p) = rw (operand-complete (fault 10) y, put-complete p)
@@ -298,6 +340,7 @@ module _ (P : Program) (Δ : List Kind) where
   judge-complete (⊢sst1 u t y x p) = rw (at-complete x, at-complete y, put-complete p)
   judge-complete (⊢sld2 a b x e y p) = rw (at-complete x, e, above-complete a b, at-complete y, put-complete p)
   judge-complete (⊢sst2 {t = t} a b c u v x y e z p w k r) = rw (at-complete x, at-complete y, e, above-complete a b, at-complete z, put-complete p, formed-complete Δ aStack (typeOf P t) w, k, same-refl, put-complete r)
+  judge-complete (⊢unpack l y p) = rw (so-true (ltb (length Δ) 64) (lt→ltb (length Δ) 64 l), operand-complete (fault 10) y, put-complete p)
 
   pub jmp-complete : {Γ : Context} {v : Operand} → Target P Δ Γ v → judge P Δ Γ (jmp v) ≡ holds Γ
   unfolding judge _▹_

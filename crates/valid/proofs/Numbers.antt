@@ -5,7 +5,7 @@ use mathlib.Core.Path.{_≡_}
 use mathlib.Core.Bool.{Bool, true, false, _&&_, not, cond}
 use mathlib.Core.Option.{Option, none, some}
 use mathlib.Core.List.{List, [], _∷_, _++_, map}
-use Rattle.syntax.specs.Syntax.{Entry, row, block, instr, Row, Kind, value, stack, Base, reg, lit, lab, Operand, plain, inst, Instr, aop, bop, mov, ld, st, malloc, getsp, setsp, salloc, sfree, sld, sst, slp, ssp, jmp, halt}
+use Rattle.syntax.specs.Syntax.{Entry, row, block, instr, Row, Kind, value, stack, Base, reg, lit, lab, Operand, plain, inst, pack, Instr, aop, bop, mov, ld, st, malloc, getsp, setsp, salloc, sfree, sld, sst, slp, ssp, jmp, halt, unpack}
 use lib.Dec.{ltb}
 use lib.ListN.{length, replicate, take}
 use Rattle.syntax.specs.Fault.{Fault, fault, unfit, numberOf, given, Pass, Refusal, refuse, lowest, lowestLine}
@@ -17,9 +17,9 @@ use Rattle.types.specs.Rows.{codeRow, valueRow, Ref, ref, rowsIn, rowRefs, oper
 use Rattle.types.specs.Equal.{same}
 use Rattle.valid.specs.Program.{Block, Program}
 use Rattle.valid.specs.Verdict.{passTwoOf}
-use Rattle.valid.specs.Rules.{Context, atStart}
+use Rattle.valid.specs.Rules.{Context, raised, lettersAfter, atStart}
 use Rattle.valid.specs.Tests.{isFormed, isEntry}
-use Rattle.valid.specs.PassThree.{Judged, holds, fails, faultsOf, _▹_, _&_, orFault, need, noneOf, formed, known, integerAt, tupleAt, pointerAt, assign, base, applied, operand, operands, unfits, targetOf, newTail, judge, bodyFaults, hasNone, blockFaults, blocksFaults, passThree}
+use Rattle.valid.specs.PassThree.{Judged, holds, fails, faultsOf, _▹_, _&_, orFault, need, noneOf, formed, known, integerAt, tupleAt, pointerAt, assign, base, applied, packed, operand, operands, unfits, targetOf, newTail, judge, bodyFaults, hasNone, blockFaults, blocksFaults, passThree}
 
 -- ---- numbers within bounds
 abbrev pub In : ℕ → ℕ → Fault → Type 0
@@ -148,10 +148,19 @@ module _ (P : Program) (Δ : List Kind) where
   unfolding applied
   applied-high f h g b A t = then _ _ (base-high g b) (λ u. then _ _ (or-fault 9 _ (omega arith) (omega arith)) (λ c. then _ _ (or-fault 14 _ (omega arith) (omega arith)) (λ q. needed f _ h)))
 
+  packed-high : (f : Fault) → High f → (g : Ty stack) (b : Base) (a : Arg) (h : ℕ) → Judges (packed P Δ f g b a h)
+  unfolding packed
+  packed-high f k g b a h =
+      let read = beside _ _ (base-high g b) (beside _ _ (or-fault 14 _ (omega arith) (omega arith)) (or-fault 9 _ (omega arith) (omega arith))) in
+      then _ _ read (λ z. needed f _ k)
+
   operand-high : (f : Fault) → High f → (g : Ty stack) (v : Operand) → Judges (operand P Δ f g v)
   unfolding operand
   operand-high f h g (plain b) = base-high g b
   operand-high f h g (inst b ts t) = then _ _ (beside _ _ (needed (fault 7) _ (at 7 (omega arith) (omega arith))) (beside _ _ (formed-high t) (applied-high f h g b _ t))) (λ z. tt)
+  operand-high f k g (pack a b h) =
+      let seven = needed (fault 7) _ (at 7 (omega arith) (omega arith)) in
+      then _ _ (beside _ _ seven (beside _ _ (formed-high h) (packed-high f k g b _ h))) (λ z. tt)
 
   ten : High (fault 10)
   ten = at 10 (omega arith) (omega arith)
@@ -216,13 +225,17 @@ module _ (P : Program) (Δ : List Kind) where
       (λ z. assign-high _ d _)
   judge-high Γ (jmp v) = then _ _ (target-high Γ v) (λ z. tt)
   judge-high Γ (halt t) = then _ _ (beside _ _ (formed-high t) (known-high (Γ .regs) 0)) (λ z. then _ _ (needed (fault 10) _ ten) (λ y. tt))
+  judge-high Γ (unpack d v) =
+      let seven = needed (fault 7) _ (at 7 (omega arith) (omega arith)) in
+      let inner = then _ _ (operand-high (fault 10) ten (Γ .regs) v) (λ t. or-fault 9 _ (omega arith) (omega arith)) in
+      then _ _ (beside _ _ seven inner) (λ z. assign-high (raised Γ) d _)
 
-  -- ---- lines
-  body-high : (j : Judged Context) (xs : List Instr) → LinesIn 7 14 (bodyFaults P Δ j xs)
-  unfolding bodyFaults
-  body-high j [] = tt
-  body-high (holds Γ) (x ∷ xs) = (judged (judge P Δ Γ x) (judge-high Γ x), body-high (judge P Δ Γ x) xs)
-  body-high (fails f fs) (x ∷ xs) = (tt, body-high (fails f fs) xs)
+-- ---- lines
+body-high : (P : Program) (Δ : List Kind) (j : Judged Context) (xs : List Instr) → LinesIn 7 14 (bodyFaults P Δ j xs)
+unfolding bodyFaults
+body-high P Δ j [] = tt
+body-high P Δ (holds Γ) (x ∷ xs) = (judged (judge P Δ Γ x) (judge-high P Δ Γ x), body-high P (lettersAfter x Δ) (judge P Δ Γ x) xs)
+body-high P Δ (fails f fs) (x ∷ xs) = (tt, body-high P Δ (fails f fs) xs)
 
 given-high : (a b c : Bool) → AllHigh (given a 7 ++ given b 8 ++ given c 13)
 given-high a b c =

@@ -10,13 +10,13 @@ use lib.Seq.{take-append-seam, drop-append-seam}
 use lib.Dec.{leb, le→leb, eqb→eq}
 use Rattle.syntax.specs.Partial.{chain, guarded}
 use Rattle.syntax.specs.Syntax.{Kind, value, stack}
-use Rattle.types.specs.Types.{Ty, int, junk, var, tuple, pointer, code, nil, push, svar, gap, join, items, Arg, arg, kindOf, Use, aStack, aTuple, aFile, Wf, Args, noargs, more}
+use Rattle.types.specs.Types.{Ty, int, junk, var, tuple, pointer, hidden, code, nil, push, svar, gap, join, items, Arg, arg, kindOf, Use, aStack, aTuple, aFile, Wf, Args, noargs, more}
 use Rattle.types.specs.Equal.{same, sameLetters}
 use Rattle.types.proofs.Filling.{items-join}
 use Rattle.types.proofs.Equal.{and-inv, none-true, to-so, so-true, same-sound, same-refl, same-false, sameLetters-sound, sameLetters-refl}
 use Rattle.valid.specs.Rules.{At, here, there, skip, Put, phere, pnew, pthere, pskip, Pops, pop0, pop1}
 use Rattle.valid.specs.Program.{CodeType, asCode}
-use Rattle.valid.specs.Tests.{itemAt, replaced, under, above, asInt, asTuple, asPointer, isKind, isStack, isFile, isFormed, formedArg, formedArgs, lettersLeft, isFilled}
+use Rattle.valid.specs.Tests.{itemAt, replaced, under, above, asInt, asTuple, asPointer, asHidden, asValue, isKind, isStack, isFile, isFormed, formedArg, formedArgs, lettersLeft, isFilled}
 
 -- a missing value is not there: anything follows
 pub none-some : {A B : Type 0} {x : A} → none ≡ some x → B
@@ -122,6 +122,7 @@ int-sound junk u e = none-some e
 int-sound (var k) u e = none-some e
 int-sound (tuple a) u e = none-some e
 int-sound (pointer a) u e = none-some e
+int-sound (hidden t) u e = none-some e
 int-sound (code q a r) u e = none-some e
 
 pub tuple-sound : (t : Ty value) (c : Ty stack) → asTuple t ≡ some c → t ≡ tuple c
@@ -131,6 +132,7 @@ tuple-sound junk c e = none-some e
 tuple-sound (var k) c e = none-some e
 tuple-sound (tuple a) c e = ap tuple (some-inj e)
 tuple-sound (pointer a) c e = none-some e
+tuple-sound (hidden t) c e = none-some e
 tuple-sound (code q a r) c e = none-some e
 
 pub pointer-sound : (t : Ty value) (c : Ty stack) → asPointer t ≡ some c → t ≡ pointer c
@@ -140,7 +142,23 @@ pointer-sound junk c e = none-some e
 pointer-sound (var k) c e = none-some e
 pointer-sound (tuple a) c e = none-some e
 pointer-sound (pointer a) c e = ap pointer (some-inj e)
+pointer-sound (hidden t) c e = none-some e
 pointer-sound (code q a r) c e = none-some e
+
+pub hidden-sound : (t u : Ty value) → asHidden t ≡ some u → t ≡ hidden u
+unfolding asHidden
+hidden-sound int u e = none-some e
+hidden-sound junk u e = none-some e
+hidden-sound (var k) u e = none-some e
+hidden-sound (tuple a) u e = none-some e
+hidden-sound (pointer a) u e = none-some e
+hidden-sound (hidden t) u e = ap hidden (some-inj e)
+hidden-sound (code q a r) u e = none-some e
+
+pub value-sound : (a : Arg) (u : Ty value) → asValue a ≡ some u → a ≡ arg value u
+unfolding asValue
+value-sound (arg value t) u e = ap (arg value) (some-inj e)
+value-sound (arg stack a) u e = none-some e
 
 pub code-sound : (t : Ty value) (c : CodeType) → asCode t ≡ some c → t ≡ code (c .letters) (c .sp) (c .regs)
 unfolding asCode
@@ -149,6 +167,7 @@ code-sound junk c e = none-some e
 code-sound (var k) c e = none-some e
 code-sound (tuple a) c e = none-some e
 code-sound (pointer a) c e = none-some e
+code-sound (hidden t) c e = none-some e
 code-sound (code q a r) c e = ap (λ c. code (c .letters) (c .sp) (c .regs)) (some-inj e)
 
 -- ---- well-formed types
@@ -185,6 +204,7 @@ formed-sound Δ u junk e = tt
 formed-sound Δ u (var k) e = kind-sound value (getElem? Δ k) e
 formed-sound Δ u (tuple a) e = formed-sound Δ aTuple a e
 formed-sound Δ u (pointer a) e = formed-sound Δ aStack a e
+formed-sound Δ u (hidden t) e = formed-sound (value ∷ Δ) aStack t e
 formed-sound Δ u (code q a r) e = let k = and-inv _ _ e in let j = and-inv _ _ (k .1) in (formed-sound (q ++ Δ) aStack a (k .0), formed-sound (q ++ Δ) aFile r (j .0), eqb→eq (items r) 8 (to-so _ (j .1)))
 formed-sound Δ u nil e = tt
 formed-sound Δ u (push t a) e = let k = and-inv _ _ e in (formed-sound Δ u t (k .0), formed-sound Δ u a (k .1))
@@ -198,6 +218,7 @@ formed-complete Δ u junk w = refl
 formed-complete Δ u (var k) w = kind-complete value w
 formed-complete Δ u (tuple a) w = formed-complete Δ aTuple a w
 formed-complete Δ u (pointer a) w = formed-complete Δ aStack a w
+formed-complete Δ u (hidden t) w = formed-complete (value ∷ Δ) aStack t w
 formed-complete Δ u (code q a r) w = rw (formed-complete (q ++ Δ) aStack a (w .0), formed-complete (q ++ Δ) aFile r (w .1), w .2)
 formed-complete Δ u nil w = refl
 formed-complete Δ u (push t a) w = rw (formed-complete Δ u t (w .0), formed-complete Δ u a (w .1))

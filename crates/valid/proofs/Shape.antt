@@ -1,6 +1,6 @@
 -- Every code type in a program has eight registers, each a type or a gap, and no stack variable among them: in the types of its rows
 -- and of its blocks, and so in the types that the rules give. Well-formed or not: a block whose row is not closed has them too.
-use Prim.Native.Nat.{ℕ, zero, suc, _<_}
+use Prim.Native.Nat.{ℕ, zero, suc, _+_, _<_}
 use native.Mathlib.Nat.{not-suc-le-zero, le-of-suc-le-suc}
 use mathlib.Core.Path.{_≡_, refl, ap, _∙_}
 use mathlib.Core.Bool.{true, not}
@@ -8,17 +8,18 @@ use mathlib.Core.Option.{Option, none, some}
 use mathlib.Core.List.{List, [], _∷_, _++_, append-eq-nil-iff}
 use borrow.Author.Tests.{ltb-true}
 use lib.ListN.{length, getD, getElem?, take}
-use Rattle.syntax.specs.Syntax.{registerCount, Kind, value, stack, Row, rowI, rowN, rowE, rowV, rowX, rowP, rowU, rowK, rowA, rowC, Base, Operand, Entry, row, block, instr, Instr}
+use Rattle.syntax.specs.Syntax.{registerCount, Kind, value, stack, Row, rowI, rowN, rowE, rowV, rowX, rowP, rowH, rowU, rowK, rowA, rowC, Base, Operand, Entry, row, block, instr, Instr}
 use Rattle.syntax.specs.Fault.{given, Clear}
 use Rattle.syntax.proofs.Least.{given-none}
 use Rattle.text.specs.PassOne.{entriesOf, rowsOf, Listing, grouped, listingsOf}
-use Rattle.types.specs.Types.{Ty, int, junk, var, tuple, pointer, code, nil, push, svar, gap, join, items, Arg, arg, ofKind}
+use Rattle.types.specs.Types.{Ty, int, junk, var, tuple, pointer, hidden, code, nil, push, svar, gap, join, items, variable, walk, raising, raise, Arg, arg, ofKind}
 use Rattle.types.specs.Rows.{inTurn, typeAt, components, registers, meaning, typesOf, isCode, ref, codeRow, allBelow, allOfSort, isSort, isOf, refsFaults, entriesFaults, rowsFaults, passTwo}
 use Rattle.types.proofs.Equal.{and-inv, none-true, not-false}
+use Rattle.types.proofs.Filling.{raising-is, raising-items}
 use Rattle.types.proofs.Meaning.{typeIn, type-before}
 use Rattle.valid.specs.Bounds.{SmallRow}
 use Rattle.valid.specs.Program.{Block, Program, typeOf, asCode, blockOf, blocksOf, programFrom, programOf}
-use Rattle.valid.specs.Rules.{At, here, there, skip, Put, phere, pnew, pthere, pskip, Pops, pop0, pop1, junks, Context, withSp, OfBase, ⊢reg, ⊢int, ⊢label, OfOperand, ⊢plain, ⊢tapp, OfOperands, ⊢none, ⊢more, Rule, ⊢aop, ⊢bop, ⊢mov, ⊢ld, ⊢st, ⊢malloc, ⊢get-sp, ⊢set-sp, ⊢salloc, ⊢sfree, ⊢sld1, ⊢sld2, ⊢sst1, ⊢sst2, Before, start, next}
+use Rattle.valid.specs.Rules.{At, here, there, skip, Put, phere, pnew, pthere, pskip, Pops, pop0, pop1, junks, Context, withSp, raised, OfBase, ⊢reg, ⊢int, ⊢label, OfOperand, ⊢plain, ⊢tapp, ⊢pack, OfOperands, ⊢none, ⊢more, Rule, ⊢aop, ⊢bop, ⊢mov, ⊢ld, ⊢st, ⊢malloc, ⊢get-sp, ⊢set-sp, ⊢salloc, ⊢sfree, ⊢sld1, ⊢sld2, ⊢sst1, ⊢sst2, ⊢unpack, Before, start, next}
 use Rattle.valid.specs.Verdict.{passTwoOf}
 use Rattle.valid.proofs.Reading.{none-some, some-inj}
 use Rattle.valid.proofs.Clear.{clear-split}
@@ -44,6 +45,7 @@ Shaped junk = Unit
 Shaped (var k) = Unit
 Shaped (tuple a) = Shaped a
 Shaped (pointer a) = Shaped a
+Shaped (hidden t) = Shaped t
 Shaped (code q a r) = Shaped a × Shaped r × Eight r
 Shaped nil = Unit
 Shaped (push t a) = Shaped t × Shaped a
@@ -95,6 +97,42 @@ pops-shaped : {a b : Ty stack} {n : ℕ} → Pops a n b → Shaped a → Shaped 
 pops-shaped pop0 h = h
 pops-shaped (pop1 x) h = pops-shaped x (h .1)
 
+-- ---- raising
+module _ (m : ℕ) where
+  variable-shaped : (κ : Kind) (k : ℕ) → Shaped (variable κ k)
+  unfolding variable
+  variable-shaped value k = tt
+  variable-shaped stack k = tt
+
+  raising-shaped : (d : ℕ) (κ : Kind) (k : ℕ) → Shaped (raising m d κ k)
+  raising-shaped d κ k = let h = raising-is m d κ k in rw (h .1) (variable-shaped κ (h .0))
+
+  raised-no-vars : (d : ℕ) (a : Ty stack) → NoVars a → NoVars (walk (raising m) d a)
+  unfolding walk
+  raised-no-vars d nil h = tt
+  raised-no-vars d (push t a) h = raised-no-vars d a h
+  raised-no-vars d (svar k a) h = absurd h
+  raised-no-vars d (gap a) h = raised-no-vars d a h
+
+  raised-eight : (d : ℕ) (r : Ty stack) → Eight r → Eight (walk (raising m) d r)
+  raised-eight d r h = (raised-no-vars d r (h .0), raising-items m d r ∙ h .1)
+
+  walk-shaped : (d : ℕ) {κ : Kind} (t : Ty κ) → Shaped t → Shaped (walk (raising m) d t)
+  unfolding walk
+  walk-shaped d int h = tt
+  walk-shaped d junk h = tt
+  walk-shaped d (var k) h = raising-shaped d value k
+  walk-shaped d (tuple a) h = walk-shaped d a h
+  walk-shaped d (pointer a) h = walk-shaped d a h
+  walk-shaped d (hidden t) h = walk-shaped (suc d) t h
+  walk-shaped d (code q a r) h =
+      let e : ℕ = length q + d in
+      (walk-shaped e a (h .0), walk-shaped e r (h .1), raised-eight e r (h .2))
+  walk-shaped d nil h = tt
+  walk-shaped d (push t a) h = (walk-shaped d t (h .0), walk-shaped d a (h .1))
+  walk-shaped d (svar k a) h = join-shaped (raising m d stack k) (walk (raising m) d a) (raising-shaped d stack k) (walk-shaped d a h)
+  walk-shaped d (gap a) h = walk-shaped d a h
+
 -- ---- rows
 abbrev ShapedArg : Arg → Type 0
 ShapedArg (arg κ t) = Shaped t
@@ -143,6 +181,7 @@ module _ (A : List Arg) (all : AllShaped A) where
   meaning-shaped (rowU ts) s = components-shaped ts
   meaning-shaped (rowP t) s = type-shaped stack t
   meaning-shaped (rowC q t rs) s = let h = registers-shaped rs in (type-shaped stack t, h .0, (h .1, h .2 ∙ s .1))
+  meaning-shaped (rowH t) s = type-shaped value t
   meaning-shaped rowE s = tt
   meaning-shaped (rowX k) s = tt
   meaning-shaped (rowK t u) s = (type-shaped value t, type-shaped stack u)
@@ -167,6 +206,7 @@ code-means A (rowV k) e = none-true e
 code-means A (rowU ts) e = none-true e
 code-means A (rowP s) e = none-true e
 code-means A (rowC q s rs) e = (_, _, _, refl)
+code-means A (rowH t) e = none-true e
 code-means A rowE e = none-true e
 code-means A (rowX k) e = none-true e
 code-means A (rowK t s) e = none-true e
@@ -255,6 +295,7 @@ module _ (P : Program) (shaped : ShapedProgram P) (Δ : List Kind) where
   pub operand-shaped : {g : Ty stack} {v : Operand} {t : Ty value} → OfOperand P Δ g v t → Shaped g → Shaped t
   operand-shaped (⊢plain x) h = base-shaped x h
   operand-shaped (⊢tapp {t = t} q p a r y x w z) h = shaped .rows t
+  operand-shaped (⊢pack {h = t} u τ e w k x y) h = shaped .rows t
 
   operands-shaped : {g : Ty stack} {vs : List Operand} {a : Ty stack} → OfOperands P Δ g vs a → Shaped g → Shaped a
   operands-shaped ⊢none h = tt
@@ -268,6 +309,16 @@ module _ (P : Program) (shaped : ShapedProgram P) (Δ : List Kind) where
   -- another sp
   moved : {Γ : Context} (a : Ty stack) → Shaped a → ShapedContext Γ → ShapedContext (withSp Γ a)
   moved a k h = record { sp = k; regs = h .regs; eight = h .eight }
+
+  -- under one variable more
+  raised-shaped : {Γ : Context} → ShapedContext Γ → ShapedContext (raised Γ)
+  unfolding raise
+  raised-shaped {Γ} h =
+      record {
+        sp = walk-shaped 1 0 (Γ .sp) (h .sp);
+        regs = walk-shaped 1 0 (Γ .regs) (h .regs);
+        eight = raised-eight 1 0 (Γ .regs) (h .eight);
+      }
 
   rule-shaped : {Γ Γ′ : Context} {x : Instr} → Rule P Δ Γ x Γ′ → ShapedContext Γ → ShapedContext Γ′
   rule-shaped (⊢aop x y p) h = assigned _ p (h .sp) tt h
@@ -286,8 +337,10 @@ module _ (P : Program) (shaped : ShapedProgram P) (Δ : List Kind) where
   rule-shaped (⊢sst2 a b c u w x y e z p f k q) h =
       let n = put-shaped p (at-shaped x (h .regs)) (at-shaped y (h .regs)) in
       assigned (join a c) q (join-shaped a c (parts-shaped a b (rw e at (h .sp)) .0) n) n h
+  rule-shaped (⊢unpack l x p) h = let r = raised-shaped h in assigned _ p (r .sp) (operand-shaped x (h .regs)) r
 
 -- the types that the rules give before each instruction of a block
-pub before-shaped : (P : Program) → ShapedProgram P → (B : Block) → ShapedBlock B → {k : ℕ} {Γ : Context} → Before P B k Γ → ShapedContext Γ
+pub before-shaped : (P : Program) → ShapedProgram P → (B : Block) → ShapedBlock B → {k : ℕ} {Δ : List Kind} {Γ : Context}
+    → Before P B k Δ Γ → ShapedContext Γ
 before-shaped P s B h start = record { sp = h .0; regs = h .1; eight = h .2 }
-before-shaped P s B h (next b e r) = rule-shaped P s (B .letters) r (before-shaped P s B h b)
+before-shaped P s B h (next {Δ = Δ} b e r) = rule-shaped P s Δ r (before-shaped P s B h b)

@@ -7,13 +7,13 @@ use mathlib.Core.Bool.{true}
 use mathlib.Core.Option.{Option, none, some}
 use mathlib.Core.List.{List, [], _++_, map}
 use Rattle.syntax.specs.Syntax.{Kind, value, stack}
-use Rattle.types.specs.Types.{Ty, int, tuple, pointer, code, join, Arg, kindOf, Use, Wf, Args}
+use Rattle.types.specs.Types.{Ty, int, tuple, pointer, hidden, code, join, Arg, arg, kindOf, Use, Wf, Args}
 use Rattle.types.specs.Equal.{same}
 use Rattle.types.proofs.Equal.{same-sound, same-refl, sameLetters-sound, sameLetters-refl}
 use Rattle.valid.specs.Program.{Block, CodeType}
 use Rattle.valid.specs.Rules.{At, Put, Pops, declared, Entry}
-use Rattle.valid.specs.Tests.{itemAt, replaced, under, above, asInt, asTuple, asPointer, isFormed, formedArgs, isEntry, labelType, lettersLeft, isFilled, noneLeft}
-use Rattle.valid.proofs.Reading.{none-some, some-inj, at-sound, at-complete, put-sound, put-complete, pops-sound, pops-complete, above-sound, above-complete, int-sound, tuple-sound, pointer-sound, formed-sound, formed-complete, args-sound, args-complete, left-sound, left-kinds, filled-sound}
+use Rattle.valid.specs.Tests.{itemAt, replaced, under, above, asInt, asTuple, asPointer, asHidden, asValue, isFormed, formedArgs, isEntry, labelType, lettersLeft, isFilled, noneLeft}
+use Rattle.valid.proofs.Reading.{none-some, some-inj, at-sound, at-complete, put-sound, put-complete, pops-sound, pops-complete, above-sound, above-complete, int-sound, tuple-sound, pointer-sound, hidden-sound, value-sound, formed-sound, formed-complete, args-sound, args-complete, left-sound, left-kinds, filled-sound}
 use Rattle.valid.proofs.Accept.{entry-sound, entry-complete}
 
 -- ---- equality (crates/types/specs/Equal.antt)
@@ -45,6 +45,14 @@ tuple-exactly τ τs = (tuple-sound τ τs, λ e. rw e)
 pub pointer-exactly : (τ : Ty value) (σ : Ty stack) → (asPointer τ ≡ some σ) ↔ (τ ≡ pointer σ)
 unfolding asPointer
 pointer-exactly τ σ = (pointer-sound τ σ, λ e. rw e)
+
+pub hidden-exactly : (τ τ′ : Ty value) → (asHidden τ ≡ some τ′) ↔ (τ ≡ hidden τ′)
+unfolding asHidden
+hidden-exactly τ τ′ = (hidden-sound τ τ′, λ e. rw e)
+
+pub value-exactly : (a : Arg) (τ : Ty value) → (asValue a ≡ some τ) ↔ (a ≡ arg value τ)
+unfolding asValue
+value-exactly a τ = (value-sound a τ, λ e. rw e)
 
 -- ---- well-formed types and arguments
 pub formed-exactly : (Δ : List Kind) (u : Use) {κ : Kind} (τ : Ty κ) → (isFormed Δ u τ ≡ true) ↔ Wf Δ u τ

@@ -3,6 +3,7 @@ use Prim.Native.Nat.{ℕ, _≤_}
 use mathlib.Core.Path.{_≡_}
 use mathlib.Core.List.{List}
 use lib.ListN.{length}
+use Rattle.syntax.specs.Syntax.{Kind}
 use Rattle.syntax.specs.Fault.{Clear}
 use Rattle.text.specs.PassOne.{passOne}
 use Rattle.types.specs.Types.{items}
@@ -27,4 +28,4 @@ pub data Decides (text : List ℕ) (n : ℕ) : Type 0 where
 
 -- "sp has at most 64 items throughout": in the types that the rules give before each of a block's instructions
 abbrev pub SpWithin : Program → Block → Type 0
-SpWithin P B = (i : ℕ) (Γ : Context) → Before P B i Γ → items (Γ .sp) ≤ 64
+SpWithin P B = (i : ℕ) (Δ : List Kind) (Γ : Context) → Before P B i Δ Γ → items (Γ .sp) ≤ 64

@@ -47,7 +47,8 @@ pub record Opens (l : ℕ) (B : Block) : Type 0 where
   pub bounded : items (B .sp) ≤ 64
   pub entry : l ≡ 0 → (n : ℕ) × Rules.Entry B n
 
--- an instruction's line: some rule types it where the types are Γ; `jmp` has its target (Figure 11), and "`halt` needs r1 of type t"
+-- an instruction's line: some rule types it where Δ is in force and the types are Γ; `jmp` has its target (Figure 11), and "`halt` needs
+-- r1 of type t"
 pub data Follows (P : Program) (Δ : List Kind) (Γ : Context) : Instr → Type 0 where
   by-rule : {x : Instr} {Γ′ : Context} → Rule P Δ Γ x Γ′ → Follows P Δ Γ x
   by-target : {v : Operand} → Target P Δ Γ v → Follows P Δ Γ (jmp v)
@@ -63,9 +64,9 @@ pub data FirstFault (P : Program) : ℕ → Type 0 where
   no-block : P .blocks ≡ [] → FirstFault P (suc (length (P .types)))
   -- a block's own line
   at-block : (l : ℕ) (B : Block) → getElem? (P .blocks) l ≡ some B → TypedBefore P l → ¬ Opens l B → FirstFault P (lineOf P l)
-  -- a line of instruction x, before which the rules give the types Γ: the block's lines before it are so typed
-  at-instr : (l i : ℕ) (B : Block) (x : Instr) (Γ : Context) → getElem? (P .blocks) l ≡ some B → getElem? (B .body) i ≡ some x → TypedBefore P l → Opens l B → Before P B i Γ
-      → ¬ Follows P (B .letters) Γ x → FirstFault P (lineOf P l + suc i)
+  -- a line of instruction x, before which the rules give the letters Δ and the types Γ: the block's lines before it are so typed
+  at-instr : (l i : ℕ) (B : Block) (x : Instr) (Δ : List Kind) (Γ : Context) → getElem? (P .blocks) l ≡ some B → getElem? (B .body) i ≡ some x
+      → TypedBefore P l → Opens l B → Before P B i Δ Γ → ¬ Follows P Δ Γ x → FirstFault P (lineOf P l + suc i)
 
 -- check refuses the text with line n
 abbrev pub RefusedAt : List ℕ → ℕ → Type 0

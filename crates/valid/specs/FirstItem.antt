@@ -4,11 +4,11 @@ use Prim.Native.Nat.{ℕ, suc, _+_, _≤_, _<_}
 use mathlib.Core.Logic.{_⊎_}
 use mathlib.Core.Path.{_≡_}
 use mathlib.Core.Option.{some}
-use mathlib.Core.List.{List, [], _++_}
+use mathlib.Core.List.{List, [], _∷_, _++_}
 use lib.ListN.{getElem?}
-use Rattle.syntax.specs.Syntax.{Kind, value, stack, Base, Operand, inst, Branch, Instr, bop, jmp}
-use Rattle.types.specs.Types.{Ty, int, code, filled, WfType, Args}
-use Rattle.valid.specs.Program.{Block, Program, typeOf, argsOf}
+use Rattle.syntax.specs.Syntax.{Kind, value, stack, Base, Operand, inst, pack, Branch, Instr, bop, jmp}
+use Rattle.types.specs.Types.{Ty, int, hidden, code, arg, fill, filled, WfType, Args}
+use Rattle.valid.specs.Program.{Block, Program, typeOf, argOf, argsOf}
 use Rattle.valid.specs.Rules.{At, Context, OfBase, OfOperand, Before}
 use Rattle.valid.specs.FirstFault.{lineOf, Opens, TypedBefore}
 
@@ -33,6 +33,16 @@ pub data Names (P : Program) (Δ : List Kind) (Γ : Context) : Operand → ℕ �
       → WfType Δ (typeOf P t)
       → ¬ (filled (argsOf P ts) Δ′ σ γ′ ≡ some (typeOf P t))
       → Names P Δ Γ (inst b ts t) 99
+  -- 99 too, "a wrong filling fault 10, as an unequal resulting row" (document 02, point 3): all premises of (pack) hold but that what is
+  -- packed, which has the type τ″, has the filled type
+  wrong-filling : {a h : ℕ} {b : Base} (τ′ τ τ″ : Ty value)
+      → argOf P a ≡ arg value τ′
+      → WfType Δ τ′
+      → typeOf P h ≡ hidden τ
+      → WfType Δ (typeOf P h)
+      → OfBase P Δ (Γ .regs) b τ″
+      → ¬ (τ″ ≡ fill 0 (arg value τ′ ∷ []) τ)
+      → Names P Δ Γ (pack a b h) 99
   -- the operand has a type that is code with no variable left
   first-item : {v : Operand} (σ γ : Ty stack) {i : ℕ}
       → OfOperand P Δ (Γ .regs) v (code [] σ γ)
@@ -45,12 +55,13 @@ pub data GoesTo (Γ : Context) : Instr → Operand → Type 0 where
   by-branch : {o : Branch} {r : ℕ} {v : Operand} → At (Γ .regs) r int → GoesTo Γ (bop o r v) v
 
 -- Item i is named on the line: there stands a jump or branch, instruction k of block l; the rules type every line before it; and of its
--- target, where the types are Γ, it is the item i.
+-- target, where Δ is in force and the types are Γ, it is the item i.
 pub record NamedOn (P : Program) (line i : ℕ) : Type 0 where
   pub l : ℕ
   pub k : ℕ
   pub B : Block
   pub x : Instr
+  pub Δ : List Kind
   pub Γ : Context
   pub v : Operand
   pub the-block : getElem? (P .blocks) l ≡ some B
@@ -58,10 +69,10 @@ pub record NamedOn (P : Program) (line i : ℕ) : Type 0 where
   pub the-line : line ≡ lineOf P l + suc k
   pub typed : TypedBefore P l
   pub opens : Opens l B
-  pub before : Before P B k Γ
+  pub before : Before P B k Δ Γ
   pub goes : GoesTo Γ x v
-  pub names : Names P (B .letters) Γ v i
+  pub names : Names P Δ Γ v i
 
--- the items that there are: sp, r1 to r8, and 99 for the resulting row
+-- the items that there are: sp, r1 to r8, and 99 for the resulting row or a wrong filling
 abbrev pub IsItem : ℕ → Type 0
 IsItem i = (i ≤ 8) ⊎ (i ≡ 99)

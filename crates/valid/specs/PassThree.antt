@@ -1,5 +1,5 @@
--- Pass three (document 01, "Typing", and "Faults", 7 to 14): for each line the set of faults that stand on it. A premise fails
--- with a fault; premises side by side are all looked at, and one that reads a type waits for it: "a premise is not looked at if
+-- Pass three (document 01, "Typing", and "Faults", 7 to 14; document 02, point 3): for each line the set of faults that stand on it. A
+-- premise fails with a fault; premises side by side are all looked at, and one that reads a type waits for it: "a premise is not looked at if
 -- another fault on its line leaves it without a type to read".
 use Prim.Native.Nat.{ℕ, suc}
 use mathlib.Core.Bool.{Bool, true, false, _&&_, not, cond}
@@ -8,13 +8,13 @@ use mathlib.Core.List.{List, [], _∷_, _++_}
 use lib.Dec.{leb, ltb}
 use lib.ListN.{length, getElem?, replicate}
 use Rattle.syntax.specs.Partial.{chain}
-use Rattle.syntax.specs.Syntax.{Kind, value, stack, Base, reg, lit, lab, Operand, plain, inst, Instr, aop, bop, mov, ld, st, malloc, getsp, setsp, salloc, sfree, sld, sst, slp, ssp, jmp, halt}
+use Rattle.syntax.specs.Syntax.{Kind, value, stack, Base, reg, lit, lab, Operand, plain, inst, pack, Instr, aop, bop, mov, ld, st, malloc, getsp, setsp, salloc, sfree, sld, sst, slp, ssp, jmp, halt, unpack}
 use Rattle.syntax.specs.Fault.{Fault, fault, unfit, given, Pass}
-use Rattle.types.specs.Types.{Ty, int, tuple, pointer, code, nil, push, svar, gap, join, items, Arg, filled, aStack}
+use Rattle.types.specs.Types.{Ty, int, tuple, pointer, code, nil, push, svar, gap, join, items, Arg, arg, fill, filled, aStack}
 use Rattle.types.specs.Equal.{same}
-use Rattle.valid.specs.Program.{Block, Program, typeOf, argsOf, asCode}
-use Rattle.valid.specs.Rules.{junks, Context, withRegs, withSp, atStart}
-use Rattle.valid.specs.Tests.{itemAt, replaced, under, above, asInt, asTuple, asPointer, isFormed, formedArgs, isEntry, labelType, lettersLeft, isFilled, noneLeft}
+use Rattle.valid.specs.Program.{Block, Program, typeOf, argOf, argsOf, asCode}
+use Rattle.valid.specs.Rules.{junks, Context, withRegs, withSp, raised, lettersAfter, atStart}
+use Rattle.valid.specs.Tests.{itemAt, replaced, under, above, asInt, asTuple, asPointer, asHidden, asValue, isFormed, formedArg, formedArgs, isEntry, labelType, lettersLeft, isFilled, noneLeft}
 
 -- ---- premises
 -- what a premise gives, or the faults that stand against it, at least one
@@ -98,10 +98,20 @@ module _ (P : Program) (Δ : List Kind) where
       orFault 14 (lettersLeft θ (c .letters)) ▹ λ q.
       need unequal (isFilled (typeOf P t) (filled θ q (c .sp) (c .regs)))
 
-  -- the type of an operand; with arguments it is the resulting row's, and 7 is looked for in all its rows
+  -- what `!a:v=h` packs: "a stack row as a fault 14, another wrong form fault 9, a wrong filling fault 10, as an unequal resulting row"
+  -- (document 02, point 3); v must have what h hides, with a for its variable
+  unfoldable pub packed : Fault → Ty stack → Base → Arg → ℕ → Judged (Unit {0})
+  packed unequal g b a h =
+      (base g b & orFault 14 (asValue a) & orFault 9 (asHidden (typeOf P h))) ▹ λ z.
+      need unequal (same (z .0) (fill 0 (arg value (z .1 .0) ∷ []) (z .1 .1)))
+
+  -- the type of an operand; with arguments or packed it is the resulting row's, and 7 is looked for in all its rows
   unfoldable pub operand : Fault → Ty stack → Operand → Judged (Ty value)
   operand unequal g (plain b) = base g b
   operand unequal g (inst b ts t) = (need (fault 7) (formedArgs Δ (argsOf P ts)) & formed t & applied unequal g b (argsOf P ts) t) ▹ λ z. holds (typeOf P t)
+  operand unequal g (pack a b h) =
+      (need (fault 7) (formedArg Δ (argOf P a)) & formed h & packed unequal g b (argOf P a) h) ▹ λ z.
+      holds (typeOf P h)
 
   -- the types of the operands of `malloc`, in order
   unfoldable pub operands : Ty stack → List Operand → Judged (Ty stack)
@@ -163,12 +173,17 @@ module _ (P : Program) (Δ : List Kind) where
       assign (withSp Γ (join (z .1 .1 .0) (z .1 .1 .1))) d (pointer (z .1 .1 .1))
   judge Γ (jmp v) = targetOf Γ v ▹ λ z. holds Γ
   judge Γ (halt t) = (formed t & known (Γ .regs) 0) ▹ λ z. need (fault 10) (same (z .1) (typeOf P t)) ▹ λ y. holds Γ
+  -- "an unpack that would make the block's own and hidden variables more than 64 fault 7"
+  judge Γ (unpack d v) =
+      (need (fault 7) (ltb (length Δ) 64) & (operand (fault 10) (Γ .regs) v ▹ λ t. orFault 9 (asHidden t))) ▹ λ z.
+      assign (raised Γ) d (z .1)
 
-  -- a block's instruction lines; behind a line with a fault there are no types, and nothing is looked at
-  unfoldable pub bodyFaults : Judged Context → List Instr → Pass
-  bodyFaults Γ [] = []
-  bodyFaults (holds Γ) (x ∷ xs) = faultsOf (judge Γ x) ∷ bodyFaults (judge Γ x) xs
-  bodyFaults (fails f fs) (x ∷ xs) = [] ∷ bodyFaults (fails f fs) xs
+-- a block's instruction lines, Δ the letters in force before the first; behind a line with a fault there are no types, and nothing is
+-- looked at
+unfoldable pub bodyFaults : Program → List Kind → Judged Context → List Instr → Pass
+bodyFaults P Δ Γ [] = []
+bodyFaults P Δ (holds Γ) (x ∷ xs) = faultsOf (judge P Δ Γ x) ∷ bodyFaults P (lettersAfter x Δ) (judge P Δ Γ x) xs
+bodyFaults P Δ (fails f fs) (x ∷ xs) = [] ∷ bodyFaults P Δ (fails f fs) xs
 
 -- ---- blocks
 -- a block's own line: 7, "entry unfit" for block 0, "sp over 64 items"

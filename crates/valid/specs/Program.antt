@@ -5,7 +5,7 @@ use mathlib.Core.List.{List, [], map, reverse}
 use lib.ListN.{getD}
 use Rattle.syntax.specs.Syntax.{Kind, value, stack, Instr, Entry}
 use Rattle.text.specs.PassOne.{Listing, entriesOf, rowsOf, listingsOf}
-use Rattle.types.specs.Types.{Ty, int, junk, var, tuple, pointer, code, nil, Arg, arg}
+use Rattle.types.specs.Types.{Ty, int, junk, var, tuple, pointer, hidden, code, nil, Arg, arg}
 use Rattle.types.specs.Rows.{typeAt, typesOf}
 
 -- a block: the letters, sp and registers of its code row, and its instructions
@@ -24,9 +24,13 @@ pub record Program : Type 0 where
 abbrev pub typeOf : Program → ℕ → Ty value
 typeOf P t = typeAt value (P .types) t
 
+-- the type of row t as an argument, of either kind
+abbrev pub argOf : Program → ℕ → Arg
+argOf P t = getD (P .types) t (arg value junk)
+
 -- the types of the rows ts as arguments, in the order of their variables
 abbrev pub argsOf : Program → List ℕ → List Arg
-argsOf P ts = reverse (map (λ t. getD (P .types) t (arg value junk)) ts)
+argsOf P ts = reverse (map (argOf P) ts)
 
 -- the parts of a code type: its letters, its stack and its registers
 pub record CodeType : Type 0 where
@@ -41,6 +45,7 @@ asCode junk = none
 asCode (var k) = none
 asCode (tuple a) = none
 asCode (pointer a) = none
+asCode (hidden t) = none
 asCode (code q a r) = some (record { letters = q; sp = a; regs = r })
 
 -- the parts of a row's type; pass two refuses a block whose row is no code row, so what stands for its parts plays no part

@@ -1,10 +1,10 @@
--- The typing rules (Figures 10 to 12), each under the paper's name, with the bounds of document 01 ("Typing").
+-- The typing rules (Figures 10 to 12), each under the paper's name, with the bounds of document 01 ("Typing") and of document 02, point 3.
 --
 -- Letters: τ a value type, σ a stack type, Γ a context, Δ the letters of the variables in force, t a row. γ is a register file: the paper's
 -- Γ without sp. σ₁ of the paper's rules is `Γ .sp`; the other stack types have the rule's numbers. Stack types are lists of items, so where
 -- the paper says that two are equal this says `≡`, and @ is `join`. A premise `Put ..` is the paper's Γ{r : τ}, which stands in its conclusion.
 --
--- | The paper's rule | Here | Left out | Document 01 adds |
+-- | The paper's rule | Here | Left out | Documents 01 and 02 add |
 -- |---|---|---|---|
 -- | Figure 10 | | | |
 -- | (type) | `WfType` (types/specs/Types.antt) | | a variable is of its letter in Δ |
@@ -23,8 +23,8 @@
 -- | (ns) (ptr) | none: no operand is junk or a stack height; words are (crate sound) | | |
 -- | (reg) | `⊢reg` | | a register may be unknown, and then has no type |
 -- | (tapp) (stapp) | `⊢tapp` | v with arguments of its own | all arguments at once; row t is well-formed and equals the filled type |
--- | (pack) | none | existential types (document 02) | |
--- | (seq) | `⊢seq` | Δ′: no instruction here changes Δ | |
+-- | (pack) | `⊢pack` | v with arguments of its own, or packed | ∃α.τ is row h, which is well-formed |
+-- | (seq) | `⊢seq`; Δ′ is `lettersAfter` | | |
 -- | (jmp) | `⊢jmp`, `Target` | | |
 -- | (halt) | `⊢halt` | | τ is row t, which is well-formed |
 -- | Figure 12 | | | |
@@ -33,7 +33,7 @@
 -- | (ld) | `⊢ld`; 0 ≤ i < n by `At τs i τᵢ` | | |
 -- | (malloc) | `⊢malloc` | | row t is well-formed and equals the tuple's type |
 -- | (mov) | `⊢mov` | | |
--- | (unpack) | none | existential types (document 02) | |
+-- | (unpack) | `⊢unpack`; α is variable 0, so Γ is `raised` | | Δ′ has at most 64 variables |
 -- | (get-sp) | `⊢get-sp`, of `getsp` | | row t is well-formed and equals ptr(σ) |
 -- | (set-sp) | `⊢set-sp`, of `setsp` | | |
 -- | (salloc) | `⊢salloc` | | junk, `N`, for the paper's ⊤; sp has at most 64 items |
@@ -48,10 +48,10 @@ use Prim.Native.Nat.{ℕ, zero, suc, _≤_}
 use mathlib.Core.Path.{_≡_}
 use mathlib.Core.Option.{some}
 use mathlib.Core.List.{List, [], _∷_, _++_}
-use lib.ListN.{getElem?}
-use Rattle.syntax.specs.Syntax.{Kind, value, stack, Base, reg, lit, lab, Operand, plain, inst, Arith, Branch, Instr, aop, bop, mov, ld, st, malloc, getsp, setsp, salloc, sfree, sld, sst, slp, ssp, jmp, halt}
-use Rattle.types.specs.Types.{Ty, int, junk, var, tuple, pointer, code, nil, push, svar, gap, join, items, filled, WfType, Args}
-use Rattle.valid.specs.Program.{Block, Program, typeOf, argsOf}
+use lib.ListN.{length, getElem?}
+use Rattle.syntax.specs.Syntax.{Kind, value, stack, Base, reg, lit, lab, Operand, plain, inst, pack, Arith, Branch, Instr, aop, bop, mov, ld, st, malloc, getsp, setsp, salloc, sfree, sld, sst, slp, ssp, jmp, halt, unpack}
+use Rattle.types.specs.Types.{Ty, int, junk, var, tuple, pointer, hidden, code, nil, push, svar, gap, join, items, raise, arg, fill, filled, WfType, Args}
+use Rattle.valid.specs.Program.{Block, Program, typeOf, argOf, argsOf}
 
 -- ---- lists of items
 -- Item i of the list is τ, and those above it are value types: τ is τᵢ of a stack τ₀ :: … :: τᵢ :: σ and of ⟨τ₀, …, τₙ₋₁⟩, or Γ(r) of a
@@ -91,6 +91,10 @@ withRegs Γ γ = record { sp = Γ .sp; regs = γ }
 abbrev pub withSp : Context → Ty stack → Context
 withSp Γ σ = record { sp = σ; regs = Γ .regs }
 
+-- Γ under one variable more: "types held until then count one further outward" (document 02, point 3)
+abbrev pub raised : Context → Context
+raised Γ = record { sp = raise 1 (Γ .sp); regs = raise 1 (Γ .regs) }
+
 -- P gives the types of the rows and, by its blocks, Ψ.
 module _ (P : Program) (Δ : List Kind) where
   -- ---- operands, Ψ; Δ; Γ ⊢ v : τ (Figure 11)
@@ -109,7 +113,7 @@ module _ (P : Program) (Δ : List Kind) where
         -- ────────────────────
         → OfBase γ (lab l) (code (B .letters) (B .sp) (B .regs))
 
-  -- with arguments or without
+  -- with arguments, packed, or neither
   pub data OfOperand (γ : Ty stack) : Operand → Ty value → Type 0 where
     ⊢plain : {b : Base} {τ : Ty value} → OfBase γ b τ → OfOperand γ (plain b) τ
     -- (tapp), (stapp), all arguments at once: they fill the letters Δ₁, which stand behind those left, Δ′ (`filled`)
@@ -120,6 +124,15 @@ module _ (P : Program) (Δ : List Kind) where
         → filled (argsOf P ts) Δ′ σ γ′ ≡ some (typeOf P t)
         -- ────────────────────
         → OfOperand γ (inst b ts t) (typeOf P t)
+    -- (pack): `!a:v=h`; v has τ[τ′/α], τ′ being row a, a value type, and ∃α.τ row h
+    ⊢pack : {a h : ℕ} {b : Base} (τ′ τ : Ty value)
+        → argOf P a ≡ arg value τ′
+        → WfType Δ τ′
+        → typeOf P h ≡ hidden τ
+        → WfType Δ (typeOf P h)
+        → OfBase γ b (fill 0 (arg value τ′ ∷ []) τ)
+        -- ────────────────────
+        → OfOperand γ (pack a b h) (typeOf P h)
 
   -- vᵢ : τᵢ, one by one; the last list is ⟨τ₁, …, τₙ⟩'s
   pub data OfOperands (γ : Ty stack) : List Operand → Ty stack → Type 0 where
@@ -142,7 +155,7 @@ module _ (P : Program) (Δ : List Kind) where
         -- ────────────────────
         → Target Γ v
 
-  -- ---- instructions, Ψ; Δ; Γ ⊢ ι ⇒ Δ; Γ′ (Figure 12)
+  -- ---- instructions, Ψ; Δ; Γ ⊢ ι ⇒ Δ′; Γ′ (Figure 12), where Δ′ is `lettersAfter ι Δ`
   -- the types after an instruction, by the types before it: one rule for each but `jmp` and `halt`
   pub data Rule (Γ : Context) : Instr → Context → Type 0 where
     -- (aop)
@@ -242,41 +255,69 @@ module _ (P : Program) (Δ : List Kind) where
         → At (Γ .regs) s τᵢ
         -- ────────────────────
         → Rule Γ (st d i s) Γ
+    -- (unpack): "After an unpack the hidden type is variable 0 for the rest of the block", and the block's own and hidden variables
+    -- are at most 64
+    ⊢unpack : {d : ℕ} {v : Operand} {τ : Ty value} {γ′ : Ty stack}
+        → suc (length Δ) ≤ 64
+        → OfOperand (Γ .regs) v (hidden τ)
+        → Put (raise 1 (Γ .regs)) d τ γ′
+        -- ────────────────────
+        → Rule Γ (unpack d v) (withRegs (raised Γ) γ′)
 
-  -- ---- sequences, Ψ; Δ; Γ ⊢ I (Figure 11)
-  -- a block's instructions, up to its `jmp` or `halt`
-  pub data Seq : Context → List Instr → Type 0 where
-    -- (seq)
-    ⊢seq : {Γ Γ′ : Context} {x : Instr} {xs : List Instr}
-        → Rule Γ x Γ′
-        → Seq Γ′ xs
-        -- ────────────────────
-        → Seq Γ (x ∷ xs)
-    -- (jmp)
-    ⊢jmp : {Γ : Context} {v : Operand}
-        → Target Γ v
-        -- ────────────────────
-        → Seq Γ (jmp v ∷ [])
-    -- (halt): r1 is register 0
-    ⊢halt : {Γ : Context} {t : ℕ}
-        → At (Γ .regs) 0 (typeOf P t)
-        → WfType Δ (typeOf P t)
-        -- ────────────────────
-        → Seq Γ (halt t ∷ [])
+-- Δ′, the letters in force after an instruction: α, Δ after an `unpack`
+abbrev pub lettersAfter : Instr → List Kind → List Kind
+lettersAfter (aop o d s v) Δ = Δ
+lettersAfter (bop o r v) Δ = Δ
+lettersAfter (mov d v) Δ = Δ
+lettersAfter (ld d s i) Δ = Δ
+lettersAfter (st d i s) Δ = Δ
+lettersAfter (malloc d t vs) Δ = Δ
+lettersAfter (getsp d t) Δ = Δ
+lettersAfter (setsp s) Δ = Δ
+lettersAfter (salloc n) Δ = Δ
+lettersAfter (sfree n) Δ = Δ
+lettersAfter (sld d i) Δ = Δ
+lettersAfter (sst i s) Δ = Δ
+lettersAfter (slp d s i) Δ = Δ
+lettersAfter (ssp d i s t) Δ = Δ
+lettersAfter (jmp v) Δ = Δ
+lettersAfter (halt t) Δ = Δ
+lettersAfter (unpack d v) Δ = value ∷ Δ
+
+-- ---- sequences, Ψ; Δ; Γ ⊢ I (Figure 11)
+-- a block's instructions, up to its `jmp` or `halt`
+pub data Seq (P : Program) : List Kind → Context → List Instr → Type 0 where
+  -- (seq)
+  ⊢seq : {Δ : List Kind} {Γ Γ′ : Context} {x : Instr} {xs : List Instr}
+      → Rule P Δ Γ x Γ′
+      → Seq P (lettersAfter x Δ) Γ′ xs
+      -- ────────────────────
+      → Seq P Δ Γ (x ∷ xs)
+  -- (jmp)
+  ⊢jmp : {Δ : List Kind} {Γ : Context} {v : Operand}
+      → Target P Δ Γ v
+      -- ────────────────────
+      → Seq P Δ Γ (jmp v ∷ [])
+  -- (halt): r1 is register 0
+  ⊢halt : {Δ : List Kind} {Γ : Context} {t : ℕ}
+      → At (Γ .regs) 0 (typeOf P t)
+      → WfType Δ (typeOf P t)
+      -- ────────────────────
+      → Seq P Δ Γ (halt t ∷ [])
 
 -- the types at a block's start
 abbrev pub atStart : Block → Context
 atStart B = record { sp = B .sp; regs = B .regs }
 
--- Γ are the types before the block's instruction i: the start's, then by one rule for each instruction
-pub data Before (P : Program) (B : Block) : ℕ → Context → Type 0 where
-  start : Before P B 0 (atStart B)
-  next : {i : ℕ} {Γ Γ′ : Context} {x : Instr}
-      → Before P B i Γ
+-- Δ are the letters in force and Γ the types before the block's instruction i: the start's, then by one rule for each instruction
+pub data Before (P : Program) (B : Block) : ℕ → List Kind → Context → Type 0 where
+  start : Before P B 0 (B .letters) (atStart B)
+  next : {i : ℕ} {Δ : List Kind} {Γ Γ′ : Context} {x : Instr}
+      → Before P B i Δ Γ
       → getElem? (B .body) i ≡ some x
-      → Rule P (B .letters) Γ x Γ′
+      → Rule P Δ Γ x Γ′
       -- ────────────────────
-      → Before P B (suc i) Γ′
+      → Before P B (suc i) (lettersAfter x Δ) Γ′
 
 -- (code): the block's row is closed, "sp has at most 64 items throughout, at a block's start too", and its instructions are typed
 pub record Code (P : Program) (B : Block) : Type 0 where
@@ -301,6 +342,7 @@ declared (push junk γ) = 0
 declared (push (var k) γ) = 0
 declared (push (tuple τs) γ) = items τs
 declared (push (pointer σ) γ) = 0
+declared (push (hidden τ) γ) = 0
 declared (push (code q σ r) γ) = 0
 declared (svar k γ) = 0
 declared (gap γ) = 0

@@ -1,6 +1,6 @@
 -- The tests of pass three, which compute. Each says what a premise of the rules says, and is proved to, both ways (proofs/Tests.antt):
 -- `itemAt` At, `replaced` Put, `under` Pops, `above` σ₁ = σ₂ @ σ₃, `isFormed` Wf, `formedArgs` and `lettersLeft` Args, `isFilled` the
--- resulting row's, `noneLeft` ∀[], `isEntry` Entry.
+-- resulting row's, `asHidden` and `asValue` those of a package's rows, `noneLeft` ∀[], `isEntry` Entry.
 use Prim.Native.Nat.{ℕ, zero, suc, _-_}
 use mathlib.Core.Bool.{Bool, true, false, _&&_, cond}
 use mathlib.Core.Option.{Option, none, some}
@@ -9,7 +9,7 @@ use lib.Dec.{leb, eqb}
 use lib.ListN.{length, getElem?, take, drop}
 use Rattle.syntax.specs.Partial.{chain, guarded}
 use Rattle.syntax.specs.Syntax.{registerCount, Kind, value, stack}
-use Rattle.types.specs.Types.{Ty, int, junk, var, tuple, pointer, code, nil, push, svar, gap, items, Arg, arg, kindOf, Use, aStack, aTuple, aFile}
+use Rattle.types.specs.Types.{Ty, int, junk, var, tuple, pointer, hidden, code, nil, push, svar, gap, items, Arg, arg, kindOf, Use, aStack, aTuple, aFile}
 use Rattle.types.specs.Equal.{same, sameLetters}
 use Rattle.valid.specs.Program.{Block, CodeType}
 use Rattle.valid.specs.Rules.{entryRegs, declared}
@@ -55,6 +55,7 @@ asInt junk = none
 asInt (var k) = none
 asInt (tuple a) = none
 asInt (pointer a) = none
+asInt (hidden t) = none
 asInt (code q a r) = none
 
 -- a tuple type's components
@@ -64,6 +65,7 @@ asTuple junk = none
 asTuple (var k) = none
 asTuple (tuple a) = some a
 asTuple (pointer a) = none
+asTuple (hidden t) = none
 asTuple (code q a r) = none
 
 -- a pointer type's stack
@@ -73,7 +75,23 @@ asPointer junk = none
 asPointer (var k) = none
 asPointer (tuple a) = none
 asPointer (pointer a) = some a
+asPointer (hidden t) = none
 asPointer (code q a r) = none
+
+-- what a package's type hides, under its binder
+unfoldable pub asHidden : Ty value → Option (Ty value)
+asHidden int = none
+asHidden junk = none
+asHidden (var k) = none
+asHidden (tuple a) = none
+asHidden (pointer a) = none
+asHidden (hidden t) = some t
+asHidden (code q a r) = none
+
+-- an argument's type, if it is a value type
+unfoldable pub asValue : Arg → Option (Ty value)
+asValue (arg value t) = some t
+asValue (arg stack a) = none
 
 -- ---- well-formed types, as a test (Wf of crate types)
 -- the letter is there, and is κ
@@ -103,6 +121,7 @@ isFormed Δ u junk = true
 isFormed Δ u (var k) = isKind value (getElem? Δ k)
 isFormed Δ u (tuple a) = isFormed Δ aTuple a
 isFormed Δ u (pointer a) = isFormed Δ aStack a
+isFormed Δ u (hidden t) = isFormed (value ∷ Δ) aStack t
 isFormed Δ u (code q a r) = isFormed (q ++ Δ) aStack a && (isFormed (q ++ Δ) aFile r && eqb (items r) registerCount)
 isFormed Δ u nil = true
 isFormed Δ u (push t a) = isFormed Δ u t && isFormed Δ u a

@@ -13,7 +13,7 @@ ghost use Rattle.valid_verdict.specs.Answers.{verdictIs};
 // With an image for small texts. No text is as long as asked first, so the call there is not reached; by it the compiler sees a function that
 // calls itself, and keeps the stack that it takes out of the calls for large texts.
 fn small(text: &[u8], hash: &mut [u32], work: &mut [u16]) -> Tried
-    requires { ⌜ (4096 ≤ length (now work)) × (2567 ≤ length (now hash)) ⌝ }
+    requires { ⌜ (8192 ≤ length (now work)) × (2567 ≤ length (now hash)) ⌝ }
     ensures { λ out. ⌜ (out .fits ≡ true → verdictIs (out .answer) ≡ check (now (text .entry))) ⌝ }
 {
     if 9223372036854775807 < text.len() {
@@ -27,7 +27,7 @@ fn small(text: &[u8], hash: &mut [u32], work: &mut [u16]) -> Tried
 // With an image for every text. The last call is not reached; by it the compiler sees a function that calls itself, and keeps it, and the
 // stack that it takes, out of the calls for small texts.
 fn large(text: &[u8], hash: &mut [u32], work: &mut [u16]) -> Answer
-    requires { ⌜ (4096 ≤ length (now work)) × (2567 ≤ length (now hash)) ⌝ }
+    requires { ⌜ (8192 ≤ length (now work)) × (2567 ≤ length (now hash)) ⌝ }
     ensures { λ out. ⌜ verdictIs out ≡ check (now (text .entry)) ⌝ }
 {
     let mut image = [0u16; 161694];
@@ -44,7 +44,7 @@ pub fn check(text: &[u8]) -> Answer
     ensures { λ out. ⌜ verdictIs out ≡ check (now (text .entry)) ⌝ }
 {
     let mut hash = [0u32; 2567];
-    let mut work = [0u16; 4096];
+    let mut work = [0u16; 8192];
     if 2048 < text.len() {
         return large(text, &mut hash, &mut work);
     }

@@ -55,11 +55,11 @@ fn third_pass(
     work: &mut [u16],
     pending: &mut [u32],
 ) -> Finding
-    requires { ⌜ Tabled p (now image) (c .rows) × BlocksWithin p (now image) (now numbers) c × (4096 ≤ length (now work)) × (1543 ≤ length (now pending)) ⌝ }
+    requires { ⌜ Tabled p (now image) (c .rows) × BlocksWithin p (now image) (now numbers) c × (8192 ≤ length (now work)) × (1543 ≤ length (now pending)) ⌝ }
     ensures { λ out. ⌜ ((P : Program) → HoldsAt p (now (image .entry)) c P → P .blocks ≡ blocksOf (typesOf (rowsIn (rowTable p (now (image .entry))) (c .rows))) (blocksIn p (now (image .entry)) (now (numbers .entry)) c) → refusalSaid out ≡ lowestLine 0 (passThree P)) ⌝ }
 {
-    let mut regs = [0u16; 8];
-    let mut sp = [0u16; 64];
+    let mut regs = [0u16; 16];
+    let mut sp = [0u16; 128];
     valid_pass_three::pass_three(image, numbers, p, c, &mut regs, &mut sp, work, pending)
 }
 
@@ -72,7 +72,7 @@ pub(crate) fn check_in(
     hash: &mut [u32],
     work: &mut [u16],
 ) -> Tried
-    requires { ⌜ (4096 ≤ length (now work)) × (2567 ≤ length (now hash)) ⌝ }
+    requires { ⌜ (8192 ≤ length (now work)) × (2567 ≤ length (now hash)) ⌝ }
     ensures { λ out. ⌜ Fitting (Roomy (now (image .entry)) (now (numbers .entry))) (out .fits) (verdictIs (out .answer) ≡ check (now (text .entry))) ⌝ }
 {
     let r = load::load(text, image, numbers);

@@ -1,3 +1,5 @@
+pub mod Cells
+pub mod Raising
 pub mod Regs
 pub mod Sp
 pub mod Told

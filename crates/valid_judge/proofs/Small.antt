@@ -32,35 +32,35 @@ SmallForm (Push t x) = Unit
 SmallForm (Join x y) = Unit
 
 module _ (rows parts : List ℕ) (n : ℕ) (y : Ready rows parts n) (s : (r : ℕ) → r < n → SmallRow (rowAt (tab rows parts) r)) where
-  var-small : (r : ℕ) → cell 4 rows r 0 ≡ 7 → SmallRow (rowAt (tab rows parts) r) → cell 4 rows r 1 < 64
+  var-small : (r : ℕ) → cell 4 rows r 0 ≡ 8 → SmallRow (rowAt (tab rows parts) r) → cell 4 rows r 1 < 64
   unfolding rowAt rowFrom
   var-small r e h = rw e at h
 
   -- the two made rows are no variables
-  var-low : (r : ℕ) → r < n + 2 → cell 4 rows r 0 ≡ 7 → r < n
+  var-low : (r : ℕ) → r < n + 2 → cell 4 rows r 0 ≡ 8 → r < n
   var-low r l e = go (ltb r n) (eqb r n) refl refl
     where
       go : (a b : Bool) → ltb r n ≡ a → eqb r n ≡ b → r < n
       go true b p q = ltb-true r n p
       go false true p q =
-          let z : _≡_ {A = ℕ} 0 7 = sym (y .int-row) ∙ ap (λ (x : ℕ). cell 4 rows x 0) (sym (eqb-true r n q)) ∙ e in
+          let z : _≡_ {A = ℕ} 0 8 = sym (y .int-row) ∙ ap (λ (x : ℕ). cell 4 rows x 0) (sym (eqb-true r n q)) ∙ e in
           absurd (omega arith)
       go false false p q =
           let g = ltb-false r n p in
           let h = eqb-false r n q in
           let i : n + 1 ≡ r = omega arith in
-          let z : _≡_ {A = ℕ} 1 7 = sym (y .junk-row) ∙ ap (λ (x : ℕ). cell 4 rows x 0) i ∙ e in
+          let z : _≡_ {A = ℕ} 1 8 = sym (y .junk-row) ∙ ap (λ (x : ℕ). cell 4 rows x 0) i ∙ e in
           absurd (omega arith)
 
   small-form : (h : ℕ) → h ≤ n + 2 → SmallForm (stackAt rows StkVar h)
   unfolding stackWith
   small-form zero l = tt
-  small-form (suc r) l = go (ltb (cell 4 rows r 0) 7) (eqb (cell 4 rows r 0) 7) (eqb (cell 4 rows r 0) 8) refl
+  small-form (suc r) l = go (ltb (cell 4 rows r 0) 8) (eqb (cell 4 rows r 0) 8) (eqb (cell 4 rows r 0) 9) refl
     where
-      go : (a b c : Bool) → eqb (cell 4 rows r 0) 7 ≡ b → SmallForm (cond a Nil (cond b (StkVar (cell 4 rows r 1)) (cond c (Push (lower (suc r) (cell 4 rows r 1)) (lower (suc r) (cell 4 rows r 2))) (Join (lower (suc r) (cell 4 rows r 1)) (lower (suc r) (cell 4 rows r 2))))))
+      go : (a b c : Bool) → eqb (cell 4 rows r 0) 8 ≡ b → SmallForm (cond a Nil (cond b (StkVar (cell 4 rows r 1)) (cond c (Push (lower (suc r) (cell 4 rows r 1)) (lower (suc r) (cell 4 rows r 2))) (Join (lower (suc r) (cell 4 rows r 1)) (lower (suc r) (cell 4 rows r 2))))))
       go true b c e = tt
       go false true c e =
-          let q = eqb-true (cell 4 rows r 0) 7 e in
+          let q = eqb-true (cell 4 rows r 0) 8 e in
           let h = var-small r q (s r (var-low r (omega arith) q)) in
           omega arith
       go false false true e = tt
@@ -79,12 +79,12 @@ module _ (rows parts : List ℕ) (n : ℕ) (y : Ready rows parts n) (s : (r : �
       subst SmallVars (sym (stack-is (tab rows parts) h)) (build-small h (stackAt rows StkVar h) (lowS-at rows h) (small-form h l) (λ x i. small-to m x (omega arith) (omega arith)))
 
   -- the two made rows have no items
-  made-none : (r : ℕ) → cell 4 rows r 0 < 7 → items (meanS (tab rows parts) (suc r)) ≡ 0
-  made-none r e = ap items (stack-is (tab rows parts) (suc r) ∙ ap (buildS (meanV (tab rows parts)) (meanS (tab rows parts))) (form (ltb (cell 4 rows r 0) 7) refl)) ∙ unfold items in refl
+  made-none : (r : ℕ) → cell 4 rows r 0 < 8 → items (meanS (tab rows parts) (suc r)) ≡ 0
+  made-none r e = ap items (stack-is (tab rows parts) (suc r) ∙ ap (buildS (meanV (tab rows parts)) (meanS (tab rows parts))) (form (ltb (cell 4 rows r 0) 8) refl)) ∙ unfold items in refl
     where
-      form : (b : Bool) → ltb (cell 4 rows r 0) 7 ≡ b → stackAt rows StkVar (suc r) ≡ Nil
+      form : (b : Bool) → ltb (cell 4 rows r 0) 8 ≡ b → stackAt rows StkVar (suc r) ≡ Nil
       form true q = unfold stackWith in rw q
-      form false q = let g = ltb-false (cell 4 rows r 0) 7 q in absurd (omega arith)
+      form false q = let g = ltb-false (cell 4 rows r 0) 8 q in absurd (omega arith)
 
   few : ((x : ℕ) → x ≤ n → items (meanS (tab rows parts) x) ≤ 4096) → (x : ℕ) → x ≤ n + 2 → items (meanS (tab rows parts) x) ≤ 4096
   few f x l = go (ltb n x) (eqb x (n + 1)) refl refl

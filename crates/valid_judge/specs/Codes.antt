@@ -9,7 +9,7 @@ use Rattle.image.specs.declared.Places.{Places}
 use Rattle.image.specs.Sections.{instrSection}
 use Rattle.valid_judge.specs.declared.InstrForm.{InstrForm}
 
--- 0 to 9, `malloc` and `jmp` have operands
+-- 0 to 9, `malloc` and `jmp` have operands; `unpack` is judged apart
 pub record OperandCode (b : Bool) (k : ℕ) : Type 0 where
   pub has : b ≡ true → (k < 10) ⊎ ((k ≡ 12) ⊎ (k ≡ 21))
   pub lacks : b ≡ false → (10 ≤ k) × (k ≡ 12 → ⊥) × (k ≡ 21 → ⊥)
@@ -25,12 +25,18 @@ pub record OperandForm (p : Places) (image : List ℕ) (x : InstrForm) : Type 0 
   pub code : x .code ≡ cell 8 (instrSection p image) (x .at) 0
   pub which : (x .code < 10) ⊎ ((x .code ≡ 12) ⊎ (x .code ≡ 21))
 
--- an instruction without
+-- an instruction without, and not `unpack`
 pub record PlainForm (p : Places) (image : List ℕ) (x : InstrForm) : Type 0 where
   pub code : x .code ≡ cell 8 (instrSection p image) (x .at) 0
   pub from : 10 ≤ x .code
   pub no-malloc : x .code ≡ 12 → ⊥
   pub no-jump : x .code ≡ 21 → ⊥
+  pub no-unpack : x .code ≡ 23 → ⊥
+
+-- `unpack`
+pub record OpenForm (p : Places) (image : List ℕ) (x : InstrForm) : Type 0 where
+  pub code : x .code ≡ cell 8 (instrSection p image) (x .at) 0
+  pub is : x .code ≡ 23
 
 -- arithmetic, `mov` or `malloc`
 pub record ValueForm (p : Places) (image : List ℕ) (x : InstrForm) : Type 0 where
@@ -49,6 +55,7 @@ pub record HeapForm (p : Places) (image : List ℕ) (x : InstrForm) : Type 0 whe
   pub code : x .code ≡ cell 8 (instrSection p image) (x .at) 0
   pub from : 10 ≤ x .code
   pub halt : 12 ≤ x .code → 22 ≤ x .code
+  pub no-unpack : x .code ≡ 23 → ⊥
 
 -- `getsp`, `setsp`, `salloc` or `sfree`
 pub record SpForm (p : Places) (image : List ℕ) (x : InstrForm) : Type 0 where

@@ -6,18 +6,20 @@ use crate::codes::entry;
 use crate::stack::Moved;
 use crate::through::PointerStore;
 use image::Places;
-use valid_typing::BlockLetters;
+use valid_scope::BlockLetters;
 ghost use Prim.Native.Nat.{_≤_};
-ghost use lib.ListN.{length};
 ghost use Rattle.tables.specs.Tables.{OperandTable, instrAt};
 ghost use Rattle.image.specs.Sections.{instrSection};
 ghost use Rattle.valid_typing.specs.Image.{Prepared, lettersIn};
 ghost use Rattle.valid_judge.specs.Codes.{HeapForm, SpForm, ItemForm};
-ghost use Rattle.valid_judge.specs.Image.{Flattens, Held, HeldItems, InRegsAt, InStackAt};
+ghost use Rattle.valid_judge.specs.heap.Forms.{KeptRegs};
+ghost use Rattle.valid_judge.specs.stack.Forms.{Kept};
+ghost use Rattle.valid_judge.specs.Image.{Roomy, Flattens, Rooms, InRegsAt, InStackAt};
 
-// ld 10, st 11, halt from 22 on
+// ld 10, st 11, halt 22 and from 24 on
 pub(crate) fn heap_form(
     image: &[u16],
+    envs: &[u16],
     p: Places,
     n: usize,
     x: InstrForm,
@@ -25,8 +27,8 @@ pub(crate) fn heap_form(
     regs: &mut [u16],
     pending: &mut [u32],
 ) -> usize
-    requires { ⌜ Prepared p (now image) n (now pending) × (8 ≤ length (now regs)) × HeapForm p (now image) x ⌝ }
-    ensures { λ out. ⌜ ((ω : OperandTable) → InRegsAt p (now (image .entry)) n (lettersIn p (now (image .entry)) w) (now (regs .entry)) (now (regs .exit)) out (instrAt (instrSection p (now (image .entry))) ω (x .at))) ⌝ }
+    requires { ⌜ Prepared p (now image) n (now pending) × Roomy (now envs) (now regs) × HeapForm p (now image) x ⌝ }
+    ensures { λ out. ⌜ ((ω : OperandTable) → InRegsAt p (now (image .entry)) n (now (envs .entry)) (lettersIn p (now (image .entry)) w) (now (regs .entry)) (now (regs .exit)) out (instrAt (instrSection p (now (image .entry))) ω (x .at))) × KeptRegs (now (envs .entry)) (now (regs .entry)) (now (regs .exit)) ⌝ }
 {
     let from = p.instrs;
     let to = p.parts;
@@ -40,17 +42,18 @@ pub(crate) fn heap_form(
     let b = entry(instrs, x.at, 2);
     let c = entry(instrs, x.at, 3);
     if x.code == 10 {
-        return crate::heap::load(rows, parts, n, regs, a, b, c);
+        return crate::heap::load(rows, parts, envs, n, regs, a, b, c);
     }
     if x.code == 11 {
-        return crate::heap::store(rows, parts, n, regs, a, b, c, pending);
+        return crate::heap::store(rows, parts, envs, n, regs, a, b, c, pending);
     }
-    crate::heap::stop(image, p, n, regs, a, w, pending)
+    crate::heap::stop(image, envs, p, n, regs, a, w, pending)
 }
 
 // getsp 13, setsp 14, salloc 15, sfree 16
 pub(crate) fn sp_form(
     image: &[u16],
+    envs: &[u16],
     p: Places,
     n: usize,
     x: InstrForm,
@@ -60,8 +63,8 @@ pub(crate) fn sp_form(
     depth: usize,
     pending: &mut [u32],
 ) -> Moved
-    requires { ⌜ Prepared p (now image) n (now pending) × Held (now regs) (now sp) depth × SpForm p (now image) x ⌝ }
-    ensures { λ out. ⌜ ((ω : OperandTable) → InStackAt p (now (image .entry)) n (lettersIn p (now (image .entry)) w) (now (regs .entry)) (now (sp .entry)) depth (now (regs .exit)) (now (sp .exit)) (out .depth) (out .fault) (instrAt (instrSection p (now (image .entry))) ω (x .at))) × (out .depth ≤ 64) ⌝ }
+    requires { ⌜ Prepared p (now image) n (now pending) × Rooms (now envs) (now regs) (now sp) depth × SpForm p (now image) x ⌝ }
+    ensures { λ out. ⌜ ((ω : OperandTable) → InStackAt p (now (image .entry)) n (now (envs .entry)) (lettersIn p (now (image .entry)) w) (now (regs .entry)) (now (sp .entry)) depth (now (regs .exit)) (now (sp .exit)) (out .depth) (out .fault) (instrAt (instrSection p (now (image .entry))) ω (x .at))) × (out .depth ≤ 64) × Kept (now (envs .entry)) (now (regs .entry)) (now (sp .entry)) depth (now (regs .exit)) (now (sp .exit)) (out .depth) ⌝ }
 {
     let from = p.instrs;
     let to = p.parts;
@@ -72,12 +75,13 @@ pub(crate) fn sp_form(
     let a = entry(instrs, x.at, 1);
     let b = entry(instrs, x.at, 2);
     if x.code == 13 {
-        let f = crate::stack::get_sp(image, p, n, w, regs, sp, depth, a, b, pending);
+        let f = crate::stack::get_sp(image, envs, p, n, w, regs, sp, depth, a, b, pending);
         return Moved { fault: f, depth };
     }
     if x.code == 14 {
         let rows = &image[shared..slots];
-        return crate::stack::set_sp(rows, &image[slots..end], n, regs, sp, depth, a, pending);
+        let parts = &image[slots..end];
+        return crate::stack::set_sp(rows, parts, envs, n, regs, sp, depth, a, pending);
     }
     if x.code == 15 {
         return crate::stack::allocate(n, sp, depth, a);
@@ -88,6 +92,7 @@ pub(crate) fn sp_form(
 // sld 17, sst 18, slp 19, ssp 20
 pub(crate) fn item_form(
     image: &[u16],
+    envs: &[u16],
     p: Places,
     n: usize,
     x: InstrForm,
@@ -98,8 +103,8 @@ pub(crate) fn item_form(
     m: usize,
     pending: &mut [u32],
 ) -> usize
-    requires { ⌜ Prepared p (now image) n (now pending) × Flattens p (now image) n (now work) × HeldItems (now regs) (now sp) m × ItemForm p (now image) x ⌝ }
-    ensures { λ out. ⌜ ((ω : OperandTable) → InStackAt p (now (image .entry)) n (lettersIn p (now (image .entry)) w) (now (regs .entry)) (now (sp .entry)) m (now (regs .exit)) (now (sp .exit)) m out (instrAt (instrSection p (now (image .entry))) ω (x .at))) ⌝ }
+    requires { ⌜ Prepared p (now image) n (now pending) × Flattens p (now image) n (now work) × Rooms (now envs) (now regs) (now sp) m × ItemForm p (now image) x ⌝ }
+    ensures { λ out. ⌜ ((ω : OperandTable) → InStackAt p (now (image .entry)) n (now (envs .entry)) (lettersIn p (now (image .entry)) w) (now (regs .entry)) (now (sp .entry)) m (now (regs .exit)) (now (sp .exit)) m out (instrAt (instrSection p (now (image .entry))) ω (x .at))) × Kept (now (envs .entry)) (now (regs .entry)) (now (sp .entry)) m (now (regs .exit)) (now (sp .exit)) m ⌝ }
 {
     let from = p.instrs;
     let to = p.parts;
@@ -119,7 +124,7 @@ pub(crate) fn item_form(
     if x.code == 19 {
         let rows = &image[shared..slots];
         let parts = &image[slots..end];
-        return crate::through::load_through(rows, parts, n, regs, sp, m, a, b, c, pending);
+        return crate::through::load_through(rows, parts, envs, n, regs, sp, m, a, b, c, pending);
     }
     let t = entry(instrs, x.at, 4);
     let y = PointerStore {
@@ -128,5 +133,5 @@ pub(crate) fn item_form(
         source: c,
         row: t,
     };
-    crate::through::store_through(image, p, n, regs, sp, work, m, y, w, pending)
+    crate::through::store_through(image, envs, p, n, regs, sp, work, m, y, w, pending)
 }

@@ -23,7 +23,7 @@ use Rattle.valid.specs.PassThree.{holds, bodyFaults, blockFaults, blocksFaults,
 use Rattle.valid.proofs.Clear.{clear-replicate}
 use Rattle.valid.proofs.Bare.{item-block}
 use Rattle.valid.proofs.Order.{body-of}
-use Rattle.types_rows.specs.Read.{tab, lower, valueAt, placeV, meanS}
+use Rattle.types_rows.specs.Read.{tab, lower, lift, valueAt, placeV, meanS}
 use Rattle.types_rows.specs.declared.Val.{Val}
 use Rattle.types_rows.specs.declared.Val.the-variants.{Code}
 use Rattle.valid_scope.specs.entry.Entry.{blockAt}
@@ -178,7 +178,7 @@ module _ (P : Program) (T : List Arg) (β ι : List ℕ) (ω : OperandTable) (ni
   no-block c t e z = unitem 8 (n + 1) (λ w. omega arith) ∙ sym (no-line c t (e ∙ none-there z))
 
 -- ---- a block of a code row
-module _ (rows parts : List ℕ) (n c h : ℕ) {v : Val} {x p : ℕ} (e : h ≡ lower (n + 1) c) (f : v ≡ valueAt rows (placeV 0 0 0) h) (q : v ≡ Code x p) where
+module _ (rows parts : List ℕ) (n c h : ℕ) {v : Val} {x p : ℕ} (e : h ≡ lower (n + 1) c) (f : v ≡ valueAt rows (placeV 0 (lift 0) 0) h) (q : v ≡ Code x p) where
   no-thirteen : (a b d : List Fault) → (a ++ b) ++ d ≡ [] → d ≡ []
   no-thirteen a b d w = append-eq-nil-iff {p = a ++ b} {q = d} .0 w .1
 

@@ -36,14 +36,14 @@ larger-b a b h = rw (lt-ltb a b h) refl
 pub larger-a : (a b : ℕ) → b ≤ a → a ≡ cond (ltb a b) b a
 larger-a a b h = rw (le-ltb a b h) refl
 
-pub limit-value : (c bound : ℕ) → c ≡ 2 → 64 ≡ cond (eqb c 2) 64 (cond (eqb c 7) 64 bound)
+pub limit-value : (c bound : ℕ) → c ≡ 2 → 64 ≡ cond (eqb c 2) 64 (cond (eqb c 8) 64 bound)
 limit-value c bound e = rw (eq-eqb c 2 e) refl
 
-pub limit-stack : (c bound : ℕ) → (c ≡ 2 → ⊥) → c ≡ 7 → 64 ≡ cond (eqb c 2) 64 (cond (eqb c 7) 64 bound)
-limit-stack c bound p e = rw (ne-eqb c 2 p, eq-eqb c 7 e) refl
+pub limit-stack : (c bound : ℕ) → (c ≡ 2 → ⊥) → c ≡ 8 → 64 ≡ cond (eqb c 2) 64 (cond (eqb c 8) 64 bound)
+limit-stack c bound p e = rw (ne-eqb c 2 p, eq-eqb c 8 e) refl
 
-pub limit-other : (c bound : ℕ) → (c ≡ 2 → ⊥) → (c ≡ 7 → ⊥) → bound ≡ cond (eqb c 2) 64 (cond (eqb c 7) 64 bound)
-limit-other c bound p q = rw (ne-eqb c 2 p, ne-eqb c 7 q) refl
+pub limit-other : (c bound : ℕ) → (c ≡ 2 → ⊥) → (c ≡ 8 → ⊥) → bound ≡ cond (eqb c 2) 64 (cond (eqb c 8) 64 bound)
+limit-other c bound p q = rw (ne-eqb c 2 p, ne-eqb c 8 q) refl
 
 -- ---- a top that is found below a bound
 top-same : (f : ℕ → ℕ) (k m : ℕ) → ((j : ℕ) → k ≤ j → f j ≡ 0) → topOf f k ≡ topOf f (m + k)
@@ -61,19 +61,19 @@ module _ (τ : RowTable) (r bound : ℕ) (uses : List ℕ) (z : Checked τ r) (f
   free-high k h = sym (type-use τ r uses k z free) ∙ row-high uses k h (rowAt τ r) (z .small)
 
   -- and none from the bound on, unless it is a variable itself
-  free-past : (c a b k : ℕ) → rowFrom (τ .parts) c a b ≡ rowAt τ r → (c ≡ 2 → ⊥) → (c ≡ 7 → ⊥) → bound ≤ k → freeIn k (rowType τ r) ≡ 0
+  free-past : (c a b k : ℕ) → rowFrom (τ .parts) c a b ≡ rowAt τ r → (c ≡ 2 → ⊥) → (c ≡ 8 → ⊥) → bound ≤ k → freeIn k (rowType τ r) ≡ 0
   free-past c a b k e p q h = sym (type-use τ r uses k z free) ∙ row-past τ r bound uses (λ t j l m. free t j l ∙ w t j l m) k h (rowAt τ r) (rw e at (no-variable (τ .parts) c a b p q)) (low τ r (rowRefs (rowAt τ r)) (z .lower) (z .sorts))
 
-  pub past-limit : (c a b limit : ℕ) → rowFrom (τ .parts) c a b ≡ rowAt τ r → limit ≡ cond (eqb c 2) 64 (cond (eqb c 7) 64 bound) → (k : ℕ) → limit ≤ k → freeIn k (rowType τ r) ≡ 0
+  pub past-limit : (c a b limit : ℕ) → rowFrom (τ .parts) c a b ≡ rowAt τ r → limit ≡ cond (eqb c 2) 64 (cond (eqb c 8) 64 bound) → (k : ℕ) → limit ≤ k → freeIn k (rowType τ r) ≡ 0
   past-limit c a b limit e l k h = go (eqb c 2) refl l
     where
-      last : (t : Bool) → eqb c 7 ≡ t → (c ≡ 2 → ⊥) → limit ≡ cond t 64 bound → freeIn k (rowType τ r) ≡ 0
+      last : (t : Bool) → eqb c 8 ≡ t → (c ≡ 2 → ⊥) → limit ≡ cond t 64 bound → freeIn k (rowType τ r) ≡ 0
       last true g p m = free-high k (omega (arith, m))
-      last false g p m = free-past c a b k e p (eqb-false c 7 g) (omega (arith, m))
+      last false g p m = free-past c a b k e p (eqb-false c 8 g) (omega (arith, m))
 
-      go : (t : Bool) → eqb c 2 ≡ t → limit ≡ cond t 64 (cond (eqb c 7) 64 bound) → freeIn k (rowType τ r) ≡ 0
+      go : (t : Bool) → eqb c 2 ≡ t → limit ≡ cond t 64 (cond (eqb c 8) 64 bound) → freeIn k (rowType τ r) ≡ 0
       go true g m = free-high k (omega (arith, m))
-      go false g m = last (eqb c 7) refl (eqb-false c 2 g) m
+      go false g m = last (eqb c 8) refl (eqb-false c 2 g) m
 
   -- the bound behind row r
   pub within-more : (top out : ℕ) → top ≡ topOf (λ k. freeIn k (rowType τ r)) 64 → out ≡ cond (ltb bound top) top bound → Within τ (suc r) out

@@ -10,8 +10,8 @@ use mathlib.Core.List.{List, [], _∷_, _++_, map, reverse}
 use lib.Dec.{eqb, ltb}
 use lib.ListN.{length, getD, getElem?, take, length-reverse}
 use borrow.Author.Tests.{not-true, eqb-true, eq-eqb, ne-eqb, ltb-true, lt-ltb, le-ltb}
-use Rattle.syntax.specs.Syntax.{Kind, value, stack, Row, rowI, rowN, rowE, rowV, rowX, rowP, rowU, rowK, rowA, rowC}
-use Rattle.types.specs.Types.{Ty, int, junk, var, tuple, pointer, code, nil, push, svar, gap, join, items, Arg, arg, ofKind, Use, aStack, aTuple, aFile}
+use Rattle.syntax.specs.Syntax.{Kind, value, stack, Row, rowI, rowN, rowE, rowV, rowX, rowP, rowH, rowU, rowK, rowA, rowC}
+use Rattle.types.specs.Types.{Ty, int, junk, var, tuple, pointer, hidden, code, nil, push, svar, gap, join, items, Arg, arg, ofKind, Use, aStack, aTuple, aFile}
 use Rattle.types.specs.Rows.{inTurn, typeAt, components, registers, meaning, typesOf, isValue, isOf, isSort, valueRow, stackRow, Ref, knownRefs, rowRefs, allBelow, allOfSort}
 use Rattle.types.proofs.Equal.{and-inv}
 use Rattle.types.proofs.Meaning.{typeIn, types-snoc, type-before, type-at}
@@ -19,7 +19,7 @@ use Rattle.valid.specs.Tests.{isStack, isFile}
 use Rattle.tables.specs.Tables.{RowTable, cell, span, codeRowAt, rowFrom, rowAt, rowsFrom, rowsIn}
 use Rattle.tables.proofs.Steps.{length-rows, row-in}
 use Rattle.types_rows.proofs.Bridge.{rows-snoc}
-use Rattle.valid_scope.specs.variables.Free.{both, fitTo, topOf, freeAs, respected, proper, freeIn, respectedIn, properIn}
+use Rattle.valid_scope.specs.variables.Free.{both, fits, fitTo, topOf, freeAs, respected, proper, freeIn, respectedIn, properIn}
 use Rattle.valid_scope.specs.variables.Uses.{useAt, partUse, partsUse, codeUse, rowUse, respectedAt, partRespected, partsRespected, rowRespected}
 use Rattle.valid_scope.specs.Scoped.{rowType, topIn, SmallVariable}
 
@@ -187,6 +187,7 @@ module _ (τ : RowTable) (r : ℕ) (uses : List ℕ) (free : (x k : ℕ) → x <
   row-use k (rowU ts) l = parts-use k (map some ts) (rw (← (known-refs ts)) l) ∙ ap (freeAs k) (sym (components-known (typesOf (rowsIn τ r)) ts))
   row-use k (rowP s) l = stack-use k s (l .0) (l .1)
   row-use k (rowC q s rs) l = rw (length-reverse q) (ap₂ both (stack-use (length q + k) s (l .0) (l .1)) (parts-use (length q + k) rs (l .2)))
+  row-use k (rowH t) l = value-use (suc k) t (l .0) (l .1)
   row-use k rowE l = refl
   row-use k (rowX j) l = sym (both-unused (cond (eqb j k) 2 0))
   row-use k (rowK t s) l = ap₂ both (value-use k t (l .0) (l .1)) (stack-use k s (l .2 .0) (l .2 .1))
@@ -242,6 +243,7 @@ module _ (τ : RowTable) (r : ℕ) (tops : List ℕ) (top : (x : ℕ) → x < r 
       (ap₂ _&&_
       (ap₂ _&&_ (stack-respected s (l .0) (l .1)) (parts-respected rs (l .2)))
       (ap (λ f. fitTo (reverse q) f (length q)) (fun-ext λ k. ap₂ both (stack-use τ r uses free k s (l .0) (l .1)) (parts-use τ r uses free k rs (l .2)))))
+  row-respected uses free (rowH t) l = ap₂ _&&_ (value-respected t (l .0) (l .1)) (ap (λ u. fits u (some value)) (value-use τ r uses free 0 t (l .0) (l .1)))
   row-respected uses free rowE l = refl
   row-respected uses free (rowX j) l = refl
   row-respected uses free (rowK t s) l = ap₂ _&&_ (value-respected t (l .0) (l .1)) (stack-respected s (l .2 .0) (l .2 .1))
@@ -266,6 +268,7 @@ row-high uses k h (rowV j) l = rw (ne-eqb j k (λ e. omega arith))
 row-high uses k h (rowU ts) l = parts-high uses k h (map some ts)
 row-high uses k h (rowP s) l = use-high uses k s h
 row-high uses k h (rowC q s rs) l = rw (use-high uses (length q + k) s (omega arith), unused-both) (parts-high uses (length q + k) (omega arith) rs)
+row-high uses k h (rowH t) l = use-high uses (suc k) t (omega arith)
 row-high uses k h rowE l = refl
 row-high uses k h (rowX j) l = rw (ne-eqb j k (λ e. omega arith))
 row-high uses k h (rowK t s) l = rw (use-high uses k t h, unused-both) (use-high uses k s h)
@@ -280,6 +283,7 @@ NoVariable (rowV j) = ⊥
 NoVariable (rowU ts) = Unit
 NoVariable (rowP s) = Unit
 NoVariable (rowC q s rs) = Unit
+NoVariable (rowH t) = Unit
 NoVariable rowE = Unit
 NoVariable (rowX j) = ⊥
 NoVariable (rowK t s) = Unit
@@ -300,6 +304,7 @@ module _ (τ : RowTable) (r bound : ℕ) (uses : List ℕ) (past : (t k : ℕ) �
   row-past k h (rowU ts) v l = parts-past k h (map some ts) (rw (← (known-refs ts)) l)
   row-past k h (rowP s) v l = past s k (l .0) h
   row-past k h (rowC q s rs) v l = rw (past s (length q + k) (l .0) (omega arith), unused-both) (parts-past (length q + k) (omega arith) rs (l .2))
+  row-past k h (rowH t) v l = past t (suc k) (l .0) (omega arith)
   row-past k h rowE v l = refl
   row-past k h (rowX j) v l = absurd v
   row-past k h (rowK t s) v l = rw (past t k (l .0) h, unused-both) (past s k (l .2 .0) h)
@@ -313,6 +318,7 @@ proper-use u w junk e = e
 proper-use u w (var j) e = e
 proper-use u w (tuple a) e = e
 proper-use u w (pointer a) e = e
+proper-use u w (hidden t) e = e
 proper-use u w (code q a r) e = e
 
 proper-join : (u : Use) (a b : Ty stack) → proper u a ≡ true → proper u b ≡ true → proper u (join a b) ≡ true
@@ -333,6 +339,7 @@ Eight (rowV j) = Unit
 Eight (rowU ts) = Unit
 Eight (rowP s) = Unit
 Eight (rowC q s rs) = length rs ≡ 8
+Eight (rowH t) = Unit
 Eight rowE = Unit
 Eight (rowX j) = Unit
 Eight (rowK t s) = Unit
@@ -375,6 +382,7 @@ module _ (A : List Arg) (h : Proper A) where
   proper-meaning (rowU ts) e = proper-components ts
   proper-meaning (rowP s) e = proper-at stack s
   proper-meaning (rowC q s rs) e = rw (proper-at stack s, proper-registers rs) (eq-eqb (items (registers A rs)) 8 (items-registers rs ∙ e))
+  proper-meaning (rowH t) e = proper-at value t
   proper-meaning rowE e = refl
   proper-meaning (rowX j) e = refl
   proper-meaning (rowK t s) e = rw (proper-at value t) (proper-at stack s)
@@ -399,21 +407,23 @@ eight-from ps k a b =
     (either Eight (eqb k 3) (rowU (span ps a b)) _ tt
     (either Eight (eqb k 4) (rowP a) _ tt
     (either Eight (eqb k 5) (codeRowAt ps a b) _ refl
-    (either Eight (eqb k 6) rowE _ tt
-    (either Eight (eqb k 7) (rowX a) _ tt
-    (either Eight (eqb k 8) (rowK a b) (rowA a b) tt tt))))))))
+    (either Eight (eqb k 6) (rowH a) _ tt
+    (either Eight (eqb k 7) rowE _ tt
+    (either Eight (eqb k 8) (rowX a) _ tt
+    (either Eight (eqb k 9) (rowK a b) (rowA a b) tt tt)))))))))
 
-pub no-variable : (ps : List ℕ) (k a b : ℕ) → (k ≡ 2 → ⊥) → (k ≡ 7 → ⊥) → NoVariable (rowFrom ps k a b)
+pub no-variable : (ps : List ℕ) (k a b : ℕ) → (k ≡ 2 → ⊥) → (k ≡ 8 → ⊥) → NoVariable (rowFrom ps k a b)
 unfolding rowFrom codeRowAt
 no-variable ps k a b p q =
-    rw (ne-eqb k 2 p, ne-eqb k 7 q)
+    rw (ne-eqb k 2 p, ne-eqb k 8 q)
     (either NoVariable (eqb k 0) rowI _ tt
     (either NoVariable (eqb k 1) rowN _ tt
     (either NoVariable (eqb k 3) (rowU (span ps a b)) _ tt
     (either NoVariable (eqb k 4) (rowP a) _ tt
     (either NoVariable (eqb k 5) (codeRowAt ps a b) _ tt
-    (either NoVariable (eqb k 6) rowE _ tt
-    (either NoVariable (eqb k 8) (rowK a b) (rowA a b) tt tt)))))))
+    (either NoVariable (eqb k 6) (rowH a) _ tt
+    (either NoVariable (eqb k 7) rowE _ tt
+    (either NoVariable (eqb k 9) (rowK a b) (rowA a b) tt tt))))))))
 
 eight-at : (τ : RowTable) (r : ℕ) → Eight (rowAt τ r)
 unfolding rowAt

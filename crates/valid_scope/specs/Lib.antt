@@ -1,3 +1,4 @@
+pub mod Letters
 pub mod Scoped
 pub mod variables
 pub mod entry

@@ -5,7 +5,7 @@ use mathlib.Core.Path.{_≡_}
 use mathlib.Core.Bool.{true, cond}
 use mathlib.Core.List.{List, map}
 use lib.ListN.{length, getD}
-use Rattle.syntax.specs.Syntax.{Row, rowI, rowN, rowE, rowV, rowX, rowP, rowU, rowK, rowA, rowC}
+use Rattle.syntax.specs.Syntax.{Row, rowI, rowN, rowE, rowV, rowX, rowP, rowH, rowU, rowK, rowA, rowC}
 use Rattle.types.specs.Types.{Arg}
 use Rattle.types.specs.Rows.{meaning, typesOf, Ref, rowRefs, allBelow, allOfSort}
 use Rattle.tables.specs.Tables.{RowTable, rowAt, rowsIn}
@@ -49,6 +49,7 @@ SmallVariable (rowV k) = k < 64
 SmallVariable (rowU ts) = Unit
 SmallVariable (rowP s) = Unit
 SmallVariable (rowC q s rs) = Unit
+SmallVariable (rowH t) = Unit
 SmallVariable rowE = Unit
 SmallVariable (rowX k) = k < 64
 SmallVariable (rowK t s) = Unit

@@ -1,6 +1,7 @@
 // A block's own line in pass three: 7 if its row has a variable that is unbound or of the wrong letter, 8 if block 0 is unfit as the
 // entry, 13 if sp has more than 64 items. Promised: the least of these faults, as `blockFaults` of crate valid has them, and the number of
 // samples that the entry declares. Asked: that the block's row is a code row (pass two), and the tables of module prepare of load.
+use crate::BlockLetters;
 use types_rows::Slot;
 use types_rows::Val;
 ghost use mathlib.Core.Path.{_≡_};
@@ -42,6 +43,7 @@ fn is_int(rows: &[u16], h: usize) -> bool
         Val::ValFill(_) => false,
         Val::Tuple(_, _) => false,
         Val::Pointer(_) => false,
+        Val::Hidden(_) => false,
         Val::Code(_, _) => false,
     }
 }
@@ -93,6 +95,7 @@ fn tuple_of_ints(rows: &[u16], parts: &[u16], t: usize) -> Samples
             count: c,
         },
         Val::Pointer(_) => no_samples(),
+        Val::Hidden(_) => no_samples(),
         Val::Code(_, _) => no_samples(),
     }
 }
@@ -181,7 +184,12 @@ pub fn block_fault(
     let Val::Code(x, p) = v else {
         return 7;
     };
-    let formed = crate::formed(rows, parts, n, uses, tops, c, 0, 0);
+    let none = BlockLetters {
+        hidden: 0,
+        count: 0,
+        start: 0,
+    };
+    let formed = crate::formed(rows, parts, n, uses, tops, c, none);
     let fit = is_fit(rows, parts, h, x, p, first);
     least_of(formed, fit, 64 < types_rows::item_count(rows, x))
 }

@@ -1,30 +1,40 @@
-// Fault 7, and a block's own line (module entry): is every variable of a row bound by the block's letters, and of its letter? Two tables
-// are filled once, each row from the rows that it names (module variables). `uses` has 64 entries a row, one for each variable: how it is
-// free in the row. `tops` has one entry a row: one more than the highest free variable, or 255 if some variable is bound inside the row by
-// a letter of the other kind. The rows before a row give a bound, past which no variable is free in them: only the variables below it are
-// looked for. The tables are sections of the image, as the rows are. Promises: `find_all` makes tables that are right for the types of the
-// rows (`Scoped`, specs/Scoped.antt), and writes nothing else; from such tables `formed` answers whether the type of a row is well-formed
-// under the letters given (`formedArg` of crate valid). Laws for callers: proofs/Callers.antt.
+// Fault 7, and a block's own line (module entry): is every variable of a row bound by the block's letters, and of its letter, or one of the
+// hidden variables in force (document 02, point 3)? Two tables are filled once, each row from the rows that it names (module variables).
+// `uses` has 64 entries a row, one for each variable: how it is free in the row. `tops` has one entry a row: one more than the highest free
+// variable, or 255 if some variable is bound inside the row by a letter of the other kind. The rows before a row give a bound, past which
+// no variable is free in them: only the variables below it are looked for. The tables are sections of the image, as the rows are.
+// Promises: `find_all` makes tables that are right for the types of the rows (`Scoped`, specs/Scoped.antt), and writes nothing else; from
+// such tables `formed` answers whether the type of a row is well-formed under the letters given (`formedArg` of crate valid). Laws for
+// callers: proofs/Callers.antt.
 pub mod entry;
 pub mod variables;
 
 use image::Places;
 ghost use mathlib.Core.Path.{_≡_};
 ghost use mathlib.Core.Bool.{cond};
-ghost use mathlib.Core.List.{List, map};
+ghost use mathlib.Core.List.{List};
 ghost use Prim.Native.Nat.{ℕ, suc, _+_, _-_, _*_, _^_, _<_, _≤_};
 ghost use lib.Dec.{eqb, ltb};
-ghost use lib.ListN.{length, getD};
+ghost use lib.ListN.{length, getD, getElem?};
 ghost use Rattle.syntax.specs.Syntax.{value};
 ghost use Rattle.types.specs.Types.{junk, arg};
 ghost use Rattle.types.specs.Rows.{typesOf};
 ghost use Rattle.valid.specs.Tests.{formedArg};
-ghost use Rattle.tables.specs.Tables.{span, letterOf, rowFrom, rowAt, rowsIn};
+ghost use Rattle.tables.specs.Tables.{rowFrom, rowAt, rowsIn};
 ghost use Rattle.types_rows.specs.Read.{tab};
 ghost use Rattle.image.specs.Sections.{rowSection, partSection, useSection, topSection, Ordered, Outside};
-ghost use Rattle.valid_scope.specs.variables.Free.{topOf, freeIn};
+ghost use Rattle.valid_scope.specs.variables.Free.{fits, topOf, freeIn};
 ghost use Rattle.valid_scope.specs.variables.Uses.{rowUse, rowRespected};
 ghost use Rattle.valid_scope.specs.Scoped.{rowType, Free, Within, Cleared, Scoped, Checked, NextRow, RowRoom};
+ghost use Rattle.valid_scope.specs.Letters.{lettersOf};
+
+// The letters in force: how many hidden variables there are, one for each unpack before (document 02, point 3); then the block's letters,
+// how many there are and where they start in the table of parts, in the order of their variables.
+pub struct BlockLetters {
+    pub hidden: usize,
+    pub count: usize,
+    pub start: usize,
+}
 
 fn narrow(x: usize) -> u16
     requires { ⌜ x ≤ 65535 ⌝ }
@@ -62,12 +72,12 @@ fn raised(top: usize, u: u16, k: usize) -> usize
 // A bound of the variables of a row of kind c: that of the rows before it, or, of a variable itself, 64.
 fn limit_of(c: usize, bound: usize) -> usize
     requires { ⌜ bound ≤ 64 ⌝ }
-    ensures { λ out. ⌜ (out ≡ cond (eqb c 2) 64 (cond (eqb c 7) 64 bound)) × (out ≤ 64) ⌝ }
+    ensures { λ out. ⌜ (out ≡ cond (eqb c 2) 64 (cond (eqb c 8) 64 bound)) × (out ≤ 64) ⌝ }
 {
     if c == 2 {
         return 64;
     }
-    if c == 7 {
+    if c == 8 {
         return 64;
     }
     bound
@@ -202,8 +212,17 @@ pub fn find_all(image: &mut [u16], p: Places, n: usize)
     }
 }
 
-// Every variable of row r, one of n, is bound and of its letter under the q letters that stand in `parts` from l on, in the order of their
-// variables. `rows` and n are here for the promise alone.
+// Variable k, of use u, is a hidden variable or one of the block's letters, and of its letter, or it is not used.
+fn in_block(parts: &[u16], u: u16, k: usize, w: BlockLetters) -> bool
+    ensures { λ out. ⌜ out ≡ fits u (getElem? (lettersOf (now (parts .entry)) w) k) ⌝ }
+{
+    if k < w.hidden {
+        return crate::variables::is_value(u);
+    }
+    crate::variables::is_bound(parts, u, k - w.hidden, w.count, w.start)
+}
+
+// Every variable of row r, one of n, is bound and of its letter under the letters w. `rows` and n are here for the promise alone.
 pub fn formed(
     rows: &[u16],
     parts: &[u16],
@@ -211,11 +230,10 @@ pub fn formed(
     uses: &[u16],
     tops: &[u16],
     r: usize,
-    q: usize,
-    l: usize,
+    w: BlockLetters,
 ) -> bool
     requires { ⌜ (r < n) × Scoped (tab (now rows) (now parts)) n (now uses) (now tops) ⌝ }
-    ensures { λ out. ⌜ out ≡ formedArg (map letterOf (span (now (parts .entry)) l q)) (getD (typesOf (rowsIn (tab (now (rows .entry)) (now (parts .entry))) n)) r (arg value junk)) ⌝ }
+    ensures { λ out. ⌜ out ≡ formedArg (lettersOf (now (parts .entry)) w) (getD (typesOf (rowsIn (tab (now (rows .entry)) (now (parts .entry))) n)) r (arg value junk)) ⌝ }
 {
     let top = types_rows::at(tops, r);
     if top == 255 {
@@ -223,7 +241,7 @@ pub fn formed(
     }
     let mut k = 0;
     while k < top {
-        if !crate::variables::is_bound(parts, crate::variables::use_at(uses, k, r), k, q, l) {
+        if !in_block(parts, crate::variables::use_at(uses, k, r), k, w) {
             return false;
         }
         k += 1;

@@ -5,10 +5,12 @@
 // row.
 ghost use mathlib.Core.Path.{_≡_};
 ghost use mathlib.Core.Bool.{_&&_, cond};
+ghost use mathlib.Core.Option.{some};
 ghost use mathlib.Core.List.{map};
 ghost use Prim.Native.Nat.{_+_, _*_, _^_, _≤_};
 ghost use lib.Dec.{eqb};
 ghost use lib.ListN.{getD, getElem?};
+ghost use Rattle.syntax.specs.Syntax.{value};
 ghost use Rattle.tables.specs.Tables.{cell, span, letterOf, knownOf, lettersAt, codeRowAt, rowFrom};
 ghost use Rattle.valid_scope.specs.variables.Free.{both, useOf, fits, fitTo};
 ghost use Rattle.valid_scope.specs.variables.Uses.{partsAt, useAt, partUse, partsUse, codeUse, rowUse, respectedAt, partRespected, partsRespected, rowRespected};
@@ -120,7 +122,7 @@ pub(crate) fn form_use(parts: &[u16], uses: &[u16], c: usize, a: usize, b: usize
     if c == 2 {
         return own(a, k, 1);
     }
-    if c == 7 {
+    if c == 8 {
         return own(a, k, 2);
     }
     if c == 3 {
@@ -133,7 +135,10 @@ pub(crate) fn form_use(parts: &[u16], uses: &[u16], c: usize, a: usize, b: usize
         let q = types_rows::at(parts, b + 8);
         return code_use(parts, uses, a, b, q + k);
     }
-    if c > 7 {
+    if c == 6 {
+        return use_at(uses, k + 1, a);
+    }
+    if c > 8 {
         return both(use_at(uses, k, a), use_at(uses, k, b));
     }
     0
@@ -149,6 +154,16 @@ fn letter(x: usize) -> u16
         return 1;
     }
     2
+}
+
+// A variable of use u may be a value variable.
+pub(crate) fn is_value(u: u16) -> bool
+    ensures { λ out. ⌜ out ≡ fits u (some value) ⌝ }
+{
+    if u == 0 {
+        return true;
+    }
+    u == 1
 }
 
 // Variable k, of use u, is one of the q letters at l and of its letter, or it is not used.
@@ -239,6 +254,17 @@ fn both_respected(tops: &[u16], a: usize, b: usize) -> bool
     respected_at(tops, b)
 }
 
+// The same inside a package's row: its own variable, which is variable 0 of row t, is a value variable.
+fn hidden_respected(uses: &[u16], tops: &[u16], t: usize) -> bool
+    requires { ⌜ t ≤ 65535 ⌝ }
+    ensures { λ out. ⌜ out ≡ (respectedAt (now (tops .entry)) t && fits (useAt (now (uses .entry)) 0 t) (some value)) ⌝ }
+{
+    if !respected_at(tops, t) {
+        return false;
+    }
+    is_value(use_at(uses, 0, t))
+}
+
 // The same inside a row of kind c with the numbers a and b.
 pub(crate) fn form_respected(
     parts: &[u16],
@@ -260,7 +286,10 @@ pub(crate) fn form_respected(
     if c == 5 {
         return code_respected(parts, uses, tops, a, b);
     }
-    if c > 7 {
+    if c == 6 {
+        return hidden_respected(uses, tops, a);
+    }
+    if c > 8 {
         return both_respected(tops, a, b);
     }
     true

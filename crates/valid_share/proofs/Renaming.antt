@@ -10,18 +10,19 @@ use mathlib.Core.List.{List, [], _∷_, _++_, map, reverse}
 use lib.Dec.{leb}
 use lib.ListN.{length, getD, length-map, length-reverse}
 use borrow.Author.Tests.{ltb-true, leb-true, ne-eqb, lt-ltb, le-ltb}
-use Rattle.syntax.specs.Syntax.{Kind, value, stack, Row, rowI, rowN, rowE, rowV, rowX, rowP, rowU, rowK, rowA, rowC}
-use Rattle.types.specs.Types.{tuple, pointer, code, push, gap, join, items, Arg, arg, ofKind}
+use Rattle.syntax.specs.Syntax.{Kind, value, stack, Row, rowI, rowN, rowE, rowV, rowX, rowP, rowH, rowU, rowK, rowA, rowC}
+use Rattle.types.specs.Types.{tuple, pointer, hidden, code, push, gap, join, items, Arg, arg, ofKind}
 use Rattle.types.specs.Rows.{typeAt, components, registers, meaning, typesOf, isValue, isCode, Ref, knownRefs, rowRefs, allBelow}
 use Rattle.types.proofs.Equal.{and-inv}
 use Rattle.types.proofs.Meaning.{named, typeIn, types-snoc, type-is, rows-clear}
 use Rattle.tables.specs.Tables.{RowTable, cell, span, letterOf, knownOf, lettersAt, codeRowAt, rowFrom, rowAt, rowsFrom, rowsIn}
+use Rattle.tables.proofs.Cases.{row-last}
 use Rattle.tables.proofs.Spans.{span-length}
 use Rattle.tables.proofs.Steps.{length-rows}
 use Rattle.types_rows.specs.Clear.{RowsClear}
 use Rattle.types_rows.specs.Read.{tab, mean, Counted}
 use Rattle.types_rows.proofs.Laws.{value-is, stack-is}
-use Rattle.types_rows.proofs.Bridge.{rows-snoc, row-nine, type-in}
+use Rattle.types_rows.proofs.Bridge.{rows-snoc, type-in}
 use Rattle.valid_scope.specs.variables.Free.{freeIn}
 use Rattle.valid_scope.specs.Scoped.{rowType, topIn, Scoped}
 use Rattle.valid_scope.proofs.Rows.{row-getD, row-type}
@@ -39,6 +40,7 @@ module _ (f : ℕ → ℕ) where
   renamed-value (rowU ts) = refl
   renamed-value (rowP s) = refl
   renamed-value (rowC q s rs) = refl
+  renamed-value (rowH t) = refl
   renamed-value rowE = refl
   renamed-value (rowX k) = refl
   renamed-value (rowK t s) = refl
@@ -52,6 +54,7 @@ module _ (f : ℕ → ℕ) where
   renamed-code (rowU ts) = refl
   renamed-code (rowP s) = refl
   renamed-code (rowC q s rs) = refl
+  renamed-code (rowH t) = refl
   renamed-code rowE = refl
   renamed-code (rowX k) = refl
   renamed-code (rowK t s) = refl
@@ -65,6 +68,7 @@ module _ (f : ℕ → ℕ) where
   renamed-small (rowU ts) h = let l = length-map ts f in omega arith
   renamed-small (rowP s) h = tt
   renamed-small (rowC q s rs) h = let l = length-map rs (renamedOption f) in (h .0, l ∙ h .1)
+  renamed-small (rowH t) h = tt
   renamed-small rowE h = tt
   renamed-small (rowX k) h = h
   renamed-small (rowK t s) h = tt
@@ -101,6 +105,7 @@ module _ (n : ℕ) (f : ℕ → ℕ) (T : List Arg) (same : (t : ℕ) → t < n 
   meaning-renamed (rowC q s rs) e =
       let k = and-inv _ _ e in
       ap₂ (λ a r. arg value (code (reverse q) a r)) (at-first stack s (ltb-true s n (k .0))) (registers-first rs (k .1))
+  meaning-renamed (rowH t) e = ap (λ u. arg value (hidden u)) (at-first value t (ltb-true t n (and-inv _ _ e .0)))
   meaning-renamed rowE e = refl
   meaning-renamed (rowX k) e = refl
   meaning-renamed (rowK t s) e =
@@ -191,7 +196,7 @@ module _ (first : List ℕ) where
             let w : b + (9 + j) ≡ b + 9 + j = omega arith in
             ap (λ (x : ℕ). getD p x 0) q ∙ h (9 + j) (omega arith) ∙ rest-part a b (9 + j) (omega arith) ∙ ap (λ (x : ℕ). getD ps x 0) w
 
-    high-form : (k a b : ℕ) → 9 ≤ k → rowFrom p k (newA first r k a) (newB first r k b) ≡ renamed (firstOf first) (rowFrom ps k a b)
+    high-form : (k a b : ℕ) → 10 ≤ k → rowFrom p k (newA first r k a) (newB first r k b) ≡ renamed (firstOf first) (rowFrom ps k a b)
     unfolding rowFrom newA newB renamed
     high-form k a b h =
         rw (
@@ -204,6 +209,7 @@ module _ (first : List ℕ) where
           ne-eqb k 6 (λ z. omega arith),
           ne-eqb k 7 (λ z. omega arith),
           ne-eqb k 8 (λ z. omega arith),
+          ne-eqb k 9 (λ z. omega arith),
         )
         refl
 
@@ -218,7 +224,8 @@ module _ (first : List ℕ) where
     form (suc (suc (suc (suc (suc (suc zero)))))) a b h s = refl
     form (suc (suc (suc (suc (suc (suc (suc zero))))))) a b h s = refl
     form (suc (suc (suc (suc (suc (suc (suc (suc zero)))))))) a b h s = refl
-    form (suc (suc (suc (suc (suc (suc (suc (suc (suc k))))))))) a b h s = high-form (suc (suc (suc (suc (suc (suc (suc (suc (suc k))))))))) a b (omega arith)
+    form (suc (suc (suc (suc (suc (suc (suc (suc (suc zero))))))))) a b h s = refl
+    form (suc (suc (suc (suc (suc (suc (suc (suc (suc (suc k)))))))))) a b h s = high-form (suc (suc (suc (suc (suc (suc (suc (suc (suc (suc k)))))))))) a b (omega arith)
 
 -- ---- rows that are the same once the rows that they name are replaced
 span-alike : (g : ℕ → ℕ) (ps : List ℕ) (a x n : ℕ) → ((j : ℕ) → j < n → g (getD ps (a + j) 0) ≡ g (getD ps (x + j) 0)) → map g (span ps a n) ≡ map g (span ps x n)
@@ -285,15 +292,15 @@ module _ (first ps : List ℕ) (a b x y : ℕ) where
     unfolding rowFrom renamed
     alike-value e f = rw (e, f) refl
 
-    pub alike-stack : k ≡ 7 → a ≡ x → Alike first ps k a b x y
+    pub alike-stack : k ≡ 8 → a ≡ x → Alike first ps k a b x y
     unfolding rowFrom renamed
     alike-stack e f = rw (e, f) refl
 
-  high-alike : (k : ℕ) → 9 ≤ k → firstOf first a ≡ firstOf first x → firstOf first b ≡ firstOf first y → Alike first ps k a b x y
+  high-alike : (k : ℕ) → 10 ≤ k → firstOf first a ≡ firstOf first x → firstOf first b ≡ firstOf first y → Alike first ps k a b x y
   unfolding renamed
-  high-alike k h f g = ap (renamed (firstOf first)) (row-nine ps k a b h) ∙ ap₂ rowA f g ∙ sym (ap (renamed (firstOf first)) (row-nine ps k x y h))
+  high-alike k h f g = ap (renamed (firstOf first)) (row-last ps k a b h) ∙ ap₂ rowA f g ∙ sym (ap (renamed (firstOf first)) (row-last ps k x y h))
 
-  pub alike-rest : (k : ℕ) → (k ≡ 3 → ⊥) → (k ≡ 2 → ⊥) → (k ≡ 7 → ⊥) → (k ≡ 5 → ⊥) → firstOf first a ≡ firstOf first x → firstOf first b ≡ firstOf first y → Alike first ps k a b x y
+  pub alike-rest : (k : ℕ) → (k ≡ 3 → ⊥) → (k ≡ 2 → ⊥) → (k ≡ 8 → ⊥) → (k ≡ 5 → ⊥) → firstOf first a ≡ firstOf first x → firstOf first b ≡ firstOf first y → Alike first ps k a b x y
   unfolding rowFrom renamed
   alike-rest zero h i j l f g = refl
   alike-rest (suc zero) h i j l f g = refl
@@ -301,10 +308,11 @@ module _ (first ps : List ℕ) (a b x y : ℕ) where
   alike-rest (suc (suc (suc zero))) h i j l f g = absurd (h refl)
   alike-rest (suc (suc (suc (suc zero)))) h i j l f g = ap rowP f
   alike-rest (suc (suc (suc (suc (suc zero))))) h i j l f g = absurd (l refl)
-  alike-rest (suc (suc (suc (suc (suc (suc zero)))))) h i j l f g = refl
-  alike-rest (suc (suc (suc (suc (suc (suc (suc zero))))))) h i j l f g = absurd (j refl)
-  alike-rest (suc (suc (suc (suc (suc (suc (suc (suc zero)))))))) h i j l f g = ap₂ rowK f g
-  alike-rest (suc (suc (suc (suc (suc (suc (suc (suc (suc k))))))))) h i j l f g = high-alike (suc (suc (suc (suc (suc (suc (suc (suc (suc k))))))))) (omega arith) f g
+  alike-rest (suc (suc (suc (suc (suc (suc zero)))))) h i j l f g = ap rowH f
+  alike-rest (suc (suc (suc (suc (suc (suc (suc zero))))))) h i j l f g = refl
+  alike-rest (suc (suc (suc (suc (suc (suc (suc (suc zero)))))))) h i j l f g = absurd (j refl)
+  alike-rest (suc (suc (suc (suc (suc (suc (suc (suc (suc zero))))))))) h i j l f g = ap₂ rowK f g
+  alike-rest (suc (suc (suc (suc (suc (suc (suc (suc (suc (suc k)))))))))) h i j l f g = high-alike (suc (suc (suc (suc (suc (suc (suc (suc (suc (suc k)))))))))) (omega arith) f g
 
 -- rows that are alike have the same type
 module _ (τ : RowTable) (m : ℕ) (first : List ℕ) (c r : ℕ) (h : c ≤ r) (k : r < m) (hf : Firsts τ m first r) (low : Lower τ (r + 1)) where

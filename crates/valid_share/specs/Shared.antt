@@ -6,7 +6,7 @@ use mathlib.Core.Option.{Option, none, some}
 use mathlib.Core.List.{List, map}
 use lib.ListN.{length, getD}
 use Rattle.types.specs.Types.{junk, arg}
-use Rattle.syntax.specs.Syntax.{Kind, value, Row, rowI, rowN, rowE, rowV, rowX, rowP, rowU, rowK, rowA, rowC}
+use Rattle.syntax.specs.Syntax.{Kind, value, Row, rowI, rowN, rowE, rowV, rowX, rowP, rowH, rowU, rowK, rowA, rowC}
 use Rattle.types.specs.Rows.{typesOf, isValue, isCode, Ref, rowRefs, allBelow}
 use Rattle.tables.specs.Tables.{RowTable, cell, rowFrom, rowAt, rowsIn}
 use Rattle.types_rows.specs.Read.{mean, Counted}
@@ -32,6 +32,7 @@ renamed f (rowV k) = rowV k
 renamed f (rowU ts) = rowU (map f ts)
 renamed f (rowP s) = rowP (f s)
 renamed f (rowC q s rs) = rowC q (f s) (map (renamedOption f) rs)
+renamed f (rowH t) = rowH (f t)
 renamed f rowE = rowE
 renamed f (rowX k) = rowX k
 renamed f (rowK t s) = rowK (f t) (f s)

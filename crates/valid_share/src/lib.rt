@@ -89,7 +89,7 @@ fn alike_forms(
     if k == 2 {
         return a == x;
     }
-    if k == 7 {
+    if k == 8 {
         return a == x;
     }
     if crate::rename::first_of(first, a) != crate::rename::first_of(first, x) {

@@ -50,7 +50,7 @@ fn new_a(first: &[u16], r: usize, k: usize, a: usize) -> usize
     if k == 2 {
         return a;
     }
-    if k == 7 {
+    if k == 8 {
         return a;
     }
     first_of(first, a)

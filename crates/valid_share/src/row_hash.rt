@@ -95,6 +95,9 @@ fn value_hash(parts: &[u16], first: &[u16], k: usize, a: usize, b: usize) -> u32
     if k == 4 {
         return h;
     }
+    if k == 6 {
+        return h;
+    }
     parts_hash(
         parts,
         first,
@@ -110,13 +113,13 @@ fn value_hash(parts: &[u16], first: &[u16], k: usize, a: usize, b: usize) -> u32
 fn stack_hash(work: &[u32], first: &[u16], k: usize, a: usize, b: usize) -> u32
     requires { ⌜ (k ≤ 65535) × (a ≤ 65535) × (b ≤ 65535) ⌝ }
 {
-    if k == 6 {
+    if k == 7 {
         return 0;
     }
-    if k == 7 {
+    if k == 8 {
         return mul_add(word(a), 668265263, 7);
     }
-    if k == 8 {
+    if k == 9 {
         return mul_add(3141592621, get(work, 2 * b), item_hash(first, a));
     }
     mul_add(get(work, 2 * a + 1), get(work, 2 * b), get(work, 2 * a))
@@ -126,14 +129,14 @@ fn stack_hash(work: &[u32], first: &[u16], k: usize, a: usize, b: usize) -> u32
 fn stack_power(work: &[u32], k: usize, a: usize, b: usize) -> u32
     requires { ⌜ (a ≤ 65535) × (b ≤ 65535) ⌝ }
 {
-    if k < 7 {
+    if k < 8 {
         return 1;
     }
-    if k == 7 {
+    if k == 8 {
         return 3141592621;
     }
     let y = get(work, 2 * b + 1);
-    if k == 8 {
+    if k == 9 {
         return mul_add(3141592621, y, 0);
     }
     mul_add(get(work, 2 * a + 1), y, 0)
@@ -142,7 +145,7 @@ fn stack_power(work: &[u32], k: usize, a: usize, b: usize) -> u32
 fn row_hash(work: &[u32], parts: &[u16], first: &[u16], k: usize, a: usize, b: usize) -> u32
     requires { ⌜ (k ≤ 65535) × (a ≤ 65535) × (b ≤ 65535) ⌝ }
 {
-    if k < 6 {
+    if k < 7 {
         return value_hash(parts, first, k, a, b);
     }
     stack_hash(work, first, k, a, b)

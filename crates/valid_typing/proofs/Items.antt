@@ -5,12 +5,12 @@ use mathlib.Core.Path.{_≡_, refl, ap, ap₂, sym, _∙_}
 use mathlib.Core.Bool.{Bool, true, false}
 use mathlib.Core.Option.{Option, none, some}
 use mathlib.Core.List.{List, _∷_, _++_}
-use Rattle.syntax.specs.Syntax.{Kind, stack, Base, reg, lit, lab, Operand, plain, inst}
+use Rattle.syntax.specs.Syntax.{Kind, stack, Base, reg, lit, lab, Operand, plain, inst, pack}
 use Rattle.syntax.specs.Fault.{fault, unfit, numberOf, earlier, firstItem, lowest}
 use Rattle.syntax.proofs.Least.{firstOf, item-append}
 use Rattle.types.specs.Types.{Ty, Arg}
 use Rattle.valid.specs.Program.{Program}
-use Rattle.valid.specs.PassThree.{Judged, holds, fails, faultsOf, _▹_, _&_, orFault, need, formed, known, base, applied, operand}
+use Rattle.valid.specs.PassThree.{Judged, holds, fails, faultsOf, _▹_, _&_, orFault, need, formed, known, base, applied, packed, operand}
 use Rattle.valid.proofs.Bare.{Bare, no-held, no-or, no-need}
 use Rattle.valid_context.specs.Told.{lacks, toldOf, answer}
 use Rattle.valid_context.proofs.Told.{lowest-both, told-holds}
@@ -114,11 +114,18 @@ module _ (i : ℕ) where
     unfolding applied
     shows-applied b A t = shows-then _ _ (shows-base b) (λ u. shows-then _ _ (shows-or 9 _ (λ e. omega arith)) (λ c. shows-then _ _ (shows-or 14 _ (λ e. omega arith)) (λ q. shows-item _)))
 
+    shows-packed : (b : Base) (a : Arg) (h : ℕ) → Shows i (packed P Δ (unfit i) g b a h)
+    unfolding packed
+    shows-packed b a h =
+        shows-then _ _ (shows-beside _ _ (shows-base b) (shows-beside _ _ (shows-or 14 _ (λ e. omega arith)) (shows-or 9 _ (λ e. omega arith)))) (λ z. shows-item _)
+
     shows-typed : (v : Operand) → Shows i (operand P Δ (unfit i) g v)
     unfolding operand formed
     shows-typed (plain b) = shows-base b
     shows-typed (inst b ts t) =
         shows-then _ _ (shows-beside _ _ (shows-need 7 _ (λ e. omega arith)) (shows-beside _ _ (shows-need 7 _ (λ e. omega arith)) (shows-applied b _ t))) (λ z. shows-held _)
+    shows-typed (pack a b h) =
+        shows-then _ _ (shows-beside _ _ (shows-need 7 _ (λ e. omega arith)) (shows-beside _ _ (shows-need 7 _ (λ e. omega arith)) (shows-packed b _ h))) (λ z. shows-held _)
 
     pub shows-operand : (v : Operand) → toldOf (operand P Δ (unfit i) g v) ≡ lacks 10 → itemIn (operand P Δ (unfit i) g v) ≡ some i
     shows-operand v e = go (shows-typed v)

@@ -5,19 +5,19 @@ use mathlib.Core.Path.{_≡_, refl, ap, sym, _∙_}
 use mathlib.Core.Bool.{Bool, true, false, cond}
 use mathlib.Core.Option.{Option, none, some}
 use mathlib.Core.List.{List}
-use lib.Dec.{leb}
+use lib.Dec.{leb, ltb}
+use lib.ListN.{length}
 use Rattle.syntax.specs.Partial.{guarded}
-use Rattle.syntax.specs.Syntax.{Kind, value, stack, Operand, Arith, Branch, aop, bop, mov, ld, st, malloc, getsp, setsp, salloc, sfree, sld, sst, slp, ssp, jmp, halt}
+use Rattle.syntax.specs.Syntax.{Kind, value, stack, Operand, Arith, Branch, aop, bop, mov, ld, st, malloc, getsp, setsp, salloc, sfree, sld, sst, slp, ssp, jmp, halt, unpack}
 use Rattle.syntax.specs.Fault.{fault, numberOf, lowest}
-use Rattle.types.specs.Types.{Ty, int, tuple, pointer, join, items, Arg}
-use Rattle.types.specs.Rows.{typeAt}
+use Rattle.types.specs.Types.{Ty, int, tuple, pointer, join, items}
 use Rattle.types.specs.Equal.{same}
 use Rattle.types.proofs.Equal.{same-sound}
 use Rattle.valid.specs.Program.{Program, typeOf}
-use Rattle.valid.specs.Rules.{junks, Context, withRegs, withSp}
-use Rattle.valid.specs.Tests.{itemAt, replaced, under, above, asInt}
+use Rattle.valid.specs.Rules.{junks, Context, withRegs, withSp, raised}
+use Rattle.valid.specs.Tests.{itemAt, replaced, under, above, asInt, asHidden}
 use Rattle.valid.specs.PassThree.{Judged, holds, fails, _▹_, _&_, orFault, need, formed, known, integerAt, tupleAt, pointerAt, assign, operand, operands, targetOf, newTail, judge}
-use Rattle.valid_context.specs.Context.{linked}
+use Rattle.valid_context.specs.Context.{Reading, linked}
 use Rattle.syntax.proofs.Least.{least}
 use Rattle.valid_context.specs.Told.{toldOf, answer}
 use Rattle.valid_context.proofs.Told.{told-and, told-then, told-stop, told-some, told-none, told-need}
@@ -33,10 +33,10 @@ pub told-guarded : {A : Type 0} (n : ℕ) (o : Option A) (b : Bool) (x : A) → 
 told-guarded n o true x e = rw e (told-some (suc n) x)
 told-guarded n o false x e = rw e (told-none n x)
 
-pub told-link : (T : List Arg) (n : ℕ) (o : Option (Ty value)) (u : ℕ) → o ≡ linked T u → toldOf (orFault (suc n) o) ≡ answer (ifNone (suc n) u) (typeAt value T (u - 1))
+pub told-link : (T : Reading) (n : ℕ) (o : Option (Ty value)) (x u : ℕ) → o ≡ linked T x u → toldOf (orFault (suc n) o) ≡ answer (ifNone (suc n) u) (T .type x (u - 1))
 unfolding linked ifNone
-told-link T n o zero e = rw e (told-none n (typeAt value T (0 - 1)))
-told-link T n o (suc u) e = let p : suc u - 1 ≡ u = omega arith in rw (e, p) (told-some (suc n) (typeAt value T u))
+told-link T n o x zero e = rw e (told-none n (T .type x (0 - 1)))
+told-link T n o x (suc u) e = let p : suc u - 1 ≡ u = omega arith in rw (e, p) (told-some (suc n) (T .type x u))
 
 -- what is given is passed on as something else
 pub told-map : {A B : Type 0} (m : Judged A) (n : ℕ) (x : A) (y : B) → toldOf m ≡ answer n x → toldOf (m ▹ λ z. holds y) ≡ answer n y
@@ -85,9 +85,9 @@ nine-first : {A B C : Type 0} (a : Judged A) (b : Judged B) (k : A × B → Judg
 nine-first a b k n x y z p q e = told-stop (a & b) k 9 (x, y) z (told-and a b 9 n x y p q ∙ ap (λ (m : ℕ). answer m (x, y)) e) (omega arith)
 
 module _ (P : Program) (Δ : List Kind) where
-  pub known-told : (T : List Arg) (g : Ty stack) (r u : ℕ) → itemAt g r ≡ linked T u → toldOf (known P Δ g r) ≡ answer (ifNone 9 u) (typeAt value T (u - 1))
+  pub known-told : (T : Reading) (g : Ty stack) (r x u : ℕ) → itemAt g r ≡ linked T x u → toldOf (known P Δ g r) ≡ answer (ifNone 9 u) (T .type x (u - 1))
   unfolding known
-  known-told T g r u e = told-link T 8 (itemAt g r) u e
+  known-told T g r x u e = told-link T 8 (itemAt g r) x u e
 
   pub assign-told : (Γ : Context) (d : ℕ) (t : Ty value) (b : Bool) (g : Ty stack) → replaced (Γ .regs) d t ≡ guarded b g → toldOf (assign P Δ Γ d t) ≡ answer (cond b 0 9) (withRegs Γ g)
   unfolding assign
@@ -121,6 +121,16 @@ module _ (P : Program) (Δ : List Kind) where
     pub mov-goes : (d : ℕ) (v : Operand) (f e : ℕ) (t : Ty value) (Γ′ : Context) → toldOf (operand P Δ (fault 10) (Γ .regs) v) ≡ answer f t → f ≡ 0 → toldOf (assign P Δ Γ d t) ≡ answer e Γ′ → toldOf (judge P Δ Γ (mov d v)) ≡ answer e Γ′
     unfolding judge
     mov-goes d v f e t Γ′ p z h = told-next _ (λ t. assign P Δ Γ d t) f e t Γ′ p z h
+
+    -- ---- packages
+    module _ (d : ℕ) (v : Operand) (b : Bool) (g : ℕ) (t : Ty value) (p : b ≡ ltb (length Δ) 64) (q : toldOf (operand P Δ (fault 10) (Γ .regs) v ▹ λ u. orFault 9 (asHidden u)) ≡ answer g t) where
+      pub unpack-stops : (Γ′ : Context) → (least (cond b 0 7) g ≡ 0 → ⊥) → toldOf (judge P Δ Γ (unpack d v)) ≡ answer (least (cond b 0 7) g) Γ′
+      unfolding judge
+      unpack-stops Γ′ h = stops _ (λ z. assign P Δ (raised Γ) d (z .1)) (least (cond b 0 7) g) (tt, t) Γ′ (told-and _ _ (cond b 0 7) g tt t (needs 6 _ b p) q) h
+
+      pub unpack-goes : (e : ℕ) (Γ′ : Context) → least (cond b 0 7) g ≡ 0 → toldOf (assign P Δ (raised Γ) d t) ≡ answer e Γ′ → toldOf (judge P Δ Γ (unpack d v)) ≡ answer e Γ′
+      unfolding judge
+      unpack-goes e Γ′ z h = told-next _ (λ z. assign P Δ (raised Γ) d (z .1)) (least (cond b 0 7) g) e (tt, t) Γ′ (told-and _ _ (cond b 0 7) g tt t (needs 6 _ b p) q) z h
 
     -- ---- tuples
     pub ld-stops : (d s i f : ℕ) (t : Ty value) (Γ′ : Context) → toldOf (componentAt P Δ (Γ .regs) s i) ≡ answer f t → (f ≡ 0 → ⊥) → toldOf (judge P Δ Γ (ld d s i)) ≡ answer f Γ′
@@ -187,42 +197,42 @@ module _ (P : Program) (Δ : List Kind) where
     sfree-told n b c e = told-over 10 _ (withSp Γ) b c e
 
     -- ---- items of sp
-    pub sld-stops : (T : List Arg) (d i u : ℕ) (Γ′ : Context) → itemAt (Γ .sp) i ≡ linked T u → u ≡ 0 → toldOf (judge P Δ Γ (sld d i)) ≡ answer 11 Γ′
+    pub sld-stops : (T : Reading) (d i x u : ℕ) (Γ′ : Context) → itemAt (Γ .sp) i ≡ linked T x u → u ≡ 0 → toldOf (judge P Δ Γ (sld d i)) ≡ answer 11 Γ′
     unfolding judge
-    sld-stops T d i u Γ′ e z = let p = no-link 11 u z in told-stop _ (λ t. assign P Δ Γ d t) 11 (typeAt value T (u - 1)) Γ′ (rw p at (told-link T 10 (itemAt (Γ .sp) i) u e)) (omega arith)
+    sld-stops T d i x u Γ′ e z = let p = no-link 11 u z in told-stop _ (λ t. assign P Δ Γ d t) 11 (T .type x (u - 1)) Γ′ (rw p at (told-link T 10 (itemAt (Γ .sp) i) x u e)) (omega arith)
 
-    pub sld-goes : (T : List Arg) (d i u e : ℕ) (Γ′ : Context) → itemAt (Γ .sp) i ≡ linked T u → (u ≡ 0 → ⊥) → toldOf (assign P Δ Γ d (typeAt value T (u - 1))) ≡ answer e Γ′ → toldOf (judge P Δ Γ (sld d i)) ≡ answer e Γ′
+    pub sld-goes : (T : Reading) (d i x u e : ℕ) (Γ′ : Context) → itemAt (Γ .sp) i ≡ linked T x u → (u ≡ 0 → ⊥) → toldOf (assign P Δ Γ d (T .type x (u - 1))) ≡ answer e Γ′ → toldOf (judge P Δ Γ (sld d i)) ≡ answer e Γ′
     unfolding judge
-    sld-goes T d i u e Γ′ q z h = told-next _ (λ t. assign P Δ Γ d t) (ifNone 11 u) e (typeAt value T (u - 1)) Γ′ (told-link T 10 (itemAt (Γ .sp) i) u q) (some-link 11 u z) h
+    sld-goes T d i x u e Γ′ q z h = told-next _ (λ t. assign P Δ Γ d t) (ifNone 11 u) e (T .type x (u - 1)) Γ′ (told-link T 10 (itemAt (Γ .sp) i) x u q) (some-link 11 u z) h
 
     -- an unknown register is the least fault, whatever there is of the item
     storing : ℕ → Ty value × Ty value → Judged Context
     storing i z = orFault 11 (replaced (Γ .sp) i (z .0)) ▹ λ b. holds (withSp Γ b)
 
-    pub sst-unknown : (T : List Arg) (i s u : ℕ) (Γ′ : Context) → itemAt (Γ .regs) s ≡ linked T u → u ≡ 0 → toldOf (judge P Δ Γ (sst i s)) ≡ answer 9 Γ′
+    pub sst-unknown : (T : Reading) (i s x u : ℕ) (Γ′ : Context) → itemAt (Γ .regs) s ≡ linked T x u → u ≡ 0 → toldOf (judge P Δ Γ (sst i s)) ≡ answer 9 Γ′
     unfolding judge storing
-    sst-unknown T i s u Γ′ e z = go (itemAt (Γ .sp) i) refl
+    sst-unknown T i s x u Γ′ e z = go (itemAt (Γ .sp) i) refl
       where
-        p : toldOf (known P Δ (Γ .regs) s) ≡ answer 9 (typeAt value T (u - 1))
-        p = rw (no-link 9 u z) at (known-told T (Γ .regs) s u e)
+        p : toldOf (known P Δ (Γ .regs) s) ≡ answer 9 (T .type x (u - 1))
+        p = rw (no-link 9 u z) at (known-told T (Γ .regs) s x u e)
 
         go : (o : Option (Ty value)) → itemAt (Γ .sp) i ≡ o → toldOf ((known P Δ (Γ .regs) s & orFault 11 (itemAt (Γ .sp) i)) ▹ storing i) ≡ answer 9 Γ′
         go none q = nine-first _ _ (storing i) 11 _ int Γ′ p (rw (← q) at (told-none 10 int)) (unfold least in refl)
         go (some t) q = nine-first _ _ (storing i) 0 _ t Γ′ p (rw (← q) at (told-some 11 t)) (unfold least in refl)
 
     -- with an item to replace
-    pub sst-goes : (T : List Arg) (i s u : ℕ) (b : Bool) (c : Ty stack) → itemAt (Γ .regs) s ≡ linked T u → (u ≡ 0 → ⊥) → (itemAt (Γ .sp) i ≡ none → b ≡ false) → replaced (Γ .sp) i (typeAt value T (u - 1)) ≡ guarded b c
+    pub sst-goes : (T : Reading) (i s x u : ℕ) (b : Bool) (c : Ty stack) → itemAt (Γ .regs) s ≡ linked T x u → (u ≡ 0 → ⊥) → (itemAt (Γ .sp) i ≡ none → b ≡ false) → replaced (Γ .sp) i (T .type x (u - 1)) ≡ guarded b c
         → toldOf (judge P Δ Γ (sst i s)) ≡ answer (cond b 0 11) (withSp Γ c)
     unfolding judge storing
-    sst-goes T i s u b c e z n h = go (itemAt (Γ .sp) i) refl
+    sst-goes T i s x u b c e z n h = go (itemAt (Γ .sp) i) refl
       where
-        p : toldOf (known P Δ (Γ .regs) s) ≡ answer 0 (typeAt value T (u - 1))
-        p = rw (some-link 9 u z) at (known-told T (Γ .regs) s u e)
+        p : toldOf (known P Δ (Γ .regs) s) ≡ answer 0 (T .type x (u - 1))
+        p = rw (some-link 9 u z) at (known-told T (Γ .regs) s x u e)
 
         go : (o : Option (Ty value)) → itemAt (Γ .sp) i ≡ o → toldOf ((known P Δ (Γ .regs) s & orFault 11 (itemAt (Γ .sp) i)) ▹ storing i) ≡ answer (cond b 0 11) (withSp Γ c)
-        go none q = rw (n q) (told-stop _ (storing i) 11 (typeAt value T (u - 1), int) (withSp Γ c) (unfold least in told-and _ _ 0 11 _ int p (rw (← q) at (told-none 10 int))) (omega arith))
+        go none q = rw (n q) (told-stop _ (storing i) 11 (T .type x (u - 1), int) (withSp Γ c) (unfold least in told-and _ _ 0 11 _ int p (rw (← q) at (told-none 10 int))) (omega arith))
         go (some t) q =
-            told-next _ (storing i) 0 (cond b 0 11) (typeAt value T (u - 1), t) (withSp Γ c) (unfold least in told-and _ _ 0 0 _ t p (rw (← q) at (told-some 11 t))) refl
+            told-next _ (storing i) 0 (cond b 0 11) (T .type x (u - 1), t) (withSp Γ c) (unfold least in told-and _ _ 0 0 _ t p (rw (← q) at (told-some 11 t))) refl
             (told-over 10 _ (withSp Γ) b c h)
 
     -- ---- through pointers
@@ -230,34 +240,34 @@ module _ (P : Program) (Δ : List Kind) where
     unfolding judge
     slp-stops d s i f b Γ′ p h = stops _ (λ b. (orFault 12 (above b (Γ .sp)) & orFault 11 (itemAt b i)) ▹ λ z. assign P Δ Γ d (z .1)) f b Γ′ p h
 
-    module _ (T : List Arg) (d s i f : ℕ) (b a : Ty stack) (v : Bool) (u : ℕ) (p : toldOf (pointerAt P Δ (Γ .regs) s) ≡ answer f b) (z : f ≡ 0) (ta : above b (Γ .sp) ≡ guarded v a) (it : itemAt b i ≡ linked T u) where
-      slp-both : toldOf (orFault 12 (above b (Γ .sp)) & orFault 11 (itemAt b i)) ≡ answer (least (cond v 0 12) (ifNone 11 u)) (a, typeAt value T (u - 1))
-      slp-both = told-and _ _ (cond v 0 12) (ifNone 11 u) a (typeAt value T (u - 1)) (told-guarded 11 _ v a ta) (told-link T 10 _ u it)
+    module _ (T : Reading) (d s i f : ℕ) (b a : Ty stack) (v : Bool) (x u : ℕ) (p : toldOf (pointerAt P Δ (Γ .regs) s) ≡ answer f b) (z : f ≡ 0) (ta : above b (Γ .sp) ≡ guarded v a) (it : itemAt b i ≡ linked T x u) where
+      slp-both : toldOf (orFault 12 (above b (Γ .sp)) & orFault 11 (itemAt b i)) ≡ answer (least (cond v 0 12) (ifNone 11 u)) (a, T .type x (u - 1))
+      slp-both = told-and _ _ (cond v 0 12) (ifNone 11 u) a (T .type x (u - 1)) (told-guarded 11 _ v a ta) (told-link T 10 _ x u it)
 
       pub slp-lacks : (Γ′ : Context) → (least (cond v 0 12) (ifNone 11 u) ≡ 0 → ⊥) → toldOf (judge P Δ Γ (slp d s i)) ≡ answer (least (cond v 0 12) (ifNone 11 u)) Γ′
       unfolding judge
       slp-lacks Γ′ h = told-next _ (λ b. (orFault 12 (above b (Γ .sp)) & orFault 11 (itemAt b i)) ▹ λ z. assign P Δ Γ d (z .1)) f _ b Γ′ p z (stops _ (λ z. assign P Δ Γ d (z .1)) _ _ Γ′ slp-both h)
 
-      pub slp-goes : (e : ℕ) (Γ′ : Context) → least (cond v 0 12) (ifNone 11 u) ≡ 0 → toldOf (assign P Δ Γ d (typeAt value T (u - 1))) ≡ answer e Γ′ → toldOf (judge P Δ Γ (slp d s i)) ≡ answer e Γ′
+      pub slp-goes : (e : ℕ) (Γ′ : Context) → least (cond v 0 12) (ifNone 11 u) ≡ 0 → toldOf (assign P Δ Γ d (T .type x (u - 1))) ≡ answer e Γ′ → toldOf (judge P Δ Γ (slp d s i)) ≡ answer e Γ′
       unfolding judge
-      slp-goes e Γ′ n h = told-next _ (λ b. (orFault 12 (above b (Γ .sp)) & orFault 11 (itemAt b i)) ▹ λ z. assign P Δ Γ d (z .1)) f e b Γ′ p z (told-next _ (λ z. assign P Δ Γ d (z .1)) _ e (a, typeAt value T (u - 1)) Γ′ slp-both n h)
+      slp-goes e Γ′ n h = told-next _ (λ b. (orFault 12 (above b (Γ .sp)) & orFault 11 (itemAt b i)) ▹ λ z. assign P Δ Γ d (z .1)) f e b Γ′ p z (told-next _ (λ z. assign P Δ Γ d (z .1)) _ e (a, T .type x (u - 1)) Γ′ slp-both n h)
 
     -- the new tail: an item to replace, a type to put there, and the given row points to what that makes
-    pub tail-lacks : (T : List Arg) (b : Ty stack) (i s t x u : ℕ) (c : Ty stack) → itemAt b i ≡ linked T x → itemAt (Γ .regs) s ≡ linked T u → (least (ifNone 11 x) (ifNone 9 u) ≡ 0 → ⊥)
+    pub tail-lacks : (T : Reading) (b : Ty stack) (i s t w x v u : ℕ) (c : Ty stack) → itemAt b i ≡ linked T w x → itemAt (Γ .regs) s ≡ linked T v u → (least (ifNone 11 x) (ifNone 9 u) ≡ 0 → ⊥)
         → toldOf (newTail P Δ Γ b i s t) ≡ answer (least (ifNone 11 x) (ifNone 9 u)) c
     unfolding newTail
-    tail-lacks T b i s t x u c p q h =
+    tail-lacks T b i s t w x v u c p q h =
         stops _ (λ y. orFault 11 (replaced b i (y .1)) ▹ λ c. need (fault 10) (same (typeOf P t) (pointer c)) ▹ λ x. holds c) _ _ c
-        (told-and _ _ (ifNone 11 x) (ifNone 9 u) (typeAt value T (x - 1)) (typeAt value T (u - 1)) (told-link T 10 _ x p) (known-told T (Γ .regs) s u q)) h
+        (told-and _ _ (ifNone 11 x) (ifNone 9 u) (T .type w (x - 1)) (T .type v (u - 1)) (told-link T 10 _ w x p) (known-told T (Γ .regs) s v u q)) h
 
-    pub tail-goes : (T : List Arg) (b : Ty stack) (i s t x u : ℕ) (c : Ty stack) (v : Bool) → itemAt b i ≡ linked T x → itemAt (Γ .regs) s ≡ linked T u → least (ifNone 11 x) (ifNone 9 u) ≡ 0
-        → replaced b i (typeAt value T (u - 1)) ≡ some c → v ≡ same (typeOf P t) (pointer c) → toldOf (newTail P Δ Γ b i s t) ≡ answer (cond v 0 10) c
+    pub tail-goes : (T : Reading) (b : Ty stack) (i s t w x v u : ℕ) (c : Ty stack) (o : Bool) → itemAt b i ≡ linked T w x → itemAt (Γ .regs) s ≡ linked T v u → least (ifNone 11 x) (ifNone 9 u) ≡ 0
+        → replaced b i (T .type v (u - 1)) ≡ some c → o ≡ same (typeOf P t) (pointer c) → toldOf (newTail P Δ Γ b i s t) ≡ answer (cond o 0 10) c
     unfolding newTail
-    tail-goes T b i s t x u c v p q z r e =
-        told-next _ (λ y. orFault 11 (replaced b i (y .1)) ▹ λ c. need (fault 10) (same (typeOf P t) (pointer c)) ▹ λ x. holds c) _ (cond v 0 10) (typeAt value T (x - 1), typeAt value T (u - 1)) c
-        (told-and _ _ (ifNone 11 x) (ifNone 9 u) (typeAt value T (x - 1)) (typeAt value T (u - 1)) (told-link T 10 _ x p) (known-told T (Γ .regs) s u q)) z
-        (told-next (orFault 11 (replaced b i (typeAt value T (u - 1)))) (λ c. need (fault 10) (same (typeOf P t) (pointer c)) ▹ λ x. holds c) 0 (cond v 0 10) c c (told-guarded 10 _ true c r) refl
-        (told-map (need (fault 10) (same (typeOf P t) (pointer c))) (cond v 0 10) tt c (needs 9 _ v e)))
+    tail-goes T b i s t w x v u c o p q z r e =
+        told-next _ (λ y. orFault 11 (replaced b i (y .1)) ▹ λ c. need (fault 10) (same (typeOf P t) (pointer c)) ▹ λ x. holds c) _ (cond o 0 10) (T .type w (x - 1), T .type v (u - 1)) c
+        (told-and _ _ (ifNone 11 x) (ifNone 9 u) (T .type w (x - 1)) (T .type v (u - 1)) (told-link T 10 _ w x p) (known-told T (Γ .regs) s v u q)) z
+        (told-next (orFault 11 (replaced b i (T .type v (u - 1)))) (λ c. need (fault 10) (same (typeOf P t) (pointer c)) ▹ λ x. holds c) 0 (cond o 0 10) c c (told-guarded 10 _ true c r) refl
+        (told-map (need (fault 10) (same (typeOf P t) (pointer c))) (cond o 0 10) tt c (needs 9 _ o e)))
 
     abbrev pub through : ℕ → ℕ → ℕ → ℕ → Judged (Ty stack × Ty stack)
     through d i s t = pointerAt P Δ (Γ .regs) d ▹ λ b. orFault 12 (above b (Γ .sp)) & newTail P Δ Γ b i s t

@@ -1,3 +1,4 @@
+pub mod Reading
 pub mod Judging
 pub mod OperandFaults
 pub mod Items
@@ -6,3 +7,4 @@ pub mod Forms
 pub mod Stacks
 pub mod Args
 pub mod Seen
+pub mod Founds

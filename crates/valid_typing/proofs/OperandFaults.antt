@@ -4,15 +4,15 @@ use native.Mathlib.Omega.{arith}
 use mathlib.Core.Path.{_≡_, refl}
 use mathlib.Core.Bool.{Bool, cond}
 use mathlib.Core.Option.{none, some}
-use mathlib.Core.List.{List, []}
-use Rattle.syntax.specs.Syntax.{Kind, value, stack, Base, reg, lit, inst}
+use mathlib.Core.List.{List, [], _∷_}
+use Rattle.syntax.specs.Syntax.{Kind, value, stack, Base, reg, lit, inst, pack}
 use Rattle.syntax.specs.Fault.{Fault, numberOf}
-use Rattle.types.specs.Types.{Ty, int, Arg, filled}
-use Rattle.types.specs.Rows.{typeAt}
-use Rattle.valid.specs.Program.{Program, typeOf, argsOf, CodeType, asCode}
-use Rattle.valid.specs.Tests.{itemAt, formedArgs, lettersLeft, isFilled}
-use Rattle.valid.specs.PassThree.{Judged, _▹_, orFault, need, formed, base, applied, operand}
-use Rattle.valid_context.specs.Context.{linked}
+use Rattle.types.specs.Types.{Ty, int, Arg, arg, fill, filled}
+use Rattle.types.specs.Equal.{same}
+use Rattle.valid.specs.Program.{Program, typeOf, argOf, argsOf, CodeType, asCode}
+use Rattle.valid.specs.Tests.{itemAt, asHidden, asValue, formedArg, formedArgs, lettersLeft, isFilled}
+use Rattle.valid.specs.PassThree.{Judged, _▹_, orFault, need, formed, base, applied, packed, operand}
+use Rattle.valid_context.specs.Context.{Reading, linked}
 use Rattle.syntax.proofs.Least.{least}
 use Rattle.valid_context.specs.Told.{toldOf, answer}
 use Rattle.valid_context.proofs.Told.{told-and, told-stop, told-some, told-none, told-need}
@@ -20,9 +20,9 @@ use Rattle.valid_typing.proofs.Judging.{ifNone, told-map, told-next, ne
 
 module _ (P : Program) (Δ : List Kind) (g : Ty stack) where
   -- ---- bases
-  pub base-reg : (T : List Arg) (r u : ℕ) → itemAt g r ≡ linked T u → toldOf (base P Δ g (reg r)) ≡ answer (ifNone 9 u) (typeAt value T (u - 1))
+  pub base-reg : (T : Reading) (r x u : ℕ) → itemAt g r ≡ linked T x u → toldOf (base P Δ g (reg r)) ≡ answer (ifNone 9 u) (T .type x (u - 1))
   unfolding base
-  base-reg T r u e = known-told P Δ T g r u e
+  base-reg T r x u e = known-told P Δ T g r x u e
 
   pub base-lit : (n : ℕ) → toldOf (base P Δ g (lit n)) ≡ answer 0 int
   unfolding base toldOf answer
@@ -65,3 +65,23 @@ module _ (P : Program) (Δ : List Kind) (g : Ty stack) where
       → toldOf (operand P Δ unequal g (inst b ts t)) ≡ answer (least (cond v 0 7) (least f h)) (typeOf P t)
   unfolding operand
   operand-told unequal b ts t f h v e p q = told-map _ _ (tt, (tt, tt)) (typeOf P t) (told-and _ _ (cond v 0 7) (least f h) tt (tt, tt) (needs 6 _ v e) (told-and _ _ f h tt tt p q))
+
+  -- ---- packages
+  module _ (unequal : Fault) (b : Base) (a : Arg) (h : ℕ) where
+    -- one of the three has a fault
+    pub packed-stops : (f i k : ℕ) (u : Ty value) (w x : Ty value) → toldOf (base P Δ g b) ≡ answer f u → toldOf (orFault 14 (asValue a)) ≡ answer i w → toldOf (orFault 9 (asHidden (typeOf P h))) ≡ answer k x
+        → (least f (least i k) ≡ 0 → ⊥) → toldOf (packed P Δ unequal g b a h) ≡ answer (least f (least i k)) tt
+    unfolding packed
+    packed-stops f i k u w x p q r z = stops _ _ (least f (least i k)) (u, (w, x)) tt (told-and _ _ f (least i k) u (w, x) p (told-and _ _ i k w x q r)) z
+
+    -- they have none, and the types are compared
+    pub packed-told : (f i k : ℕ) (u : Ty value) (w x : Ty value) (v : Bool) → numberOf unequal ≡ 10 → toldOf (base P Δ g b) ≡ answer f u → toldOf (orFault 14 (asValue a)) ≡ answer i w
+        → toldOf (orFault 9 (asHidden (typeOf P h))) ≡ answer k x → least f (least i k) ≡ 0 → v ≡ same u (fill 0 (arg value w ∷ []) x) → toldOf (packed P Δ unequal g b a h) ≡ answer (cond v 0 10) tt
+    unfolding packed
+    packed-told f i k u w x v n p q r z e =
+        told-next _ _ (least f (least i k)) (cond v 0 10) (u, (w, x)) tt (told-and _ _ f (least i k) u (w, x) p (told-and _ _ i k w x q r)) z (rw e (told-need unequal _ 9 n))
+
+  pub pack-told : (unequal : Fault) (b : Base) (a t f h : ℕ) (v : Bool) → v ≡ formedArg Δ (argOf P a) → toldOf (formed P Δ t) ≡ answer f tt → toldOf (packed P Δ unequal g b (argOf P a) t) ≡ answer h tt
+      → toldOf (operand P Δ unequal g (pack a b t)) ≡ answer (least (cond v 0 7) (least f h)) (typeOf P t)
+  unfolding operand
+  pack-told unequal b a t f h v e p q = told-map _ _ (tt, (tt, tt)) (typeOf P t) (told-and _ _ (cond v 0 7) (least f h) tt (tt, tt) (needs 6 _ v e) (told-and _ _ f h tt tt p q))

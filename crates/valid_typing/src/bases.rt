@@ -1,6 +1,7 @@
 // Pass three's look at the base of an operand: the type of a register, a literal or a label, given as a row; and the entries of the
 // table of operands.
-// Promised: the fault of the premise as crate valid defines it (`base`), 0 if it holds, and then a row that has the type it gives.
+// Promised: the fault of the premise as crate valid defines it (`base`), 0 if it holds, and then a row that has the type it gives, in its
+// environment: a label's row and a literal's are read now.
 // Asked: the tables of module prepare of load (`Ready` of this crate).
 use crate::Typed;
 use image::Counts;
@@ -18,9 +19,9 @@ ghost use Rattle.types_rows.specs.Read.{tab};
 ghost use Rattle.valid_context.specs.Context.{regsOf};
 ghost use Rattle.valid_context.specs.Told.{toldOf, answer};
 ghost use Rattle.valid_context.specs.premises.Answers.{Holds};
-ghost use Rattle.valid_typing.specs.Typing.{typesIn, Ready};
+ghost use Rattle.valid_typing.specs.Typing.{typesIn, heldIn, Ready, Found};
 ghost use Rattle.image.specs.Sections.{Ordered};
-ghost use Rattle.valid_typing.specs.Image.{typesAt, ReadyAt, HoldsAt};
+ghost use Rattle.valid_typing.specs.Image.{readAt, ReadyAt, HoldsAt};
 
 fn wide(x: u32) -> usize
     ensures { λ out. ⌜ (out ≡ x) × (out ≤ 4294967295) ⌝ }
@@ -56,42 +57,53 @@ fn row_within(n: usize, t: usize) -> usize
 
 fn register_type(n: usize, regs: &[u16], r: usize) -> Typed
     requires { ⌜ n ≤ 512 ⌝ }
-    ensures { λ out. ⌜ ((rows parts : List ℕ) (P : Program) (Δ : List Kind) → Ready rows parts n → toldOf (base P Δ (regsOf (typesIn rows parts n) (now (regs .entry))) (reg r)) ≡ answer (out .fault) (typeAt value (typesIn rows parts n) (out .row))) × (out .row ≤ n + 1) ⌝ }
+    ensures { λ out. ⌜ ((rows parts E : List ℕ) (P : Program) (Δ : List Kind) → Ready rows parts n → toldOf (base P Δ (regsOf (heldIn rows parts n E) (now (regs .entry))) (reg r)) ≡ answer (out .fault) (heldIn rows parts n E .type (out .env) (out .row))) × ((E : List ℕ) → Found n E (now (regs .entry)) out) ⌝ }
 {
     let u = valid_context::register(regs, r);
-    if u == 0 {
-        return Typed { fault: 9, row: 0 };
+    if u.link == 0 {
+        return Typed {
+            fault: 9,
+            row: 0,
+            env: 0,
+        };
     }
     Typed {
         fault: 0,
-        row: row_within(n, u - 1),
+        row: row_within(n, u.link - 1),
+        env: u.env,
     }
 }
 
-fn label_type(n: usize, blocks: &[u16], nb: usize, l: usize) -> Typed
-    requires { ⌜ (n ≤ 512) × (l ≤ 4294967295) ⌝ }
-    ensures { λ out. ⌜ ((rows parts regs : List ℕ) (P : Program) (Δ : List Kind) → Ready rows parts n → Holds (tab rows parts) n (now (blocks .entry)) nb P → toldOf (base P Δ (regsOf (typesIn rows parts n) regs) (lab l)) ≡ answer (out .fault) (typeAt value (typesIn rows parts n) (out .row))) × (out .row ≤ n + 1) ⌝ }
+fn label_type(envs: &[u16], n: usize, blocks: &[u16], nb: usize, l: usize) -> Typed
+    requires { ⌜ (n ≤ 512) × (l ≤ 4294967295) × (length (now envs) ≤ 64) ⌝ }
+    ensures { λ out. ⌜ ((rows parts regs : List ℕ) (P : Program) (Δ : List Kind) → Ready rows parts n → Holds (tab rows parts) n (now (blocks .entry)) nb P → toldOf (base P Δ (regsOf (heldIn rows parts n (now (envs .entry))) regs) (lab l)) ≡ answer (out .fault) (heldIn rows parts n (now (envs .entry)) .type (out .env) (out .row))) × ((regs : List ℕ) → Found n (now (envs .entry)) regs out) ⌝ }
 {
     if l >= nb {
-        return Typed { fault: 9, row: 0 };
+        return Typed {
+            fault: 9,
+            row: 0,
+            env: 0,
+        };
     }
     Typed {
         fault: 0,
         row: crate::given_row(n, types_rows::at(blocks, 2 * l)),
+        env: 2 * envs.len(),
     }
 }
 
 // The type of a base: of kind 0 a register, of kind 1 a literal, else a label.
 pub(crate) fn base_type(
     image: &[u16],
+    envs: &[u16],
     p: Places,
     c: Counts,
     regs: &[u16],
     kind: usize,
     number: usize,
 ) -> Typed
-    requires { ⌜ Ordered p (length (now image)) × ReadyAt p (now image) (c .rows) × (number ≤ 4294967295) ⌝ }
-    ensures { λ out. ⌜ ((P : Program) (Δ : List Kind) → HoldsAt p (now (image .entry)) c P → toldOf (base P Δ (regsOf (typesAt p (now (image .entry)) (c .rows)) (now (regs .entry))) (baseOf kind number)) ≡ answer (out .fault) (typeAt value (typesAt p (now (image .entry)) (c .rows)) (out .row))) × (out .row ≤ c .rows + 1) ⌝ }
+    requires { ⌜ Ordered p (length (now image)) × ReadyAt p (now image) (c .rows) × (number ≤ 4294967295) × (length (now envs) ≤ 64) ⌝ }
+    ensures { λ out. ⌜ ((P : Program) (Δ : List Kind) → HoldsAt p (now (image .entry)) c P → toldOf (base P Δ (regsOf (readAt p (now (image .entry)) (c .rows) (now (envs .entry))) (now (regs .entry))) (baseOf kind number)) ≡ answer (out .fault) (readAt p (now (image .entry)) (c .rows) (now (envs .entry)) .type (out .env) (out .row))) × Found (c .rows) (now (envs .entry)) (now (regs .entry)) out ⌝ }
 {
     if kind == 0 {
         return register_type(c.rows, regs, number);
@@ -100,9 +112,10 @@ pub(crate) fn base_type(
         return Typed {
             fault: 0,
             row: c.rows,
+            env: 2 * envs.len(),
         };
     }
     let blocks = p.blocks;
     let instrs = p.instrs;
-    label_type(c.rows, &image[blocks..instrs], c.blocks, number)
+    label_type(envs, c.rows, &image[blocks..instrs], c.blocks, number)
 }

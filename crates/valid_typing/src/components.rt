@@ -1,14 +1,15 @@
 // Pass three's look at the components that `malloc` takes: the types of a list of operands, and whether a row is the tuple of them.
-// Promised: the least fault of the list as crate valid defines it (`operands`), 0 if there is none, and then the rows of its types; and
-// the test `same` of crate types against the tuple. Asked: the tables of module prepare of load, and operands with at most eight arguments.
-use crate::BlockLetters;
+// Promised: the least fault of the list as crate valid defines it (`operands`), 0 if there is none, and then the rows of its types, each
+// with its environment; and the test `same` of crate types against the tuple. Asked: the tables of module prepare of load, and operands with at most eight arguments.
 use crate::Listed;
 use image::Counts;
 use image::Places;
+use types_rows::Held;
 use types_rows::Val;
+use valid_scope::BlockLetters;
 ghost use mathlib.Core.Path.{_≡_};
 ghost use mathlib.Core.Bool.{false};
-ghost use Prim.Native.Nat.{_+_, _≤_};
+ghost use Prim.Native.Nat.{_≤_};
 ghost use lib.ListN.{length};
 ghost use Rattle.syntax.specs.Syntax.{value};
 ghost use Rattle.types.specs.Types.{tuple};
@@ -19,14 +20,15 @@ ghost use Rattle.types_rows.specs.Read.{tab, partsOf, meanV};
 ghost use Rattle.valid_context.specs.Context.{regsOf};
 ghost use Rattle.valid_context.specs.Told.{toldOf, answer};
 ghost use Rattle.valid.specs.Bounds.{AllShort};
-ghost use Rattle.valid_typing.specs.Typing.{typesIn, Ready, RowParts};
-ghost use Rattle.valid_typing.specs.Image.{typesAt, Prepared, listedIn, HoldsAt, lettersIn};
+ghost use Rattle.valid_typing.specs.Typing.{typesIn, heldIn, Comparing, RowParts};
+ghost use Rattle.valid_typing.specs.Image.{readAt, Prepared, listedIn, ListedInto, HoldsAt, lettersIn};
 ghost use Rattle.valid_typing.specs.components.Components.{typesFrom, components};
 
-// The types of the operands o under the letters w; their rows are put into `found`.
+// The types of the operands o under the letters w; their rows and environments are put into `found`.
 pub fn operand_list(
     image: &[u16],
     literals: &[u32],
+    envs: &[u16],
     p: Places,
     c: Counts,
     o: Listed,
@@ -35,8 +37,8 @@ pub fn operand_list(
     pending: &mut [u32],
     found: &mut [u16],
 ) -> usize
-    requires { ⌜ Prepared p (now image) (c .rows) (now pending) × AllShort (listedIn p (now image) (now literals) o) × (o .first + o .count ≤ 131072) × (o .count ≤ length (now found)) ⌝ }
-    ensures { λ out. ⌜ ((P : Program) → HoldsAt p (now (image .entry)) c P → toldOf (components P (lettersIn p (now (image .entry)) w) (regsOf (typesAt p (now (image .entry)) (c .rows)) (now (regs .entry))) (listedIn p (now (image .entry)) (now (literals .entry)) o)) ≡ answer out (typesFrom (typesAt p (now (image .entry)) (c .rows)) (now (found .exit)) 0 (o .count))) ⌝ }
+    requires { ⌜ Prepared p (now image) (c .rows) (now pending) × AllShort (listedIn p (now image) (now literals) o) × ListedInto o (now found) × (length (now envs) ≤ 64) ⌝ }
+    ensures { λ out. ⌜ ((P : Program) → HoldsAt p (now (image .entry)) c P → toldOf (components P (lettersIn p (now (image .entry)) w) (regsOf (readAt p (now (image .entry)) (c .rows) (now (envs .entry))) (now (regs .entry))) (listedIn p (now (image .entry)) (now (literals .entry)) o)) ≡ answer out (typesFrom (readAt p (now (image .entry)) (c .rows) (now (envs .entry))) (now (found .exit)) 0 (o .count))) ⌝ }
 {
     // The loop's invariant speaks of locals, and of no parameter that is a struct.
     let t = p;
@@ -46,18 +48,19 @@ pub fn operand_list(
     let mut f = 0;
     let mut i = o.count;
     while i > 0 {
-        let r = crate::operands::operand(image, literals, t, k, v + i - 1, u, regs, pending);
-        found[i - 1] = r.row as u16;
+        let r = crate::operands::operand(image, literals, envs, t, k, v + i - 1, u, regs, pending);
+        valid_context::put(found, i - 1, r.row as u16, r.env as u16);
         f = valid_context::least(r.fault, f);
         i -= 1;
     }
     f
 }
 
-// The c components that stand in `parts` from p on, of the row of link h, are the rows in `found`.
+// The c components that stand in `parts` from p on, of the row of link h, which is read now, are the rows in `found`.
 fn same_parts(
     rows: &[u16],
     parts: &[u16],
+    envs: &[u16],
     n: usize,
     h: usize,
     p: usize,
@@ -65,13 +68,20 @@ fn same_parts(
     found: &[u16],
     pending: &mut [u32],
 ) -> bool
-    requires { ⌜ Ready (now rows) (now parts) n × RowParts n h p × (c ≤ 65535) × (1543 ≤ length (now pending)) ⌝ }
-    ensures { λ out. ⌜ out ≡ same (partsOf (meanV (tab (now (rows .entry)) (now (parts .entry)))) (now (parts .entry)) false h p c) (typesFrom (typesIn (now (rows .entry)) (now (parts .entry)) n) (now (found .entry)) 0 c) ⌝ }
+    requires { ⌜ Comparing (now rows) (now parts) (now envs) n (now pending) × RowParts n h p × (c ≤ 65535) ⌝ }
+    ensures { λ out. ⌜ out ≡ same (partsOf (meanV (tab (now (rows .entry)) (now (parts .entry)))) (now (parts .entry)) false h p c) (typesFrom (heldIn (now (rows .entry)) (now (parts .entry)) n (now (envs .entry))) (now (found .entry)) 0 c) ⌝ }
 {
     let mut i = 0;
     while i < c {
-        let t = crate::row_of(n, types_rows::link(h, types_rows::at(parts, p + i)));
-        if !crate::same_rows(rows, parts, n, t, types_rows::at(found, i), pending) {
+        let l = Held {
+            row: crate::row_of(n, types_rows::link(h, types_rows::at(parts, p + i))),
+            env: 2 * envs.len(),
+        };
+        let r = Held {
+            row: valid_context::number(found, i, 0),
+            env: valid_context::number(found, i, 1),
+        };
+        if !crate::same_rows(rows, parts, envs, n, l, r, pending) {
             return false;
         }
         i += 1;
@@ -79,18 +89,19 @@ fn same_parts(
     true
 }
 
-// Row t is the tuple of the c rows in `found`.
+// Row t, which is read now, is the tuple of the c rows in `found`.
 pub fn same_tuple(
     rows: &[u16],
     parts: &[u16],
+    envs: &[u16],
     n: usize,
     t: usize,
     found: &[u16],
     c: usize,
     pending: &mut [u32],
 ) -> bool
-    requires { ⌜ Ready (now rows) (now parts) n × (t ≤ 65535) × (1543 ≤ length (now pending)) ⌝ }
-    ensures { λ out. ⌜ out ≡ same (typeAt value (typesIn (now (rows .entry)) (now (parts .entry)) n) t) (tuple (typesFrom (typesIn (now (rows .entry)) (now (parts .entry)) n) (now (found .entry)) 0 c)) ⌝ }
+    requires { ⌜ Comparing (now rows) (now parts) (now envs) n (now pending) × (t ≤ 65535) ⌝ }
+    ensures { λ out. ⌜ out ≡ same (typeAt value (typesIn (now (rows .entry)) (now (parts .entry)) n) t) (tuple (typesFrom (heldIn (now (rows .entry)) (now (parts .entry)) n (now (envs .entry))) (now (found .entry)) 0 c)) ⌝ }
 {
     let h = types_rows::link(n + 3, t);
     let v = types_rows::read_value(rows, h, 0, 0, 0);
@@ -100,5 +111,5 @@ pub fn same_tuple(
     if k != c {
         return false;
     }
-    same_parts(rows, parts, n, h, p, c, found, pending)
+    same_parts(rows, parts, envs, n, h, p, c, found, pending)
 }

@@ -1,7 +1,8 @@
-// The premises of pass three (crate valid) that read type rows and what the checker knows: the type of a register, of a tuple's component
-// and of a pointer's stack, whether a stack is a tail of sp, its items, and the rows that an instruction gives. Rows are read from the
-// tables (crate types_rows), registers and sp from the checker's arrays (crate valid_context); two more rows, `I` and `N`, stand behind the
-// program's own, so that each type that the checker holds is the type of a row. Promised of each: its premise's least fault, 0 if it holds,
+// The premises of pass three (crate valid) that read type rows and what the checker knows: the type of a register, of a tuple's component,
+// of a package's inside and of a pointer's stack, whether a stack is a tail of sp, its items, and the rows that an instruction gives. Rows
+// are read from the tables (crate types_rows), registers and sp from the checker's arrays (crate valid_context); two more rows, `I` and
+// `N`, stand behind the program's own, so that each type that the checker holds is the type of a row in an environment, whose variables
+// count as `envs` says (specs/Environments.antt of types_rows); what an instruction gives is read in the last one. Promised of each: its premise's least fault, 0 if it holds,
 // and what the premise gives, as an equation with the definition. Above these stand operands (modules bases, operands), the components of a
 // tuple (components, plain_components) and targets (target). A function that reads more tables than the rows' is lent the image that they
 // are sections of (crate image), and reads the rows as the checker shares them. One that compares rows is lent `pending`, where crate
@@ -13,13 +14,15 @@ pub mod plain_components;
 pub mod target;
 
 use image::Places;
+use types_rows::Held;
 use types_rows::Item;
 use types_rows::Stk;
 use types_rows::Val;
+use valid_scope::BlockLetters;
 ghost use mathlib.Core.Path.{_≡_};
-ghost use Prim.Native.Nat.{ℕ, _+_, _-_, _≤_, _<_};
+ghost use Prim.Native.Nat.{ℕ, suc, _+_, _-_, _*_, _≤_, _<_};
 ghost use mathlib.Core.Bool.{true, cond};
-ghost use mathlib.Core.List.{List, map, reverse};
+ghost use mathlib.Core.List.{List, [], _∷_, _++_, map, reverse};
 ghost use lib.ListN.{length, getD, take};
 ghost use Rattle.syntax.specs.Partial.{guarded};
 ghost use Rattle.syntax.specs.Syntax.{Kind, value, stack};
@@ -27,21 +30,24 @@ ghost use Rattle.types.specs.Types.{junk, nil, svar, Arg, arg, kindOf, items};
 ghost use Rattle.types.specs.Rows.{typeAt, typesOf, allBelow};
 ghost use Rattle.valid.specs.Program.{Program, asCode};
 ghost use Rattle.types.specs.Equal.{same};
-ghost use Rattle.tables.specs.Tables.{rowsIn, span, letterOf, lettersAt};
-ghost use Rattle.valid.specs.Tests.{asInt, itemAt, above, formedArg, formedArgs, lettersLeft};
-ghost use Rattle.valid.specs.PassThree.{integerAt, pointerAt, formed};
+ghost use Rattle.tables.specs.Tables.{rowsIn, span, lettersAt};
+ghost use Rattle.valid.specs.Tests.{asInt, asHidden, itemAt, above, formedArg, formedArgs, lettersLeft};
+ghost use Rattle.valid.specs.PassThree.{orFault, integerAt, pointerAt, formed};
 ghost use Rattle.valid_scope.specs.Scoped.{Scoped};
+ghost use Rattle.valid_scope.specs.Letters.{lettersOf};
 ghost use Rattle.types_rows.specs.Read.{tab, meanV, meanS};
-ghost use Rattle.valid_context.specs.Context.{regsOf, spOf, spAbove, linked};
+ghost use Rattle.types_rows.specs.Environments.{readIn, Known};
+ghost use Rattle.valid_context.specs.Context.{Reading, regsOf, spOf, spAbove, linked, EnvsIn};
 ghost use Rattle.image.specs.Sections.{Ordered, argSection, sharedSection, slotSection};
 ghost use Rattle.valid_context.specs.Told.{toldOf, answer};
-ghost use Rattle.valid_typing.specs.Typing.{typesIn, Ready, componentAt, codeIn, itemIs, LowItem, LinkIs, LaidOut, SmallItem, EntryIs, givenRow, givenArg, argsIn, fitsLetter, lettersLess};
+ghost use Rattle.valid_typing.specs.Typing.{typesIn, heldIn, Ready, Comparing, Found, componentAt, codeIn, codeRead, itemIs, LowItem, EntryIn, LinkIs, LaidOut, SmallItem, EntryIs, givenRow, givenArg, argsIn, fitsLetter, lettersLess};
 ghost use Rattle.valid_typing.specs.Image.{rowTable, ScopedAt, lettersIn};
 
-// What a premise answers: its least fault, or 0 and a row.
+// What a premise answers: its least fault, or 0 and a row, with the environment that it was read in.
 pub struct Typed {
     pub fault: usize,
     pub row: usize,
+    pub env: usize,
 }
 
 // A code row: its link, its stack's link, and where its registers start.
@@ -56,12 +62,6 @@ pub struct Coded {
 pub struct Listed {
     pub first: usize,
     pub count: usize,
-}
-
-// The letters of a block: how many, and where they start in the table.
-pub struct BlockLetters {
-    pub count: usize,
-    pub start: usize,
 }
 
 // ---- rows
@@ -79,7 +79,7 @@ pub fn row_of(n: usize, h: usize) -> usize
 // Row t is the integer type.
 pub fn is_int(rows: &[u16], parts: &[u16], n: usize, t: usize) -> bool
     requires { ⌜ Ready (now rows) (now parts) n × (t ≤ 65535) ⌝ }
-    ensures { λ out. ⌜ asInt (typeAt value (typesIn (now (rows .entry)) (now (parts .entry)) n) t) ≡ guarded out tt ⌝ }
+    ensures { λ out. ⌜ ((E : List ℕ) (e : ℕ) → asInt (heldIn (now (rows .entry)) (now (parts .entry)) n E .type e t) ≡ guarded out tt) ⌝ }
 {
     let v = types_rows::read_value(rows, types_rows::link(n + 3, t), 0, 0, 0);
     if let Val::Int = v {
@@ -91,13 +91,13 @@ pub fn is_int(rows: &[u16], parts: &[u16], n: usize, t: usize) -> bool
 // Register r is an integer.
 pub fn integer(rows: &[u16], parts: &[u16], n: usize, regs: &[u16], r: usize) -> usize
     requires { ⌜ Ready (now rows) (now parts) n ⌝ }
-    ensures { λ out. ⌜ ((P : Program) (Δ : List Kind) → toldOf (integerAt P Δ (regsOf (typesIn (now (rows .entry)) (now (parts .entry)) n) (now (regs .entry))) r) ≡ answer out tt) ⌝ }
+    ensures { λ out. ⌜ ((E : List ℕ) (P : Program) (Δ : List Kind) → toldOf (integerAt P Δ (regsOf (heldIn (now (rows .entry)) (now (parts .entry)) n E) (now (regs .entry))) r) ≡ answer out tt) ⌝ }
 {
     let u = valid_context::register(regs, r);
-    if u == 0 {
+    if u.link == 0 {
         return 9;
     }
-    if is_int(rows, parts, n, u - 1) {
+    if is_int(rows, parts, n, u.link - 1) {
         return 0;
     }
     9
@@ -106,47 +106,93 @@ pub fn integer(rows: &[u16], parts: &[u16], n: usize, regs: &[u16], r: usize) ->
 // Component i of the tuple in register r.
 pub fn component(rows: &[u16], parts: &[u16], n: usize, regs: &[u16], r: usize, i: usize) -> Typed
     requires { ⌜ Ready (now rows) (now parts) n ⌝ }
-    ensures { λ out. ⌜ ((P : Program) (Δ : List Kind) → toldOf (componentAt P Δ (regsOf (typesIn (now (rows .entry)) (now (parts .entry)) n) (now (regs .entry))) r i) ≡ answer (out .fault) (typeAt value (typesIn (now (rows .entry)) (now (parts .entry)) n) (out .row))) × (out .row ≤ n + 1) ⌝ }
+    ensures { λ out. ⌜ ((E : List ℕ) (P : Program) (Δ : List Kind) → toldOf (componentAt P Δ (regsOf (heldIn (now (rows .entry)) (now (parts .entry)) n E) (now (regs .entry))) r i) ≡ answer (out .fault) (heldIn (now (rows .entry)) (now (parts .entry)) n E .type (out .env) (out .row))) × ((E : List ℕ) → Found n E (now (regs .entry)) out) ⌝ }
 {
     let u = valid_context::register(regs, r);
-    if u == 0 {
-        return Typed { fault: 9, row: 0 };
+    if u.link == 0 {
+        return Typed {
+            fault: 9,
+            row: 0,
+            env: 0,
+        };
     }
-    let h = types_rows::link(n + 3, u - 1);
+    let h = types_rows::link(n + 3, u.link - 1);
     let v = types_rows::read_value(rows, h, 0, 0, 0);
     let Val::Tuple(p, c) = v else {
-        return Typed { fault: 9, row: 0 };
+        return Typed {
+            fault: 9,
+            row: 0,
+            env: 0,
+        };
     };
     if i >= c {
-        return Typed { fault: 11, row: 0 };
+        return Typed {
+            fault: 11,
+            row: 0,
+            env: 0,
+        };
     }
     let t = types_rows::link(h, types_rows::at(parts, p + i));
     Typed {
         fault: 0,
         row: row_of(n, t),
+        env: u.env,
     }
 }
 
 // The stack to which register r points, as a link.
 pub fn pointer(rows: &[u16], parts: &[u16], n: usize, regs: &[u16], r: usize) -> Typed
     requires { ⌜ Ready (now rows) (now parts) n ⌝ }
-    ensures { λ out. ⌜ ((P : Program) (Δ : List Kind) → toldOf (pointerAt P Δ (regsOf (typesIn (now (rows .entry)) (now (parts .entry)) n) (now (regs .entry))) r) ≡ answer (out .fault) (meanS (tab (now (rows .entry)) (now (parts .entry))) (out .row))) × (out .row ≤ n + 1) ⌝ }
+    ensures { λ out. ⌜ ((E : List ℕ) (P : Program) (Δ : List Kind) → toldOf (pointerAt P Δ (regsOf (heldIn (now (rows .entry)) (now (parts .entry)) n E) (now (regs .entry))) r) ≡ answer (out .fault) (readIn E (out .env) (meanS (tab (now (rows .entry)) (now (parts .entry))) (out .row)))) × ((E : List ℕ) → Found n E (now (regs .entry)) out) ⌝ }
 {
     let u = valid_context::register(regs, r);
-    if u == 0 {
-        return Typed { fault: 9, row: 0 };
+    if u.link == 0 {
+        return Typed {
+            fault: 9,
+            row: 0,
+            env: 0,
+        };
     }
-    let v = types_rows::read_value(rows, types_rows::link(n + 3, u - 1), 0, 0, 0);
+    let v = types_rows::read_value(rows, types_rows::link(n + 3, u.link - 1), 0, 0, 0);
     let Val::Pointer(x) = v else {
-        return Typed { fault: 9, row: 0 };
+        return Typed {
+            fault: 9,
+            row: 0,
+            env: 0,
+        };
     };
-    Typed { fault: 0, row: x }
+    Typed {
+        fault: 0,
+        row: x,
+        env: u.env,
+    }
+}
+
+// What the package type of row t hides: its row, and fault 9 if it is no package type. Once the package is opened, that row is read in the
+// environment that the unpack makes.
+pub fn hidden_inside(rows: &[u16], parts: &[u16], n: usize, t: usize) -> Typed
+    requires { ⌜ Ready (now rows) (now parts) n × (t ≤ 65535) ⌝ }
+    ensures { λ out. ⌜ (toldOf (orFault 9 (asHidden (typeAt value (typesIn (now (rows .entry)) (now (parts .entry)) n) t))) ≡ answer (out .fault) (typeAt value (typesIn (now (rows .entry)) (now (parts .entry)) n) (out .row))) × ((E : List ℕ) (e : ℕ) → Known E → e ≤ 2 * length E → toldOf (orFault 9 (asHidden (heldIn (now (rows .entry)) (now (parts .entry)) n E .type e t))) ≡ answer (out .fault) (heldIn (now (rows .entry)) (now (parts .entry)) n (E ++ e ∷ []) .type (suc (2 * length E)) (out .row))) × (out .row ≤ n + 1) ⌝ }
+{
+    let v = types_rows::read_value(rows, types_rows::link(n + 3, t), 0, 0, 0);
+    let Val::Hidden(x) = v else {
+        return Typed {
+            fault: 9,
+            row: 0,
+            env: 0,
+        };
+    };
+    Typed {
+        fault: 0,
+        row: row_of(n, x),
+        env: 0,
+    }
 }
 
 // Row t as code.
 pub(crate) fn code(rows: &[u16], parts: &[u16], n: usize, t: usize) -> Coded
     requires { ⌜ Ready (now rows) (now parts) n × (t ≤ 65535) ⌝ }
-    ensures { λ out. ⌜ (asCode (typeAt value (typesIn (now (rows .entry)) (now (parts .entry)) n) t) ≡ guarded (out .is) (codeIn (now (rows .entry)) (now (parts .entry)) (out .link) (out .stack) (out .start))) × (out .link ≤ n + 2) × (out .stack ≤ n + 1) × (out .start ≤ 65535) ⌝ }
+    ensures { λ out. ⌜ ((E : List ℕ) (e : ℕ) → asCode (heldIn (now (rows .entry)) (now (parts .entry)) n E .type e t) ≡ guarded (out .is) (codeRead E e (codeIn (now (rows .entry)) (now (parts .entry)) (out .link) (out .stack) (out .start)))) × (out .link ≤ n + 2) × (out .stack ≤ n + 1) × (out .start ≤ 65535) ⌝ }
 {
     let h = types_rows::link(n + 3, t);
     let v = types_rows::read_value(rows, h, 0, 0, 0);
@@ -169,7 +215,7 @@ pub(crate) fn code(rows: &[u16], parts: &[u16], n: usize, t: usize) -> Coded
 // Rows l and r are both the integer type, as most rows that are compared are.
 fn both_int(rows: &[u16], parts: &[u16], n: usize, l: usize, r: usize) -> bool
     requires { ⌜ Ready (now rows) (now parts) n ⌝ }
-    ensures { λ out. ⌜ (out ≡ true → true ≡ same (typeAt value (typesIn (now (rows .entry)) (now (parts .entry)) n) l) (typeAt value (typesIn (now (rows .entry)) (now (parts .entry)) n) r)) ⌝ }
+    ensures { λ out. ⌜ (out ≡ true → (E : List ℕ) (e f : ℕ) → heldIn (now (rows .entry)) (now (parts .entry)) n E .type e l ≡ heldIn (now (rows .entry)) (now (parts .entry)) n E .type f r) ⌝ }
 {
     if 512 < l {
         return false;
@@ -183,38 +229,73 @@ fn both_int(rows: &[u16], parts: &[u16], n: usize, l: usize, r: usize) -> bool
     false
 }
 
-// The value types of rows l and r are equal.
-pub fn same_rows(
+// Rows l and r, in the environments e and f, are seen at once to have the same type.
+pub(crate) fn same_at_sight(
     rows: &[u16],
     parts: &[u16],
     n: usize,
     l: usize,
+    e: usize,
     r: usize,
+    f: usize,
+) -> bool
+    requires { ⌜ Ready (now rows) (now parts) n ⌝ }
+    ensures { λ out. ⌜ (out ≡ true → (E : List ℕ) → heldIn (now (rows .entry)) (now (parts .entry)) n E .type e l ≡ heldIn (now (rows .entry)) (now (parts .entry)) n E .type f r) ⌝ }
+{
+    if l != r {
+        return both_int(rows, parts, n, l, r);
+    }
+    if e == f {
+        return true;
+    }
+    both_int(rows, parts, n, l, r)
+}
+
+// The value types of l and r are equal.
+pub fn same_rows(
+    rows: &[u16],
+    parts: &[u16],
+    envs: &[u16],
+    n: usize,
+    l: Held,
+    r: Held,
     pending: &mut [u32],
 ) -> bool
-    requires { ⌜ Ready (now rows) (now parts) n × (1543 ≤ length (now pending)) ⌝ }
-    ensures { λ out. ⌜ out ≡ same (typeAt value (typesIn (now (rows .entry)) (now (parts .entry)) n) l) (typeAt value (typesIn (now (rows .entry)) (now (parts .entry)) n) r) ⌝ }
+    requires { ⌜ Comparing (now rows) (now parts) (now envs) n (now pending) × (l .env ≤ 65535) × (r .env ≤ 65535) ⌝ }
+    ensures { λ out. ⌜ out ≡ same ((heldIn (now (rows .entry)) (now (parts .entry)) n (now (envs .entry))) .type (l .env) (l .row)) ((heldIn (now (rows .entry)) (now (parts .entry)) n (now (envs .entry))) .type (r .env) (r .row)) ⌝ }
 {
-    if l == r {
+    if same_at_sight(rows, parts, n, l.row, l.env, r.row, r.env) {
         return true;
     }
-    if both_int(rows, parts, n, l, r) {
-        return true;
-    }
-    types_equal::equal_values(rows, parts, n + 2, l, r, pending)
+    types_equal::equal_held(rows, parts, envs, n + 2, l, r, pending)
 }
 
 // ---- items
-// An item of a stack row is the one that entry y of sp stands for.
-fn same_item(rows: &[u16], parts: &[u16], n: usize, it: Item, y: usize, pending: &mut [u32]) -> bool
-    requires { ⌜ Ready (now rows) (now parts) n × LowItem (n + 2) it × (1543 ≤ length (now pending)) ⌝ }
-    ensures { λ out. ⌜ out ≡ itemIs (now (rows .entry)) (now (parts .entry)) n it y ⌝ }
+// An item of a stack row that was read in environment e is the one that entry y of sp stands for, which was read in environment f.
+fn same_item(
+    rows: &[u16],
+    parts: &[u16],
+    envs: &[u16],
+    n: usize,
+    it: Item,
+    e: usize,
+    y: usize,
+    f: usize,
+    pending: &mut [u32],
+) -> bool
+    requires { ⌜ Comparing (now rows) (now parts) (now envs) n (now pending) × LowItem (n + 2) it × (e ≤ 65535) × EntryIn y f ⌝ }
+    ensures { λ out. ⌜ out ≡ itemIs (now (rows .entry)) (now (parts .entry)) n (now (envs .entry)) e it f y ⌝ }
 {
     match it {
         Item::NoItem => false,
         Item::ValItem(t) => {
             if y < 1024 {
-                return same_rows(rows, parts, n, row_of(n, t), y, pending);
+                let l = Held {
+                    row: row_of(n, t),
+                    env: e,
+                };
+                let r = Held { row: y, env: f };
+                return same_rows(rows, parts, envs, n, l, r, pending);
             }
             false
         }
@@ -222,46 +303,47 @@ fn same_item(rows: &[u16], parts: &[u16], n: usize, it: Item, y: usize, pending:
             if y < 1024 {
                 return false;
             }
-            k == y - 1024
+            k == types_rows::variables::variable(envs, f, y - 1024)
         }
     }
 }
 
-// The value row of link t is seen at once to have the type of entry y of sp.
-fn seen_item(rows: &[u16], parts: &[u16], n: usize, t: usize, y: usize) -> bool
+// The value row of link t, in environment e, is seen at once to have the type of entry y of sp, in environment f.
+fn seen_item(rows: &[u16], parts: &[u16], n: usize, t: usize, e: usize, y: usize, f: usize) -> bool
     requires { ⌜ Ready (now rows) (now parts) n × (t ≤ n + 2) ⌝ }
-    ensures { λ out. ⌜ (out ≡ true → (y < 1024) × (meanV (tab (now (rows .entry)) (now (parts .entry))) t ≡ typeAt value (typesIn (now (rows .entry)) (now (parts .entry)) n) y)) ⌝ }
+    ensures { λ out. ⌜ (out ≡ true → (y < 1024) × ((E : List ℕ) → readIn E e (meanV (tab (now (rows .entry)) (now (parts .entry))) t) ≡ heldIn (now (rows .entry)) (now (parts .entry)) n E .type f y)) ⌝ }
 {
     if 1023 < y {
         return false;
     }
-    let r = row_of(n, t);
-    if r == y {
-        return true;
-    }
-    both_int(rows, parts, n, r, y)
+    same_at_sight(rows, parts, n, row_of(n, t), e, y, f)
 }
 
-// The i lowest items of sp are the stack variable k alone.
-fn lone_variable(sp: &[u16], i: usize, k: usize) -> bool
-    ensures { λ out. ⌜ (out ≡ true → (T : List Arg) → spOf T (now (sp .entry)) i ≡ svar k nil) ⌝ }
+// The i lowest items of sp are the stack variable k of environment e alone.
+fn lone_variable(sp: &[u16], i: usize, k: usize, e: usize) -> bool
+    ensures { λ out. ⌜ (out ≡ true → (T : Reading) → spOf T (now (sp .entry)) i ≡ svar (T .variable e k) nil) ⌝ }
 {
     if i != 1 {
         return false;
     }
-    let e = types_rows::at(sp, 0);
-    if e < 1024 {
+    let y = valid_context::number(sp, 0, 0);
+    if y < 1024 {
         return false;
     }
-    e - 1024 == k
+    if valid_context::number(sp, 0, 1) != e {
+        return false;
+    }
+    y - 1024 == k
 }
 
-// The stack row of link x is seen at once to have the m lowest items of sp: value rows one under the other, and no row or a variable.
-fn seen_items(rows: &[u16], parts: &[u16], n: usize, sp: &[u16], m: usize, x: usize) -> bool
-    requires { ⌜ Ready (now rows) (now parts) n × (x ≤ n + 2) ⌝ }
-    ensures { λ out. ⌜ (out ≡ true → true ≡ same (meanS (tab (now (rows .entry)) (now (parts .entry))) x) (spOf (typesIn (now (rows .entry)) (now (parts .entry)) n) (now (sp .entry)) m)) ⌝ }
+// The stack row of link x, in its environment, is seen at once to have the m lowest items of sp: value rows one under the other, and no
+// row or a variable.
+fn seen_items(rows: &[u16], parts: &[u16], n: usize, sp: &[u16], m: usize, x: Held) -> bool
+    requires { ⌜ Ready (now rows) (now parts) n × (x .row ≤ n + 2) × (m ≤ 65535) ⌝ }
+    ensures { λ out. ⌜ (out ≡ true → (E : List ℕ) → true ≡ same (readIn E (x .env) (meanS (tab (now (rows .entry)) (now (parts .entry))) (x .row))) (spOf (heldIn (now (rows .entry)) (now (parts .entry)) n E) (now (sp .entry)) m)) ⌝ }
 {
-    let mut y = x;
+    let e = x.env;
+    let mut y = x.row;
     let mut i = m;
     loop {
         let s = types_rows::read_stack(rows, y, 0, 0, 0);
@@ -270,7 +352,7 @@ fn seen_items(rows: &[u16], parts: &[u16], n: usize, sp: &[u16], m: usize, x: us
                 return i == 0;
             }
             Stk::StkVar(k) => {
-                return lone_variable(sp, i, k);
+                return lone_variable(sp, i, k, e);
             }
             Stk::StkFill(_) => {
                 return false;
@@ -279,7 +361,8 @@ fn seen_items(rows: &[u16], parts: &[u16], n: usize, sp: &[u16], m: usize, x: us
                 if i == 0 {
                     return false;
                 }
-                if !seen_item(rows, parts, n, t, types_rows::at(sp, i - 1)) {
+                let u = valid_context::number(sp, i - 1, 0);
+                if !seen_item(rows, parts, n, t, e, u, valid_context::number(sp, i - 1, 1)) {
                     return false;
                 }
                 y = z;
@@ -292,26 +375,31 @@ fn seen_items(rows: &[u16], parts: &[u16], n: usize, sp: &[u16], m: usize, x: us
     }
 }
 
-// The stack row of link x has the m lowest items of sp, each found by its position.
+// The stack row of link x, in its environment, has the m lowest items of sp, each found by its position.
 fn same_each(
     rows: &[u16],
     parts: &[u16],
+    envs: &[u16],
     n: usize,
     sp: &[u16],
     m: usize,
-    x: usize,
+    x: Held,
     pending: &mut [u32],
 ) -> bool
-    requires { ⌜ Ready (now rows) (now parts) n × (x ≤ n + 2) × (1543 ≤ length (now pending)) ⌝ }
-    ensures { λ out. ⌜ out ≡ same (meanS (tab (now (rows .entry)) (now (parts .entry))) x) (spOf (typesIn (now (rows .entry)) (now (parts .entry)) n) (now (sp .entry)) m) ⌝ }
+    requires { ⌜ Comparing (now rows) (now parts) (now envs) n (now pending) × (x .row ≤ n + 2) × (x .env ≤ 65535) × (m ≤ 65535) ⌝ }
+    ensures { λ out. ⌜ out ≡ same (readIn (now (envs .entry)) (x .env) (meanS (tab (now (rows .entry)) (now (parts .entry))) (x .row))) (spOf (heldIn (now (rows .entry)) (now (parts .entry)) n (now (envs .entry))) (now (sp .entry)) m) ⌝ }
 {
-    if types_rows::item_count(rows, x) != m {
+    let h = x.row;
+    let e = x.env;
+    if types_rows::item_count(rows, h) != m {
         return false;
     }
     let mut i = 0;
     while i < m {
-        let it = types_rows::item_at(rows, parts, 0, 0, x, i);
-        if !same_item(rows, parts, n, it, types_rows::at(sp, m - i - 1), pending) {
+        let it = types_rows::item_in(rows, parts, envs, e, h, i);
+        let y = valid_context::number(sp, m - i - 1, 0);
+        let f = valid_context::number(sp, m - i - 1, 1);
+        if !same_item(rows, parts, envs, n, it, e, y, f, pending) {
             return false;
         }
         i += 1;
@@ -319,43 +407,45 @@ fn same_each(
     true
 }
 
-// The stack row of link x has the m lowest items of sp.
+// The stack row of link x, in its environment, has the m lowest items of sp.
 pub fn same_items(
     rows: &[u16],
     parts: &[u16],
+    envs: &[u16],
     n: usize,
     sp: &[u16],
     m: usize,
-    x: usize,
+    x: Held,
     pending: &mut [u32],
 ) -> bool
-    requires { ⌜ Ready (now rows) (now parts) n × (x ≤ n + 2) × (1543 ≤ length (now pending)) ⌝ }
-    ensures { λ out. ⌜ out ≡ same (meanS (tab (now (rows .entry)) (now (parts .entry))) x) (spOf (typesIn (now (rows .entry)) (now (parts .entry)) n) (now (sp .entry)) m) ⌝ }
+    requires { ⌜ Comparing (now rows) (now parts) (now envs) n (now pending) × (x .row ≤ n + 2) × (x .env ≤ 65535) × (m ≤ 65535) ⌝ }
+    ensures { λ out. ⌜ out ≡ same (readIn (now (envs .entry)) (x .env) (meanS (tab (now (rows .entry)) (now (parts .entry))) (x .row))) (spOf (heldIn (now (rows .entry)) (now (parts .entry)) n (now (envs .entry))) (now (sp .entry)) m) ⌝ }
 {
     if seen_items(rows, parts, n, sp, m, x) {
         return true;
     }
-    same_each(rows, parts, n, sp, m, x, pending)
+    same_each(rows, parts, envs, n, sp, m, x, pending)
 }
 
-// The items of the stack row of link x are a tail of sp's.
+// The items of the stack row of link x, in its environment, are a tail of sp's.
 pub fn is_tail(
     rows: &[u16],
     parts: &[u16],
+    envs: &[u16],
     n: usize,
     sp: &[u16],
     d: usize,
-    x: usize,
+    x: Held,
     pending: &mut [u32],
 ) -> bool
-    requires { ⌜ Ready (now rows) (now parts) n × (x ≤ n + 2) × (1543 ≤ length (now pending)) ⌝ }
-    ensures { λ out. ⌜ above (meanS (tab (now (rows .entry)) (now (parts .entry))) x) (spOf (typesIn (now (rows .entry)) (now (parts .entry)) n) (now (sp .entry)) d) ≡ guarded out (spAbove (typesIn (now (rows .entry)) (now (parts .entry)) n) (now (sp .entry)) (items (meanS (tab (now (rows .entry)) (now (parts .entry))) x)) (d - items (meanS (tab (now (rows .entry)) (now (parts .entry))) x))) ⌝ }
+    requires { ⌜ Comparing (now rows) (now parts) (now envs) n (now pending) × (x .row ≤ n + 2) × (x .env ≤ 65535) ⌝ }
+    ensures { λ out. ⌜ above (readIn (now (envs .entry)) (x .env) (meanS (tab (now (rows .entry)) (now (parts .entry))) (x .row))) (spOf (heldIn (now (rows .entry)) (now (parts .entry)) n (now (envs .entry))) (now (sp .entry)) d) ≡ guarded out (spAbove (heldIn (now (rows .entry)) (now (parts .entry)) n (now (envs .entry))) (now (sp .entry)) (items (meanS (tab (now (rows .entry)) (now (parts .entry))) (x .row))) (d - items (meanS (tab (now (rows .entry)) (now (parts .entry))) (x .row)))) ⌝ }
 {
-    let m = types_rows::item_count(rows, x);
+    let m = types_rows::item_count(rows, x.row);
     if d < m {
         return false;
     }
-    same_items(rows, parts, n, sp, m, x, pending)
+    same_items(rows, parts, envs, n, sp, m, x, pending)
 }
 
 // The link of an item that is a value type, else 0.
@@ -373,7 +463,7 @@ fn link_of(n: usize, it: Item) -> usize
 // The link of item i of the stack row of link x, if it and those above it are value types; else 0.
 pub fn row_item(rows: &[u16], parts: &[u16], n: usize, x: usize, i: usize) -> usize
     requires { ⌜ Ready (now rows) (now parts) n × (x ≤ n + 2) ⌝ }
-    ensures { λ out. ⌜ (itemAt (meanS (tab (now (rows .entry)) (now (parts .entry))) x) i ≡ linked (typesIn (now (rows .entry)) (now (parts .entry)) n) out) × (out ≤ n + 2) ⌝ }
+    ensures { λ out. ⌜ ((E : List ℕ) (e : ℕ) → itemAt (readIn E e (meanS (tab (now (rows .entry)) (now (parts .entry))) x)) i ≡ linked (heldIn (now (rows .entry)) (now (parts .entry)) n E) e out) × (out ≤ n + 2) ⌝ }
 {
     let mut j = 0;
     while j < i {
@@ -397,16 +487,18 @@ fn entry_of(n: usize, it: Item) -> u16
     }
 }
 
-// The items of the stack row of link x are put into sp.
-pub fn flatten(rows: &[u16], parts: &[u16], n: usize, sp: &mut [u16], x: usize)
-    requires { ⌜ Ready (now rows) (now parts) n × LaidOut (now rows) (now parts) n x (now sp) ⌝ }
-    ensures { λ _. ⌜ spOf (typesIn (now (rows .entry)) (now (parts .entry)) n) (now (sp .exit)) (items (meanS (tab (now (rows .entry)) (now (parts .entry))) x)) ≡ meanS (tab (now (rows .entry)) (now (parts .entry))) x ⌝ }
+// The items of the stack row of link x, in its environment, are put into sp.
+pub fn flatten(rows: &[u16], parts: &[u16], n: usize, sp: &mut [u16], x: Held)
+    requires { ⌜ Ready (now rows) (now parts) n × LaidOut (now rows) (now parts) n (x .row) (now sp) × (x .env ≤ 65535) ⌝ }
+    ensures { λ _. ⌜ ((E : List ℕ) → spOf (heldIn (now (rows .entry)) (now (parts .entry)) n E) (now (sp .exit)) (items (meanS (tab (now (rows .entry)) (now (parts .entry))) (x .row))) ≡ readIn E (x .env) (meanS (tab (now (rows .entry)) (now (parts .entry))) (x .row))) × EnvsIn (x .env) (now (sp .exit)) (items (meanS (tab (now (rows .entry)) (now (parts .entry))) (x .row))) ⌝ }
 {
-    let m = types_rows::item_count(rows, x);
+    let h = x.row;
+    let e = x.env;
+    let m = types_rows::item_count(rows, h);
     let mut i = 0;
     while i < m {
-        let it = types_rows::item_at(rows, parts, 0, 0, x, i);
-        sp[m - i - 1] = entry_of(n, it);
+        let it = types_rows::item_at(rows, parts, 0, 0, h, i);
+        valid_context::put(sp, m - i - 1, entry_of(n, it), e as u16);
         i += 1;
     }
 }
@@ -424,7 +516,7 @@ pub fn given_row(n: usize, t: usize) -> usize
 }
 
 // Row t of the program's n rows is a stack row.
-fn is_stack_row(rows: &[u16], n: usize, t: usize) -> bool
+pub(crate) fn is_stack_row(rows: &[u16], n: usize, t: usize) -> bool
     requires { ⌜ n ≤ 512 ⌝ }
     ensures { λ out. ⌜ ((parts : List ℕ) → kindOf (givenArg (now (rows .entry)) parts n t) ≡ cond out stack value) ⌝ }
 {
@@ -434,7 +526,7 @@ fn is_stack_row(rows: &[u16], n: usize, t: usize) -> bool
     false
 }
 
-// Row t, as an argument, is formed under the q letters at l.
+// Row t, as an argument, is formed under the letters w.
 fn formed_arg(
     rows: &[u16],
     parts: &[u16],
@@ -442,14 +534,13 @@ fn formed_arg(
     uses: &[u16],
     tops: &[u16],
     t: usize,
-    q: usize,
-    l: usize,
+    w: BlockLetters,
 ) -> bool
     requires { ⌜ Scoped (tab (now rows) (now parts)) n (now uses) (now tops) ⌝ }
-    ensures { λ out. ⌜ out ≡ formedArg (map letterOf (span (now (parts .entry)) l q)) (givenArg (now (rows .entry)) (now (parts .entry)) n t) ⌝ }
+    ensures { λ out. ⌜ out ≡ formedArg (lettersOf (now (parts .entry)) w) (givenArg (now (rows .entry)) (now (parts .entry)) n t) ⌝ }
 {
     if t < n {
-        return valid_scope::formed(rows, parts, n, uses, tops, t, q, l);
+        return valid_scope::formed(rows, parts, n, uses, tops, t, w);
     }
     true
 }
@@ -475,8 +566,7 @@ pub fn formed_row(image: &[u16], p: Places, n: usize, t: usize, w: BlockLetters)
         &image[uses..tops],
         &image[tops..shared],
         t,
-        w.count,
-        w.start,
+        w,
     ) {
         return 0;
     }
@@ -506,12 +596,12 @@ pub(crate) fn formed_args(
     let tops = &image[top..shared];
     let rows = &image[shared..slots];
     let parts = &image[slots..end];
-    let q = w.count;
-    let l = w.start;
+    // The loop's invariant speaks of locals, and of no parameter that is a struct.
+    let u = w;
     let mut i = 0;
     while i < c {
         let t = types_rows::at(args, a + i);
-        if !formed_arg(rows, parts, n, uses, tops, t, q, l) {
+        if !formed_arg(rows, parts, n, uses, tops, t, u) {
             return false;
         }
         i += 1;

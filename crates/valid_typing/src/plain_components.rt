@@ -1,5 +1,5 @@
 // The components that `malloc` takes where they are seen at once to make the tuple of its row, as those of most texts are: operands with no
-// arguments, each of the very row of its component, or both the integer type. Promised: where the answer is yes, the operands have types,
+// arguments, each of the very row of its component in the same environment, or both the integer type. Promised: where the answer is yes, the operands have types,
 // and the row is the tuple of them (`Makes`); no is no answer, and module components is asked. Asked: the tables of module prepare of load.
 use crate::Listed;
 use image::Counts;
@@ -9,7 +9,6 @@ ghost use mathlib.Core.Path.{_≡_};
 ghost use mathlib.Core.Bool.{true, false};
 ghost use Prim.Native.Nat.{ℕ, _+_, _≤_};
 ghost use mathlib.Core.List.{List};
-ghost use lib.ListN.{length};
 ghost use Rattle.syntax.specs.Syntax.{Kind, value};
 ghost use Rattle.syntax.specs.Fault.{fault};
 ghost use Rattle.types.specs.Rows.{typeAt};
@@ -17,41 +16,28 @@ ghost use Rattle.tables.specs.Tables.{operandAt, operandsAt};
 ghost use Rattle.valid.specs.Program.{Program};
 ghost use Rattle.valid.specs.PassThree.{operand};
 ghost use Rattle.types_rows.specs.Read.{partsOf, meanV};
-ghost use Rattle.image.specs.Sections.{Ordered, operandSection, slotSection};
+ghost use Rattle.image.specs.Sections.{operandSection, slotSection};
 ghost use Rattle.valid_context.specs.Context.{regsOf};
 ghost use Rattle.valid_context.specs.Told.{toldOf, answer};
-ghost use Rattle.valid_typing.specs.Typing.{typesIn, Ready, RowParts};
+ghost use Rattle.valid_typing.specs.Typing.{RowParts};
 ghost use Rattle.valid_typing.specs.operands.Operands.{operandTable};
-ghost use Rattle.valid_typing.specs.Image.{rowTable, typesAt, ReadyAt, ListedWithin, HoldsAt};
+ghost use Rattle.valid_typing.specs.Image.{rowTable, typesAt, readAt, PlainIn, ListedWithin, HoldsAt};
 ghost use Rattle.valid_typing.specs.components.Components.{components};
 ghost use Rattle.valid_typing.specs.plain_components.Makes.{Makes};
 
-// Rows l and t are the same row, or both the integer type.
-fn same_at_sight(rows: &[u16], parts: &[u16], n: usize, l: usize, t: usize) -> bool
-    requires { ⌜ Ready (now rows) (now parts) n × (l ≤ n + 1) × (t ≤ n + 1) ⌝ }
-    ensures { λ out. ⌜ (out ≡ true → typeAt value (typesIn (now (rows .entry)) (now (parts .entry)) n) l ≡ typeAt value (typesIn (now (rows .entry)) (now (parts .entry)) n) t) ⌝ }
-{
-    if l == t {
-        return true;
-    }
-    if crate::is_int(rows, parts, n, t) {
-        return crate::is_int(rows, parts, n, l);
-    }
-    false
-}
-
-// Operand v has no arguments, and is seen at once to have the type of row t.
+// Operand v has no arguments, and is seen at once to have the type of row t, which is read now.
 fn plain_fits(
     image: &[u16],
     literals: &[u32],
+    envs: &[u16],
     p: Places,
     c: Counts,
     v: usize,
     regs: &[u16],
     t: usize,
 ) -> bool
-    requires { ⌜ Ordered p (length (now image)) × ReadyAt p (now image) (c .rows) × (v ≤ 131072) × (t ≤ c .rows + 1) ⌝ }
-    ensures { λ out. ⌜ (out ≡ true → (P : Program) (Δ : List Kind) (args : List ℕ) → HoldsAt p (now (image .entry)) c P → toldOf (operand P Δ (fault 10) (regsOf (typesAt p (now (image .entry)) (c .rows)) (now (regs .entry))) (operandAt (operandTable (operandSection p (now (image .entry))) (now (literals .entry)) args) v)) ≡ answer 0 (typeAt value (typesAt p (now (image .entry)) (c .rows)) t)) ⌝ }
+    requires { ⌜ PlainIn p (now image) (c .rows) (now envs) × (v ≤ 131072) × (t ≤ c .rows + 1) ⌝ }
+    ensures { λ out. ⌜ (out ≡ true → (P : Program) (Δ : List Kind) (args : List ℕ) → HoldsAt p (now (image .entry)) c P → toldOf (operand P Δ (fault 10) (regsOf (readAt p (now (image .entry)) (c .rows) (now (envs .entry))) (now (regs .entry))) (operandAt (operandTable (operandSection p (now (image .entry))) (now (literals .entry)) args) v)) ≡ answer 0 (typeAt value (typesAt p (now (image .entry)) (c .rows)) t)) ⌝ }
 {
     let operands = p.operands;
     let args = p.args;
@@ -62,25 +48,27 @@ fn plain_fits(
     let rows = &image[shared..slots];
     let parts = &image[slots..end];
     let n = c.rows;
-    if crate::bases::entry(table, v, 1) != 0 {
+    let kind = crate::bases::entry(table, v, 0);
+    let count = crate::bases::entry(table, v, 1);
+    if !crate::operands::is_plain(kind, count) {
         return false;
     }
-    let kind = crate::bases::entry(table, v, 0);
     if kind == 1 {
         return crate::is_int(rows, parts, n, t);
     }
     let number = crate::bases::number_at(literals, v);
-    let b = crate::bases::base_type(image, p, c, regs, kind, number);
+    let b = crate::bases::base_type(image, envs, p, c, regs, kind, number);
     if b.fault != 0 {
         return false;
     }
-    same_at_sight(rows, parts, n, b.row, t)
+    crate::same_at_sight(rows, parts, n, b.row, b.env, t, 2 * envs.len())
 }
 
 // The operands o are so seen to have the types of the components that stand in the table of parts from `at` on, of the row of link h.
 fn plain_parts(
     image: &[u16],
     literals: &[u32],
+    envs: &[u16],
     p: Places,
     c: Counts,
     o: Listed,
@@ -88,8 +76,8 @@ fn plain_parts(
     h: usize,
     at: usize,
 ) -> bool
-    requires { ⌜ Ordered p (length (now image)) × ReadyAt p (now image) (c .rows) × RowParts (c .rows) h at × ListedWithin o ⌝ }
-    ensures { λ out. ⌜ (out ≡ true → (P : Program) (Δ : List Kind) (args : List ℕ) → HoldsAt p (now (image .entry)) c P → toldOf (components P Δ (regsOf (typesAt p (now (image .entry)) (c .rows)) (now (regs .entry))) (operandsAt (operandTable (operandSection p (now (image .entry))) (now (literals .entry)) args) (o .first) (o .count))) ≡ answer 0 (partsOf (meanV (rowTable p (now (image .entry)))) (slotSection p (now (image .entry))) false h at (o .count))) ⌝ }
+    requires { ⌜ PlainIn p (now image) (c .rows) (now envs) × RowParts (c .rows) h at × ListedWithin o ⌝ }
+    ensures { λ out. ⌜ (out ≡ true → (P : Program) (Δ : List Kind) (args : List ℕ) → HoldsAt p (now (image .entry)) c P → toldOf (components P Δ (regsOf (readAt p (now (image .entry)) (c .rows) (now (envs .entry))) (now (regs .entry))) (operandsAt (operandTable (operandSection p (now (image .entry))) (now (literals .entry)) args) (o .first) (o .count))) ≡ answer 0 (partsOf (meanV (rowTable p (now (image .entry)))) (slotSection p (now (image .entry))) false h at (o .count))) ⌝ }
 {
     // The loop's invariant speaks of locals, and of no parameter that is a struct.
     let q = p;
@@ -104,7 +92,7 @@ fn plain_parts(
             k.rows,
             types_rows::link(h, types_rows::at(parts, at + i - 1)),
         );
-        if !plain_fits(image, literals, q, k, v + i - 1, regs, t) {
+        if !plain_fits(image, literals, envs, q, k, v + i - 1, regs, t) {
             return false;
         }
         i -= 1;
@@ -116,14 +104,15 @@ fn plain_parts(
 pub fn plain_tuple(
     image: &[u16],
     literals: &[u32],
+    envs: &[u16],
     p: Places,
     c: Counts,
     o: Listed,
     regs: &[u16],
     t: usize,
 ) -> bool
-    requires { ⌜ Ordered p (length (now image)) × ReadyAt p (now image) (c .rows) × (o .first + o .count ≤ 131072) × (t ≤ 65535) ⌝ }
-    ensures { λ out. ⌜ (out ≡ true → (P : Program) (Δ : List Kind) (args : List ℕ) → HoldsAt p (now (image .entry)) c P → Makes P Δ (regsOf (typesAt p (now (image .entry)) (c .rows)) (now (regs .entry))) (operandsAt (operandTable (operandSection p (now (image .entry))) (now (literals .entry)) args) (o .first) (o .count)) (typeAt value (typesAt p (now (image .entry)) (c .rows)) t)) ⌝ }
+    requires { ⌜ PlainIn p (now image) (c .rows) (now envs) × (o .first + o .count ≤ 131072) × (t ≤ 65535) ⌝ }
+    ensures { λ out. ⌜ (out ≡ true → (P : Program) (Δ : List Kind) (args : List ℕ) → HoldsAt p (now (image .entry)) c P → Makes P Δ (regsOf (readAt p (now (image .entry)) (c .rows) (now (envs .entry))) (now (regs .entry))) (operandsAt (operandTable (operandSection p (now (image .entry))) (now (literals .entry)) args) (o .first) (o .count)) (typeAt value (typesAt p (now (image .entry)) (c .rows)) t)) ⌝ }
 {
     let shared = p.shared;
     let slots = p.slots;
@@ -135,5 +124,5 @@ pub fn plain_tuple(
     if k != o.count {
         return false;
     }
-    plain_parts(image, literals, p, c, o, regs, h, at)
+    plain_parts(image, literals, envs, p, c, o, regs, h, at)
 }

@@ -52,8 +52,8 @@ entry8-of-choose x = search
 abbrev entry8-of-constant-kind : tie.After-constant-kind → tie.After-entry8
 entry8-of-constant-kind x = search
 
-abbrev kind-of-of-constant-kind : tie.After-constant-kind → tie.After-kind-of
-kind-of-of-constant-kind x = search
+abbrev base-kind-of-constant-kind : tie.After-constant-kind → tie.After-base-kind
+base-kind-of-constant-kind x = search
 
 abbrev number-at-of-constant-kind : tie.After-constant-kind → tie.After-number-at
 number-at-of-constant-kind x = search
@@ -143,7 +143,7 @@ returns c =
     let e8 = entry8-of-constant-kind (constant-kind-of-goal3 g3) in
     let w = wide-of-constant-kind (constant-kind-of-goal3 g3) in
     let n = number-at-of-constant-kind (constant-kind-of-goal3 g3) in
-    let k = kind-of-of-constant-kind (constant-kind-of-goal3 g3) in
+    let k = base-kind-of-constant-kind (constant-kind-of-goal3 g3) in
     let e7 = entry7-of-constant-kind (constant-kind-of-goal3 g3) in
     let e6 = entry6-of-constant-kind (constant-kind-of-goal3 g3) in
     let e5 = entry5-of-constant-kind (constant-kind-of-goal3 g3) in
@@ -155,7 +155,7 @@ returns c =
     λ m. (p .put-row) .ensures ∙ ap (λ (vs : List ℕ). putRow (s .args .plan .now) (8 * (s .args .j)) vs) (row-is (s .args .instrs .now)
     (s .args .operands .now) (s .args .bases .now) (s .args .blocks .now) _ _ (e .entry .ensures .0) (e2 .entry2 .ensures .0)
     (e3 .entry3 .ensures .0) (e4 .entry4 .ensures .0) (e5 .entry5 .ensures .0) (e6 .entry6 .ensures .0) (e7 .entry7 .ensures .0)
-    (k .kind-of .ensures .0) (n .number-at .ensures) (w .wide .ensures .0) (e8 .entry8 .ensures .0) (b .branch-kind .ensures)
+    (k .base-kind .ensures .0) (n .number-at .ensures) (w .wide .ensures .0) (e8 .entry8 .ensures .0) (b .branch-kind .ensures)
     (c2 .constant-kind .ensures) m (c3 .column .ensures) (c4 .choose .ensures .0) (c5 .column2 .ensures) (c6 .choose2 .ensures .0)
     (c7 .column3 .ensures) (c8 .choose3 .ensures .0) (f .form .ensures .0) (c9 .checked .ensures .0) (c10 .class .ensures)
     (n2 .narrow .ensures) (n3 .narrow2 .ensures) (n4 .narrow3 .ensures) (l .last .ensures) (g .goal .ensures) (f2 .fifth .ensures)

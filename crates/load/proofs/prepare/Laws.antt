@@ -9,7 +9,7 @@ use lib.ListN.{length, getD, set, length-set}
 use lib.Seq.{getD-set-same, getD-set-other}
 use borrow.Author.Tests.{eqb-true, eqb-false}
 use borrow.Rule.Slice.PartMut.{putMid}
-use Rattle.syntax.specs.Syntax.{Row, rowI, rowN, rowE, rowV, rowX, rowP, rowU, rowK, rowA, rowC}
+use Rattle.syntax.specs.Syntax.{Row, rowI, rowN, rowE, rowV, rowX, rowP, rowH, rowU, rowK, rowA, rowC}
 use Rattle.syntax.specs.Fault.{Clear}
 use Rattle.types.specs.Rows.{rowRefs, total, sizeOf, sizesOf, rowsFaults}
 use Rattle.tables.specs.Tables.{RowTable, cell, rowFrom, rowAt, rowsFrom, rowsIn}
@@ -46,6 +46,7 @@ small-variable (rowV k) h = h
 small-variable (rowU ts) h = tt
 small-variable (rowP s) h = tt
 small-variable (rowC q s rs) h = tt
+small-variable (rowH t) h = tt
 small-variable rowE h = tt
 small-variable (rowX k) h = h
 small-variable (rowK t s) h = tt

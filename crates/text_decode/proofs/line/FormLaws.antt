@@ -51,7 +51,7 @@ count i zero = []
 count i (suc n) = i ∷ count (suc i) n
 
 -- each of the forms is the one that the table gives
-all-forms : (parts : List ℕ) → map (λ n. n .fields) forms ≡ map (formBy parts) (count 0 34)
+all-forms : (parts : List ℕ) → map (λ n. n .fields) forms ≡ map (formBy parts) (count 0 36)
 unfolding forms formBy count slots tail tupleForm codeForm formTable formCell plainField entryWith instrWith rowFrom
 all-forms parts = refl
 
@@ -74,11 +74,11 @@ nth-count g fs i (suc n) (suc k) h =
     let q : k < n = omega arith in
     nth-count g fs (suc i) n k q ∙ ap (λ (j : ℕ). g j fs) (suc-add i k ∙ sym (add-suc i k))
 
-form-by : (parts : List ℕ) (code : ℕ) (fs : List (List ℕ)) → code < 34 → formAt forms code fs ≡ formBy parts code fs
+form-by : (parts : List ℕ) (code : ℕ) (fs : List (List ℕ)) → code < 36 → formAt forms code fs ≡ formBy parts code fs
 form-by parts code fs h =
     form-nth forms code fs
     ∙ ap (λ (gs : List Form). nth gs code fs) (all-forms parts)
-    ∙ nth-count (formBy parts) fs 0 34 code h
+    ∙ nth-count (formBy parts) fs 0 36 code h
     ∙ ap (λ (j : ℕ). formBy parts j fs) (zero-add code)
 
 -- ---- the plain fields, then the operands
@@ -146,7 +146,7 @@ module _ (e : List Operand → Entry) where
   tail-read (suc (suc m)) fs = rest-read operand (suc (suc m)) fs e ∙ enough (suc (suc m)) (atMost (suc (suc m)) operand fs)
 
 -- a line of any form but U and C
-pub plain-form : (parts : List ℕ) (code : ℕ) (fs : List (List ℕ)) → code < 34 → (code ≡ 3 → ⊥) → (code ≡ 5 → ⊥) → formAt forms code
+pub plain-form : (parts : List ℕ) (code : ℕ) (fs : List (List ℕ)) → code < 36 → (code ≡ 3 → ⊥) → (code ≡ 5 → ⊥) → formAt forms code
     fs ≡ chain (readSlots (kindsOf code) fs) (λ r. chain (atMost (formCell code 4) operand (r .1))
     (λ vs. guarded (leb (fewest (formCell code 4)) (length vs)) (entryBy code parts (r .0) vs)))
 unfolding formBy

@@ -32,7 +32,7 @@ module _ (rest : List ℕ) (at most v a : ℕ) (p : Places) (l₀ ns₀ l ns : L
     abbrev l₁ : List ℕ
     l₁ = putMid (p .args) (p .uses - p .args) l y
 
-    pub bad-in : 3 ≤ r .kind → (z : ℕ) → OperandsRead (fieldsFrom rest at) most v a (operandsIn p l₀ ns₀) (operandsIn p l₁ ns) (record { ok = false; count = n; args = m; next = z })
+    pub bad-in : r .kind ≡ 3 → (z : ℕ) → OperandsRead (fieldsFrom rest at) most v a (operandsIn p l₀ ns₀) (operandsIn p l₁ ns) (record { ok = false; count = n; args = m; next = z })
     bad-in k z =
         let b = args-back p l o y ey in
         rw (b .kinds, b .args) (operands-bad rest at most v a (operandsIn p l₀ ns₀) (operandsIn p l ns) i n m g h e is r y is′ k z)
@@ -49,7 +49,7 @@ module _ (rest : List ℕ) (at most v a : ℕ) (p : Places) (l₀ ns₀ l ns : L
       back₂ = kinds-back p l₁ (ordered-as p l l₁ (args-back p l o y ey .size) o) z ez
 
       pub on-in : n < most → OperandRoom (v + most) (a + 8 * most) (length (operandSection p l₀)) (length ns₀) (length (argSection p l₀))
-          → r .kind < 3 → z ≡ withOperand (operandSection p l₁) (v + n) r (a + m) → (ns′ : List ℕ) → ns′ ≡ set ns (v + n) (r .number)
+          → (r .kind ≡ 3 → ⊥) → z ≡ withOperand (operandSection p l₁) (v + n) r (a + m) → (ns′ : List ℕ) → ns′ ≡ set ns (v + n) (r .number)
           → OperandsGo rest at most v a (operandsIn p l₀ ns₀) (operandsIn p l₂ ns′) (e + 1) (n + 1) (m + r .count)
       on-in d room k z′ ns′ c =
           let b = args-back p l o y ey in

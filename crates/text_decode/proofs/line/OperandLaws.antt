@@ -1,22 +1,22 @@
 -- Laws of the loop that reads a line's fields as operands into the tables.
 -- Assumes nothing.
-use mathlib.Core.Path.{_≡_, refl, ap, ap₂, _∙_}
-use mathlib.Core.Bool.{Bool, true, false, _&&_}
+use mathlib.Core.Path.{_≡_, refl, ap, ap₂, sym, _∙_}
+use mathlib.Core.Bool.{Bool, true, false, _&&_, cond}
 use mathlib.Core.List.{List, [], _∷_, _++_}
 use mathlib.Core.Option.{Option, none, some, Option·none-ne-some, Option·some-injective}
 use Prim.Native.Nat.{ℕ, suc, _+_, _-_, _*_, _<_, _≤_, zero-le}
 use native.Mathlib.Omega.{arith}
-use native.Mathlib.Nat.{le-refl, le-add-right, not-suc-le-zero}
+use native.Mathlib.Nat.{add-zero, le-refl, le-add-right, not-suc-le-zero}
 use lib.Dec.{eqb, leb, lit<}
 use lib.ListN.{length, getD, take, drop, set, length-set, length-take}
 use lib.Seq.{sets, take-set-le, getD-set-same, length-sets}
 use borrow.Author.Tests.{leb-true}
 use Rattle.syntax.specs.Partial.{chain, guarded}
-use Rattle.syntax.specs.Syntax.{Base, reg, lit, lab, Operand, plain, inst}
+use Rattle.syntax.specs.Syntax.{Base, reg, lit, lab, Operand, plain, inst, pack}
 use Rattle.text.specs.Bytes.{part, split, isDecimal, number}
-use Rattle.text.specs.Grammar.{each, rowNumber, carrier, orLiteral, carried, fromParts, operand}
-use Rattle.tables.specs.Tables.{cell, span, baseOf, operandOf, OperandTable, operandAt, operandsAt}
-use Rattle.tables.proofs.Spans.{same-less, same-at, same-sets, span-same, span-sets, sets-at, operands-snoc}
+use Rattle.text.specs.Grammar.{each, rowNumber, carrier, orLiteral, carried, packed, before, fromParts, operand}
+use Rattle.tables.specs.Tables.{cell, span, baseOf, operandOf, operandFrom, OperandTable, operandAt, operandsAt}
+use Rattle.tables.proofs.Spans.{same-less, same-at, same-sets, span-same, span-sets, span-at, sets-at, operands-snoc}
 use Rattle.text_lines.specs.Parts.{firstPart, lineIn}
 use Rattle.text_fields.specs.plain_operands.Answers.{answerOf, argsOf, OperandIs}
 use Rattle.text_fields.specs.declared.plain_operands.OperandRead.{OperandRead}
@@ -57,10 +57,11 @@ rows-long (f ∷ fs) ns h = go (rowNumber f) refl (each rowNumber fs) (rows-long
     go (some x) w none v e = absurd (Option·none-ne-some ns e)
     go (some x) w (some xs) v e = let a = row-long f x w in let b = v xs refl in omega arith
 
--- ---- an operand that has arguments has one to eight, in a field of at least twice as many bytes
+-- ---- an operand that has arguments has one to eight, a package one, in a field of at least twice as many bytes
 Neat : ℕ → Operand → Type 0
 Neat k (plain b) = Unit
 Neat k (inst b ts t) = (1 ≤ length ts) × (length ts ≤ 8) × (2 * length ts ≤ k)
+Neat k (pack a b h) = 2 ≤ k
 
 guarded-both : {A : Type 0} (a b : Bool) (x y : A) → guarded (a && b) x ≡ some y → (a ≡ true) × (b ≡ true) × (x ≡ y)
 guarded-both true true x y e = (refl, refl, Option·some-injective x y e)
@@ -84,6 +85,28 @@ carried-neat (b ∷ ts) f k l o h = go (carrier b) (each rowNumber ts) refl (row
         let hi = leb-true (length ts) 8 (q .1) in
         rw (← (q .2)) (omega arith, omega arith, omega arith)
 
+packed-neat : (ps : List (List ℕ)) (f : List ℕ) (k : ℕ) → 2 ≤ k → (o : Operand) → packed ps f ≡ some o → Neat k o
+unfolding packed Neat
+packed-neat [] f k l o h = absurd (Option·none-ne-some o h)
+packed-neat (a ∷ []) f k l o h = absurd (Option·none-ne-some o h)
+packed-neat (a ∷ b ∷ []) f k l o h = go (rowNumber a) (orLiteral (carrier b) b) (rowNumber f) h
+  where
+    go : (u : Option ℕ) (c : Option Base) (t : Option ℕ) → chain u (λ u. chain c (λ c. chain t (λ t. some (pack u c t)))) ≡ some o → Neat k o
+    go none c t e = absurd (Option·none-ne-some o e)
+    go (some u) none t e = absurd (Option·none-ne-some o e)
+    go (some u) (some c) none e = absurd (Option·none-ne-some o e)
+    go (some u) (some c) (some t) e = rw (← (Option·some-injective (pack u c t) o e)) l
+packed-neat (a ∷ b ∷ c ∷ ps) f k l o h = absurd (Option·none-ne-some o h)
+
+before-neat : (l t : List ℕ) (k : ℕ) → suc (length l) ≤ k → (o : Operand) → before l t ≡ some o → Neat k o
+unfolding before
+before-neat [] t k d o h = absurd (Option·none-ne-some o h)
+before-neat (b ∷ l) t k d o h = go (eqb b 33) h
+  where
+    go : (x : Bool) → cond x (packed (split 58 l) t) (carried (split 58 (b ∷ l)) t) ≡ some o → Neat k o
+    go true e = packed-neat (split 58 l) t k (omega arith) o e
+    go false e = let s = split-size 58 (b ∷ l) in carried-neat (split 58 (b ∷ l)) t k (omega arith) o e
+
 parts-neat : (ps : List (List ℕ)) (k : ℕ) → size ps ≤ suc k → (o : Operand) → fromParts ps ≡ some o → Neat k o
 unfolding Neat size
 parts-neat [] k d o h = absurd (Option·none-ne-some o h)
@@ -92,7 +115,7 @@ parts-neat (b ∷ []) k d o h = go (orLiteral (carrier b) b) h
     go : (c : Option Base) → chain c (λ c. some (plain c)) ≡ some o → Neat k o
     go none e = absurd (Option·none-ne-some o e)
     go (some c) e = rw (← (Option·some-injective (plain c) o e)) tt
-parts-neat (l ∷ t ∷ []) k d o h = let e = split-size 58 l in carried-neat (split 58 l) t k (omega arith) o h
+parts-neat (l ∷ t ∷ []) k d o h = before-neat l t k (omega arith) o h
 parts-neat (l ∷ t ∷ u ∷ ps) k d o h = absurd (Option·none-ne-some o h)
 
 operand-neat : (f : List ℕ) (o : Operand) → operand f ≡ some o → Neat (length f) o
@@ -116,25 +139,30 @@ module _ (ω ρ : OperandTable) where
   }
 
 -- ---- one operand stored
-rebuilt : (o : Operand) (k : ℕ) → Neat k o → operandOf (baseOf (answerOf (some o) .kind) (answerOf (some o) .number)) (argsOf (some o)) (answerOf (some o) .row) ≡ o
-unfolding Neat answerOf argsOf operandOf baseOf
-rebuilt (plain (reg n)) k h = refl
-rebuilt (plain (lit n)) k h = refl
-rebuilt (plain (lab n)) k h = refl
-rebuilt (inst b [] t) k h = absurd (not-suc-le-zero (h .0))
-rebuilt (inst (reg n) (a ∷ ts) t) k h = refl
-rebuilt (inst (lit n) (a ∷ ts) t) k h = refl
-rebuilt (inst (lab n) (a ∷ ts) t) k h = refl
+rebuilt : (o : Operand) (k a : ℕ) → Neat k o → (0 < length (argsOf (some o)) → a ≡ getD (argsOf (some o)) 0 0) → operandFrom (answerOf (some o) .kind) (answerOf (some o) .number) (argsOf (some o)) a (answerOf (some o) .row) ≡ o
+unfolding Neat answerOf argsOf operandFrom operandOf baseOf
+rebuilt (plain (reg n)) k a h e = refl
+rebuilt (plain (lit n)) k a h e = refl
+rebuilt (plain (lab n)) k a h e = refl
+rebuilt (inst b [] t) k a h e = absurd (not-suc-le-zero (h .0))
+rebuilt (inst (reg n) (x ∷ ts) t) k a h e = refl
+rebuilt (inst (lit n) (x ∷ ts) t) k a h e = refl
+rebuilt (inst (lab n) (x ∷ ts) t) k a h e = refl
+rebuilt (pack x (reg n) t) k a h e = ap (λ (y : ℕ). pack y (reg n) t) (e (lit< tt))
+rebuilt (pack x (lit n) t) k a h e = ap (λ (y : ℕ). pack y (lit n) t) (e (lit< tt))
+rebuilt (pack x (lab n) t) k a h e = ap (λ (y : ℕ). pack y (lab n) t) (e (lit< tt))
 
 count-is : (o : Operand) → answerOf (some o) .count ≡ length (argsOf (some o))
 unfolding answerOf argsOf
 count-is (plain b) = refl
 count-is (inst b ts t) = refl
+count-is (pack a b h) = refl
 
 args-few : (o : Operand) (k : ℕ) → Neat k o → (length (argsOf (some o)) ≤ 8) × (2 * length (argsOf (some o)) ≤ k)
 unfolding Neat argsOf
 args-few (plain b) k h = (zero-le, zero-le)
 args-few (inst b ts t) k h = (h .1, h .2)
+args-few (pack a b t) k h = (omega arith, omega arith)
 
 module _ (operands numbers args : List ℕ) (w k : ℕ) (o : Operand) where
   -- the tables with operand w stored, its arguments from k on
@@ -158,7 +186,8 @@ module _ (operands numbers args : List ℕ) (w k : ℕ) (o : Operand) where
         let few = args-few o j n .0 in
         let c = count-is o in
         let args′ : span (ρ .args) k (answerOf (some o) .count) ≡ argsOf (some o) = ap (span (ρ .args) k) (count-is o) ∙ span-same (k + answerOf (some o) .count) (ρ .args) (stored .args) k (length (argsOf (some o))) (omega arith) (s .args) ∙ span-sets args k (argsOf (some o)) (omega arith) in
-        simp (at 0 (lit< tt), at 1 (lit< tt), at 2 (lit< tt), at 3 (lit< tt), number, args′) (rebuilt o j n)
+        let first : 0 < length (argsOf (some o)) → getD (ρ .args) k 0 ≡ getD (argsOf (some o)) 0 0 = λ l. sym (span-at (ρ .args) k (answerOf (some o) .count) 0 (omega arith) ∙ ap (λ (i : ℕ). getD (ρ .args) i 0) (add-zero k)) ∙ ap (λ (xs : List ℕ). getD xs 0 0) args′ in
+        simp (at 0 (lit< tt), at 1 (lit< tt), at 2 (lit< tt), at 3 (lit< tt), number, args′) (rebuilt o j (getD (ρ .args) k 0) n first)
 
 -- ---- the loop
 -- n operands with m arguments are read, as xs, and what is left starts at i
@@ -179,12 +208,12 @@ pub carried-by : (rest : List ℕ) (at : ℕ) {most v a i n m : ℕ} {before ω 
 carried-by rest at g h k = let s = g .short in let f = g .few-args in let w = g .few in (omega arith, omega arith)
 
 -- an answer's kind says whether it is one
-is-operand : (o : Option Operand) → answerOf o .kind < 3 → (x : Operand) × (o ≡ some x)
+is-operand : (o : Option Operand) → (answerOf o .kind ≡ 3 → ⊥) → (x : Operand) × (o ≡ some x)
 unfolding answerOf
-is-operand none h = absurd (omega arith)
+is-operand none h = absurd (h refl)
 is-operand (some x) h = (x, refl)
 
-no-operand : (o : Option Operand) → 3 ≤ answerOf o .kind → o ≡ none
+no-operand : (o : Option Operand) → answerOf o .kind ≡ 3 → o ≡ none
 unfolding answerOf
 no-operand none h = refl
 no-operand (some (plain (reg n))) h = absurd (omega arith)
@@ -193,6 +222,7 @@ no-operand (some (plain (lab n))) h = absurd (omega arith)
 no-operand (some (inst (reg n) ts t)) h = absurd (omega arith)
 no-operand (some (inst (lit n) ts t)) h = absurd (omega arith)
 no-operand (some (inst (lab n) ts t)) h = absurd (omega arith)
+no-operand (some (pack a b t)) h = absurd (omega arith)
 
 nothing : (l : List ℕ) (i : ℕ) → sets l i (argsOf none) ≡ l
 unfolding argsOf
@@ -228,10 +258,10 @@ module _ (rest : List ℕ) (at most v a : ℕ) (before : OperandTable) where
 
       -- the field is no operand: only arguments may have been written, and there are none
       pub operands-bad : (r : OperandRead) (args′ : List ℕ) → OperandIs (operand (take (e - i) (drop i rest))) (ω .args) (a + m) r args′
-          → 3 ≤ r .kind → (z : ℕ) → OperandsRead (fieldsFrom rest at) most v a before (operandTable (ω .operands) (ω .numbers) args′)
+          → r .kind ≡ 3 → (z : ℕ) → OperandsRead (fieldsFrom rest at) most v a before (operandTable (ω .operands) (ω .numbers) args′)
           (record { ok = false; count = n; args = m; next = z })
       operands-bad r args′ is′ k z =
-          let k′ : 3 ≤ answerOf (operand (take (e - i) (drop i rest))) .kind = rw (is′ .answer) at k in
+          let k′ : answerOf (operand (take (e - i) (drop i rest))) .kind ≡ 3 = rw (is′ .answer) at k in
           let w : operand (take (e - i) (drop i rest)) ≡ none = no-operand (operand (take (e - i) (drop i rest))) k′ in
           let q : args′ ≡ ω .args = is′ .stored ∙ ap (λ (o : Option Operand). sets (ω .args) (a + m) (argsOf o)) w ∙ nothing (ω .args) (a + m) in
           rw q (record {
@@ -276,12 +306,12 @@ module _ (rest : List ℕ) (at most v a : ℕ) (before : OperandTable) where
 
       pub operands-on : n < most → OperandRoom (v + most) (a + 8 * most) (length (before .operands)) (length (before .numbers))
           (length (before .args)) → (r : OperandRead) (operands′ numbers′ args′ : List ℕ)
-          → OperandIs (operand (take (e - i) (drop i rest))) (ω .args) (a + m) r args′ → r .kind < 3 → operands′ ≡ withOperand
+          → OperandIs (operand (take (e - i) (drop i rest))) (ω .args) (a + m) r args′ → (r .kind ≡ 3 → ⊥) → operands′ ≡ withOperand
           (ω .operands) (v + n) r (a + m) → numbers′ ≡ set (ω .numbers) (v + n) (r .number) → OperandsGo rest at most v a before
           (operandTable operands′ numbers′ args′) (e + 1) (n + 1) (m + r .count)
       operands-on l′ room r operands′ numbers′ args′ is′ k b₁ b₂ =
           let f : List ℕ = take (e - i) (drop i rest) in
-          let k′ : answerOf (operand f) .kind < 3 = rw (is′ .answer) at k in
+          let k′ : answerOf (operand f) .kind ≡ 3 → ⊥ = rw (is′ .answer) at k in
           let x : Operand = is-operand (operand f) k′ .0 in
           let w : operand f ≡ some x = is-operand (operand f) k′ .1 in
           let z : r ≡ answerOf (some x) = is′ .answer ∙ ap answerOf w in
@@ -292,10 +322,10 @@ module _ (rest : List ℕ) (at most v a : ℕ) (before : OperandTable) where
           rw (c, d, h, t) (on-stored l′ room x w)
 
       -- how many arguments it has
-      pub operand-few : (r : OperandRead) (args′ : List ℕ) → OperandIs (operand (take (e - i) (drop i rest))) (ω .args) (a + m) r args′ → r .kind < 3 → r .count ≤ 8
+      pub operand-few : (r : OperandRead) (args′ : List ℕ) → OperandIs (operand (take (e - i) (drop i rest))) (ω .args) (a + m) r args′ → (r .kind ≡ 3 → ⊥) → r .count ≤ 8
       operand-few r args′ is′ k =
           let f : List ℕ = take (e - i) (drop i rest) in
-          let k′ : answerOf (operand f) .kind < 3 = rw (is′ .answer) at k in
+          let k′ : answerOf (operand f) .kind ≡ 3 → ⊥ = rw (is′ .answer) at k in
           let x : Operand = is-operand (operand f) k′ .0 in
           let w : operand f ≡ some x = is-operand (operand f) k′ .1 in
           let z : r .count ≡ answerOf (some x) .count = ap (λ (y : OperandRead). y .count) (is′ .answer ∙ ap answerOf w) in

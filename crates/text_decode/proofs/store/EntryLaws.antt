@@ -1,13 +1,13 @@
 -- Laws of the entry that a line's stored numbers make.
 -- Assumes nothing.
 use mathlib.Core.Path.{_≡_, refl, ap, sym, _∙_}
-use mathlib.Core.Bool.{false, cond}
+use mathlib.Core.Bool.{false, _&&_, cond}
 use mathlib.Core.List.{List, [], _∷_, map}
 use mathlib.Core.Option.{none}
 use Prim.Native.Nat.{ℕ, zero, suc, _+_, _-_, _<_, _≤_, zero-le}
 use native.Mathlib.Omega.{arith}
 use native.Mathlib.Nat.{zero-add, add-zero, suc-add, add-suc, not-suc-le-zero}
-use lib.Dec.{eqb, leb, leb·zero}
+use lib.Dec.{eqb, leb, ltb, leb·zero}
 use lib.ListN.{length, getD, take, drop}
 use borrow.Author.Tests.{eq-eqb}
 use Rattle.syntax.specs.Syntax.{Operand, halt}
@@ -40,7 +40,7 @@ no-form [] k fs h = refl
 no-form (n ∷ ns) zero fs h = absurd (not-suc-le-zero h)
 no-form (n ∷ ns) (suc k) fs h = no-form ns k fs (omega arith)
 
-pub unnamed : (k : ℕ) (fs : List (List ℕ)) → 34 ≤ k → formAt forms k fs ≡ none
+pub unnamed : (k : ℕ) (fs : List (List ℕ)) → 36 ≤ k → formAt forms k fs ≡ none
 unfolding forms
 unnamed k fs h = no-form forms k fs h
 
@@ -61,19 +61,19 @@ agree {A} g h d n k l e =
     ap g (sym (zero-add k)) ∙ sym (at-count g d 0 n k l) ∙ ap (λ (xs : List A). getD xs k d) e ∙ at-count h d 0 n k l ∙ ap h (zero-add k)
 
 module _ (a b c d : ℕ) where
-  pub last-is : (k : ℕ) (vs : List Operand) → k < 23 → isLast (instrWith k a b c d vs) ≡ leb 21 k
+  pub last-is : (k : ℕ) (vs : List Operand) → k < 24 → isLast (instrWith k a b c d vs) ≡ (leb 21 k && ltb k 23)
   unfolding instrWith isLast count
-  last-is k vs h = agree (λ j. isLast (instrWith j a b c d vs)) (λ j. leb 21 j) false 23 k h refl
+  last-is k vs h = agree (λ j. isLast (instrWith j a b c d vs)) (λ j. leb 21 j && ltb j 23) false 24 k h refl
 
   -- the instruction that the tables give is the one that its operands, as a list, make
   module _ (ω : OperandTable) (v : ℕ) where
-    alone : (k : ℕ) → k < 23 → cond (eqb (fewest (formCell (k + 11) 4)) 0) (instrFrom ω k a b c d v 0) (halt 0) ≡ cond (eqb (fewest (formCell (k + 11) 4)) 0) (instrWith k a b c d []) (halt 0)
+    alone : (k : ℕ) → k < 24 → cond (eqb (fewest (formCell (k + 12) 4)) 0) (instrFrom ω k a b c d v 0) (halt 0) ≡ cond (eqb (fewest (formCell (k + 12) 4)) 0) (instrWith k a b c d []) (halt 0)
     unfolding instrWith count formCell formTable operandsAt
-    alone k h = agree (λ j. cond (eqb (fewest (formCell (j + 11) 4)) 0) (instrFrom ω j a b c d v 0) (halt 0)) (λ j. cond (eqb (fewest (formCell (j + 11) 4)) 0) (instrWith j a b c d []) (halt 0)) (halt 0) 23 k h refl
+    alone k h = agree (λ j. cond (eqb (fewest (formCell (j + 12) 4)) 0) (instrFrom ω j a b c d v 0) (halt 0)) (λ j. cond (eqb (fewest (formCell (j + 12) 4)) 0) (instrWith j a b c d []) (halt 0)) (halt 0) 24 k h refl
 
-    pub instr-is : (k n : ℕ) → k < 23 → fewest (formCell (k + 11) 4) ≤ n → instrFrom ω k a b c d v n ≡ instrWith k a b c d (operandsAt ω v n)
+    pub instr-is : (k n : ℕ) → k < 24 → fewest (formCell (k + 12) 4) ≤ n → instrFrom ω k a b c d v n ≡ instrWith k a b c d (operandsAt ω v n)
     unfolding operandsAt instrWith
     instr-is k zero h e =
-        let z : fewest (formCell (k + 11) 4) ≡ 0 = omega arith in
-        simp (eq-eqb (fewest (formCell (k + 11) 4)) 0 z) at (alone k h)
+        let z : fewest (formCell (k + 12) 4) ≡ 0 = omega arith in
+        simp (eq-eqb (fewest (formCell (k + 12) 4)) 0 z) at (alone k h)
     instr-is k (suc n) h e = refl

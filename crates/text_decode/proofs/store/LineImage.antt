@@ -58,7 +58,7 @@ module _ (line : List ℕ) (u : Used) (p : Places) (l ns : List ℕ) (o : Ordere
         rw (rows-kept p l l₁ o w, instrs-kept p l l₁ o w, blocks-kept p l l₁ o w) (line-bad line u (storeIn p l ns) code fs is (partSection p l₁) (operandSection p l₁) ns₁ (argSection p l₁) s form e)
 
     module _ (o₁ : Ordered p (length l₁)) (l₂ : List ℕ) (w₂ : Outside (p .rows) (p .parts) l₁ l₂) (r : Line) where
-      pub good-in : s .ok ≡ true → 2 * s .args ≤ length line → RoomFor u (storeIn p l ns) → code < 34 → Stored code s u (rowSection p l₁) (instrSection p l₁) (blockSection p l₁) (rowSection p l₂) (instrSection p l₂) (blockSection p l₂) r → LineIs line u (storeIn p l ns) (storeIn p l₂ ns₁) r
+      pub good-in : s .ok ≡ true → 2 * s .args ≤ length line → RoomFor u (storeIn p l ns) → code < 36 → Stored code s u (rowSection p l₁) (instrSection p l₁) (blockSection p l₁) (rowSection p l₂) (instrSection p l₂) (blockSection p l₂) r → LineIs line u (storeIn p l ns) (storeIn p l₂ ns₁) r
       good-in ok two room k t =
           let t′ : Stored code s u (rowSection p l) (instrSection p l) (blockSection p l) (rowSection p l₂) (instrSection p l₂) (blockSection p l₂) r = rw (rows-kept p l l₁ o w, instrs-kept p l l₁ o w, blocks-kept p l l₁ o w) at t in
           rw (parts-kept p l₁ l₂ o₁ w₂, operands-kept p l₁ l₂ o₁ w₂, args-kept p l₁ l₂ o₁ w₂) (line-good line u (storeIn p l ns) code fs is (partSection p l₁) (operandSection p l₁) ns₁ (argSection p l₁) s form ok two room (rowSection p l₂) (instrSection p l₂) (blockSection p l₂) r k t′)

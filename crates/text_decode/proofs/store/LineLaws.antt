@@ -1,7 +1,7 @@
 -- Laws of one line: what its fields say and what is stored of them make what the tables then say.
 -- Assumes nothing.
 use mathlib.Core.Path.{_≡_, refl, ap, ap₂, sym, _∙_}
-use mathlib.Core.Bool.{Bool, true, false, cond}
+use mathlib.Core.Bool.{Bool, true, false, _&&_, cond}
 use mathlib.Core.List.{List, [], _∷_}
 use mathlib.Core.Option.{none, some}
 use Prim.Native.Nat.{ℕ, _+_, _-_, _*_, _<_, _≤_, zero-le}
@@ -84,20 +84,20 @@ grown u (Last n m) σ π s = grown-instr u n m σ π s
 
 -- ---- the entry of a form, by its place
 module _ (code a b c d : ℕ) (ps : List ℕ) (vs : List Operand) where
-  row-entry : code < 10 → entryWith code a b c d ps vs ≡ row (rowFrom ps code a b)
+  row-entry : code < 11 → entryWith code a b c d ps vs ≡ row (rowFrom ps code a b)
   unfolding entryWith
-  row-entry h = simp (lt-ltb code 10 h)
+  row-entry h = simp (lt-ltb code 11 h)
 
-  block-entry : code ≡ 10 → entryWith code a b c d ps vs ≡ block a
+  block-entry : code ≡ 11 → entryWith code a b c d ps vs ≡ block a
   unfolding entryWith
-  block-entry h = let n : 10 ≤ code = omega arith in simp (le-ltb code 10 n, eq-eqb code 10 h)
+  block-entry h = let n : 11 ≤ code = omega arith in simp (le-ltb code 11 n, eq-eqb code 11 h)
 
-  instr-entry : 10 < code → entryWith code a b c d ps vs ≡ instr (instrWith (code - 11) a b c d vs)
+  instr-entry : 11 < code → entryWith code a b c d ps vs ≡ instr (instrWith (code - 12) a b c d vs)
   unfolding entryWith
   instr-entry h =
-      let n : 10 ≤ code = omega arith in
-      let m : eqb code 10 ≡ false = ne-eqb code 10 (λ w. omega arith) in
-      simp (le-ltb code 10 n, m)
+      let n : 11 ≤ code = omega arith in
+      let m : eqb code 11 ≡ false = ne-eqb code 11 (λ w. omega arith) in
+      simp (le-ltb code 11 n, m)
 
 -- ---- a line of no form
 module _ (line : List ℕ) (u : Used) (σ : Store) (code : ℕ) (fs : List (List ℕ)) (is : entryOf (fieldsOf line) ≡ formAt forms code fs) where
@@ -115,7 +115,7 @@ module _ (line : List ℕ) (u : Used) (σ : Store) (code : ℕ) (fs : List (List
         listed = tt;
       }
 
-  pub line-unnamed : 34 ≤ code → LineIs line u σ σ NoForm
+  pub line-unnamed : 36 ≤ code → LineIs line u σ σ NoForm
   line-unnamed h = line-none σ (same-refl u σ) (unnamed code fs h)
 
   module _ (parts′ operands′ numbers′ args′ : List ℕ) (s : Said) (form : FormIs code fs (17 * u .rows) (u .operands) (u .args) (σ .parts) parts′ (operandsOf σ) (operandTable operands′ numbers′ args′) s) where
@@ -135,7 +135,7 @@ module _ (line : List ℕ) (u : Used) (σ : Store) (code : ℕ) (fs : List (List
           (s .c) (s .d) ps (operandsAt ω (u .operands) (s .count))) ≡ entryOf (fieldsOf line)
       entry-by ps ω p o = simp ok at (form .says ps ω p o) ∙ sym is
 
-      good-row : code < 10 → LineIs line u σ (store (sets (σ .rows) (4 * u .rows) (code ∷ s .a ∷ s .b ∷ [])) parts′ operands′ numbers′ args′ (σ .instrs) (σ .blocks)) Row
+      good-row : code < 11 → LineIs line u σ (store (sets (σ .rows) (4 * u .rows) (code ∷ s .a ∷ s .b ∷ [])) parts′ operands′ numbers′ args′ (σ .instrs) (σ .blocks)) Row
       unfolding rowAt
       good-row h = record {
         kept = record {
@@ -169,7 +169,7 @@ module _ (line : List ℕ) (u : Used) (σ : Store) (code : ℕ) (fs : List (List
               ∙ ap some (sym (row-entry code (s .a) (s .b) (s .c) (s .d) (ρ .parts) (operandsAt (operandTable operands′ numbers′ args′) (u .operands) (s .count)) h))
               ∙ entry-by (ρ .parts) (operandTable operands′ numbers′ args′) p same-operands
 
-      good-block : code ≡ 10 → LineIs line u σ (store (σ .rows) parts′ operands′ numbers′ args′ (σ .instrs) (sets (σ .blocks) (2 * u .blocks) (s .a ∷ u .instrs ∷ []))) Block
+      good-block : code ≡ 11 → LineIs line u σ (store (σ .rows) parts′ operands′ numbers′ args′ (σ .instrs) (sets (σ .blocks) (2 * u .blocks) (s .a ∷ u .instrs ∷ []))) Block
       good-block h = record {
         kept = record {
           rows = refl;
@@ -196,22 +196,22 @@ module _ (line : List ℕ) (u : Used) (σ : Store) (code : ℕ) (fs : List (List
               ∙ ap some (sym (block-entry code (s .a) (s .b) (s .c) (s .d) parts′ (operandsAt (operandTable operands′ numbers′ args′) (u .operands) (s .count)) h))
               ∙ entry-by parts′ (operandTable operands′ numbers′ args′) refl same-operands
 
-      module _ (h : 10 < code) (k : code < 34) where
+      module _ (h : 11 < code) (k : code < 36) where
         abbrev with-instr : Store
-        with-instr = store (σ .rows) parts′ operands′ numbers′ args′ (sets (σ .instrs) (8 * u .instrs) ((code - 11) ∷ s .a ∷ s .b ∷ s .c ∷ s .d ∷ u .operands ∷ s .count ∷ [])) (σ .blocks)
+        with-instr = store (σ .rows) parts′ operands′ numbers′ args′ (sets (σ .instrs) (8 * u .instrs) ((code - 12) ∷ s .a ∷ s .b ∷ s .c ∷ s .d ∷ u .operands ∷ s .count ∷ [])) (σ .blocks)
 
-        instr-cells : (ρ : Store) → Same (usedAfter u (Instruction (s .count) (s .args))) ρ with-instr → (i : ℕ) → i < 7 → cell 8 (ρ .instrs) (u .instrs) i ≡ getD ((code - 11) ∷ s .a ∷ s .b ∷ s .c ∷ s .d ∷ u .operands ∷ s .count ∷ []) i 0
+        instr-cells : (ρ : Store) → Same (usedAfter u (Instruction (s .count) (s .args))) ρ with-instr → (i : ℕ) → i < 7 → cell 8 (ρ .instrs) (u .instrs) i ≡ getD ((code - 12) ∷ s .a ∷ s .b ∷ s .c ∷ s .d ∷ u .operands ∷ s .count ∷ []) i 0
         instr-cells ρ t i l =
             same-at (8 * (u .instrs + 1)) (ρ .instrs) (with-instr .instrs) (8 * u .instrs + i) (omega arith) (t .instrs)
-            ∙ sets-at (σ .instrs) (8 * u .instrs) ((code - 11) ∷ s .a ∷ s .b ∷ s .c ∷ s .d ∷ u .operands ∷ s .count ∷ []) i (omega (arith, room .instrs)) l
+            ∙ sets-at (σ .instrs) (8 * u .instrs) ((code - 12) ∷ s .a ∷ s .b ∷ s .c ∷ s .d ∷ u .operands ∷ s .count ∷ []) i (omega (arith, room .instrs)) l
 
         instr-said : (ρ : Store) → Same (usedAfter u (Instruction (s .count) (s .args))) ρ with-instr → some (instr (instrAt (ρ .instrs) (operandsOf ρ) (u .instrs))) ≡ entryOf (fieldsOf line)
         unfolding instrAt
         instr-said ρ t =
-            let back : (code - 11) + 11 ≡ code = omega arith in
-            let enough : fewest (formCell ((code - 11) + 11) 4) ≤ s .count = omega (arith, form .enough ok, ap (λ (j : ℕ). fewest (formCell j 4)) back) in
-            let at : (i : ℕ) → i < 7 → cell 8 (ρ .instrs) (u .instrs) i ≡ getD ((code - 11) ∷ s .a ∷ s .b ∷ s .c ∷ s .d ∷ u .operands ∷ s .count ∷ []) i 0 = instr-cells ρ t in
-            let is-instr : instrAt (ρ .instrs) (operandsOf ρ) (u .instrs) ≡ instrWith (code - 11) (s .a) (s .b) (s .c) (s .d)
+            let back : (code - 12) + 12 ≡ code = omega arith in
+            let enough : fewest (formCell ((code - 12) + 12) 4) ≤ s .count = omega (arith, form .enough ok, ap (λ (j : ℕ). fewest (formCell j 4)) back) in
+            let at : (i : ℕ) → i < 7 → cell 8 (ρ .instrs) (u .instrs) i ≡ getD ((code - 12) ∷ s .a ∷ s .b ∷ s .c ∷ s .d ∷ u .operands ∷ s .count ∷ []) i 0 = instr-cells ρ t in
+            let is-instr : instrAt (ρ .instrs) (operandsOf ρ) (u .instrs) ≡ instrWith (code - 12) (s .a) (s .b) (s .c) (s .d)
             (operandsAt (operandsOf ρ) (u .operands) (s .count)) = simp (
               at 0 (lit< tt),
               at 1 (lit< tt),
@@ -220,83 +220,92 @@ module _ (line : List ℕ) (u : Used) (σ : Store) (code : ℕ) (fs : List (List
               at 4 (lit< tt),
               at 5 (lit< tt),
               at 6 (lit< tt),
-            ) (instr-is (s .a) (s .b) (s .c) (s .d) (operandsOf ρ) (u .operands) (code - 11)
+            ) (instr-is (s .a) (s .b) (s .c) (s .d) (operandsOf ρ) (u .operands) (code - 12)
             (s .count) (omega arith) enough) in
             ap (λ (x : Instr). some (instr x)) is-instr
             ∙ ap some (sym (instr-entry code (s .a) (s .b) (s .c) (s .d) parts′ (operandsAt (operandsOf ρ) (u .operands) (s .count)) h))
             ∙ entry-by parts′ (operandsOf ρ) refl (t .operands)
 
-        last-flag : endsBlock (entryOf (fieldsOf line)) ≡ leb 21 (code - 11)
+        last-flag : endsBlock (entryOf (fieldsOf line)) ≡ (leb 21 (code - 12) && ltb (code - 12) 23)
         last-flag =
             let vs : List Operand = operandsAt (operandTable operands′ numbers′ args′) (u .operands) (s .count) in
             ap endsBlock (sym (entry-by parts′ (operandTable operands′ numbers′ args′) refl same-operands))
             ∙ ap (λ (e : Entry). endsBlock (some e)) (instr-entry code (s .a) (s .b) (s .c) (s .d) parts′ vs h)
-            ∙ last-is (s .a) (s .b) (s .c) (s .d) (code - 11) vs (omega arith)
+            ∙ last-is (s .a) (s .b) (s .c) (s .d) (code - 12) vs (omega arith)
 
         instr-kept : Same u with-instr σ
         instr-kept = record {
           rows = refl;
           parts = form .kept-parts;
           operands = form .kept-operands;
-          instrs = same-sets (8 * u .instrs) (σ .instrs) (8 * u .instrs) ((code - 11) ∷ s .a ∷ s .b ∷ s .c ∷ s .d ∷ u .operands ∷ s .count ∷ []) (le-refl (8 * u .instrs));
+          instrs = same-sets (8 * u .instrs) (σ .instrs) (8 * u .instrs) ((code - 12) ∷ s .a ∷ s .b ∷ s .c ∷ s .d ∷ u .operands ∷ s .count ∷ []) (le-refl (8 * u .instrs));
           blocks = refl;
         }
 
         instr-listed : Listed u with-instr (Instruction (s .count) (s .args))
         instr-listed =
-            let at : (i : ℕ) → i < 7 → cell 8 (with-instr .instrs) (u .instrs) i ≡ getD ((code - 11) ∷ s .a ∷ s .b ∷ s .c ∷ s .d ∷ u .operands ∷ s .count ∷ []) i 0 = instr-cells with-instr (same-refl (usedAfter u (Instruction (s .count) (s .args))) with-instr) in
+            let at : (i : ℕ) → i < 7 → cell 8 (with-instr .instrs) (u .instrs) i ≡ getD ((code - 12) ∷ s .a ∷ s .b ∷ s .c ∷ s .d ∷ u .operands ∷ s .count ∷ []) i 0 = instr-cells with-instr (same-refl (usedAfter u (Instruction (s .count) (s .args))) with-instr) in
             ap₂ (λ (a b : ℕ). a + b) (at 5 (lit< tt)) (at 6 (lit< tt))
 
-        good-inside : code < 32 → LineIs line u σ with-instr (Instruction (s .count) (s .args))
+        good-inside : (leb 21 (code - 12) && ltb (code - 12) 23) ≡ false → LineIs line u σ with-instr (Instruction (s .count) (s .args))
         good-inside m = record {
           kept = instr-kept;
           few = form .few;
           carried = two;
           said = instr-said;
-          last = sym (last-flag ∙ lt-leb 21 (code - 11) (omega arith));
+          last = sym (last-flag ∙ m);
           starts = λ w. let z : _≡_ {A = ℕ} 0 1 = cc in absurd (omega arith);
           listed = instr-listed;
         }
 
-        good-last : 32 ≤ code → LineIs line u σ with-instr (Last (s .count) (s .args))
+        good-last : (leb 21 (code - 12) && ltb (code - 12) 23) ≡ true → LineIs line u σ with-instr (Last (s .count) (s .args))
         good-last m = record {
           kept = instr-kept;
           few = form .few;
           carried = two;
           said = instr-said;
-          last = sym (last-flag ∙ le-leb 21 (code - 11) (omega arith));
+          last = sym (last-flag ∙ m);
           starts = λ w. let z : _≡_ {A = ℕ} 0 1 = cc in absurd (omega arith);
           listed = instr-listed;
         }
 
-      pub line-good : (rows′ instrs′ blocks′ : List ℕ) (l : Line) → code < 34 → Stored code s u (σ .rows) (σ .instrs) (σ .blocks) rows′ instrs′ blocks′ l → LineIs line u σ (store rows′ parts′ operands′ numbers′ args′ instrs′ blocks′) l
-      line-good rows′ instrs′ blocks′ l k t = go (ltb code 10) (eqb code 10) (ltb code 32) refl refl refl
+      pub line-good : (rows′ instrs′ blocks′ : List ℕ) (l : Line) → code < 36 → Stored code s u (σ .rows) (σ .instrs) (σ .blocks) rows′ instrs′ blocks′ l → LineIs line u σ (store rows′ parts′ operands′ numbers′ args′ instrs′ blocks′) l
+      line-good rows′ instrs′ blocks′ l k t = go (ltb code 11) (eqb code 11) refl refl
         where
-          inside : (h : 10 < code) (z : Bool) → ltb code 32 ≡ z → l ≡ cond z (Instruction (s .count) (s .args)) (Last (s .count) (s .args)) → LineIs line u σ (with-instr h k) l
-          inside h true g d = rw d (good-inside h k (ltb-true code 32 g))
-          inside h false g d = rw d (good-last h k (ltb-false code 32 g))
+          inside : (h : 11 < code) (z w : Bool) → ltb code 33 ≡ z → ltb code 35 ≡ w → l ≡ cond z (Instruction (s .count) (s .args)) (cond w (Last (s .count) (s .args)) (Instruction (s .count) (s .args))) → LineIs line u σ (with-instr h k) l
+          inside h true w g f d =
+              let m = ltb-true code 33 g in
+              rw d (good-inside h k (simp (lt-leb 21 (code - 12) (omega arith))))
+          inside h false true g f d =
+              let m = ltb-false code 33 g in
+              let n = ltb-true code 35 f in
+              rw d (good-last h k (simp (le-leb 21 (code - 12) (omega arith), lt-ltb (code - 12) 23 (omega arith))))
+          inside h false false g f d =
+              let m = ltb-false code 33 g in
+              let n = ltb-false code 35 f in
+              rw d (good-inside h k (simp (le-leb 21 (code - 12) (omega arith), le-ltb (code - 12) 23 (omega arith))))
 
-          go : (x y z : Bool) → ltb code 10 ≡ x → eqb code 10 ≡ y → ltb code 32 ≡ z → LineIs line u σ (store rows′ parts′ operands′ numbers′ args′ instrs′ blocks′) l
-          go true y z e f g =
-              let h : code < 10 = ltb-true code 10 e in
-              let n : eqb code 10 ≡ false = ne-eqb code 10 (λ w. omega arith) in
-              let m : ltb 10 code ≡ false = le-ltb 10 code (omega arith) in
+          go : (x y : Bool) → ltb code 11 ≡ x → eqb code 11 ≡ y → LineIs line u σ (store rows′ parts′ operands′ numbers′ args′ instrs′ blocks′) l
+          go true y e f =
+              let h : code < 11 = ltb-true code 11 e in
+              let n : eqb code 11 ≡ false = ne-eqb code 11 (λ w. omega arith) in
+              let m : ltb 11 code ≡ false = le-ltb 11 code (omega arith) in
               let a : rows′ ≡ sets (σ .rows) (4 * u .rows) (code ∷ s .a ∷ s .b ∷ []) = t .row ∙ simp e in
               let b : instrs′ ≡ σ .instrs = t .instr ∙ simp m in
               let c : blocks′ ≡ σ .blocks = t .block ∙ simp n in
               let d : l ≡ Row = t .line ∙ simp e in
               rw (a, b, c, d) (good-row h)
-          go false true z e f g =
-              let h : code ≡ 10 = eqb-true code 10 f in
-              let m : ltb 10 code ≡ false = le-ltb 10 code (omega arith) in
+          go false true e f =
+              let h : code ≡ 11 = eqb-true code 11 f in
+              let m : ltb 11 code ≡ false = le-ltb 11 code (omega arith) in
               let a : rows′ ≡ σ .rows = t .row ∙ simp e in
               let b : instrs′ ≡ σ .instrs = t .instr ∙ simp m in
               let c : blocks′ ≡ sets (σ .blocks) (2 * u .blocks) (s .a ∷ u .instrs ∷ []) = t .block ∙ simp f in
               let d : l ≡ Block = t .line ∙ simp (e, f) in
               rw (a, b, c, d) (good-block h)
-          go false false z e f g =
-              let h : 10 < code = let w = ltb-false code 10 e in let q = eqb-false code 10 f in omega arith in
+          go false false e f =
+              let h : 11 < code = let w = ltb-false code 11 e in let q = eqb-false code 11 f in omega arith in
               let a : rows′ ≡ σ .rows = t .row ∙ simp e in
-              let b : instrs′ ≡ sets (σ .instrs) (8 * u .instrs) ((code - 11) ∷ s .a ∷ s .b ∷ s .c ∷ s .d ∷ u .operands ∷ s .count ∷ []) = t .instr ∙ simp (lt-ltb 10 code h) in
+              let b : instrs′ ≡ sets (σ .instrs) (8 * u .instrs) ((code - 12) ∷ s .a ∷ s .b ∷ s .c ∷ s .d ∷ u .operands ∷ s .count ∷ []) = t .instr ∙ simp (lt-ltb 11 code h) in
               let c : blocks′ ≡ σ .blocks = t .block ∙ simp f in
-              rw (a, b, c) (inside h z g (t .line ∙ simp (e, f, g)))
+              rw (a, b, c) (inside h (ltb code 33) (ltb code 35) refl refl (t .line ∙ simp (e, f)))

@@ -28,44 +28,49 @@ use Rattle.text_decode.specs.declared.store.LineRead.{LineRead}
 use Rattle.text_decode.specs.declared.store.Line.the-variants.{NoForm, Row, Block, Instruction, Last}
 
 module _ (code : ℕ) (s : Said) (u : Used) (rows instrs blocks : List ℕ) where
-  pub stored-row : code < 10 → (rows′ : List ℕ) → rows′ ≡ sets rows (4 * u .rows) (code ∷ s .a ∷ s .b ∷ []) → Stored code s u rows instrs blocks rows′ instrs blocks Row
+  pub stored-row : code < 11 → (rows′ : List ℕ) → rows′ ≡ sets rows (4 * u .rows) (code ∷ s .a ∷ s .b ∷ []) → Stored code s u rows instrs blocks rows′ instrs blocks Row
   stored-row h rows′ e =
-      let n : eqb code 10 ≡ false = ne-eqb code 10 (λ w. omega arith) in
-      let m : ltb 10 code ≡ false = le-ltb 10 code (omega arith) in
+      let n : eqb code 11 ≡ false = ne-eqb code 11 (λ w. omega arith) in
+      let m : ltb 11 code ≡ false = le-ltb 11 code (omega arith) in
       record {
-        row = e ∙ simp (lt-ltb code 10 h);
+        row = e ∙ simp (lt-ltb code 11 h);
         instr = simp m;
         block = simp n;
-        line = simp (lt-ltb code 10 h);
+        line = simp (lt-ltb code 11 h);
       }
 
-  pub stored-block : code ≡ 10 → (blocks′ : List ℕ) → blocks′ ≡ sets blocks (2 * u .blocks) (s .a ∷ u .instrs ∷ []) → Stored code s u rows instrs blocks rows instrs blocks′ Block
+  pub stored-block : code ≡ 11 → (blocks′ : List ℕ) → blocks′ ≡ sets blocks (2 * u .blocks) (s .a ∷ u .instrs ∷ []) → Stored code s u rows instrs blocks rows instrs blocks′ Block
   stored-block h blocks′ e =
-      let n : ltb code 10 ≡ false = le-ltb code 10 (omega arith) in
-      let m : ltb 10 code ≡ false = le-ltb 10 code (omega arith) in
+      let n : ltb code 11 ≡ false = le-ltb code 11 (omega arith) in
+      let m : ltb 11 code ≡ false = le-ltb 11 code (omega arith) in
       record {
         row = simp n;
         instr = simp m;
-        block = e ∙ simp (eq-eqb code 10 h);
-        line = simp (n, eq-eqb code 10 h);
+        block = e ∙ simp (eq-eqb code 11 h);
+        line = simp (n, eq-eqb code 11 h);
       }
 
-  module _ (h : 10 ≤ code) (q : code ≡ 10 → ⊥) (instrs′ : List ℕ) (e : instrs′ ≡ sets instrs (8 * u .instrs) ((code - 11) ∷ s .a ∷ s .b ∷ s .c ∷ s .d ∷ u .operands ∷ s .count ∷ [])) where
+  module _ (h : 11 ≤ code) (q : code ≡ 11 → ⊥) (instrs′ : List ℕ) (e : instrs′ ≡ sets instrs (8 * u .instrs) ((code - 12) ∷ s .a ∷ s .b ∷ s .c ∷ s .d ∷ u .operands ∷ s .count ∷ [])) where
     stored-instr : (l : Line) → l ≡ lineOf code (s .count) (s .args) → Stored code s u rows instrs blocks rows instrs′ blocks l
     stored-instr l w =
-        let m : ltb 10 code ≡ true = lt-ltb 10 code (omega arith) in
+        let m : ltb 11 code ≡ true = lt-ltb 11 code (omega arith) in
         record {
-          row = simp (le-ltb code 10 h);
+          row = simp (le-ltb code 11 h);
           instr = e ∙ simp m;
-          block = simp (ne-eqb code 10 q);
+          block = simp (ne-eqb code 11 q);
           line = w;
         }
 
-    pub stored-inside : code < 32 → Stored code s u rows instrs blocks rows instrs′ blocks (Instruction (s .count) (s .args))
-    stored-inside k = stored-instr (Instruction (s .count) (s .args)) (simp (le-ltb code 10 h, ne-eqb code 10 q, lt-ltb code 32 k))
+-- which instructions end a block
+module _ (code : ℕ) (h : 11 ≤ code) (q : code ≡ 11 → ⊥) (n m : ℕ) where
+  pub line-inside : code < 33 → Instruction n m ≡ lineOf code n m
+  line-inside k = simp (le-ltb code 11 h, ne-eqb code 11 q, lt-ltb code 33 k)
 
-    pub stored-last : 32 ≤ code → Stored code s u rows instrs blocks rows instrs′ blocks (Last (s .count) (s .args))
-    stored-last k = stored-instr (Last (s .count) (s .args)) (simp (le-ltb code 10 h, ne-eqb code 10 q, le-ltb code 32 k))
+  pub line-last : 33 ≤ code → code < 35 → Last n m ≡ lineOf code n m
+  line-last k l = simp (le-ltb code 11 h, ne-eqb code 11 q, le-ltb code 33 k, lt-ltb code 35 l)
+
+  pub line-behind : 33 ≤ code → 35 ≤ code → Instruction n m ≡ lineOf code n m
+  line-behind k l = simp (le-ltb code 11 h, ne-eqb code 11 q, le-ltb code 33 k, le-ltb code 35 l)
 
 -- ---- the same in an image: the section of the line's kind was lent, and came back as y
 module _ (p : Places) (l : List ℕ) (o : Ordered p (length l)) (code : ℕ) (s : Said) (u : Used) (y : List ℕ) where
@@ -73,26 +78,21 @@ module _ (p : Places) (l : List ℕ) (o : Ordered p (length l)) (code : ℕ) (s 
   PutIn l′ r =
       Stored code s u (rowSection p l) (instrSection p l) (blockSection p l) (rowSection p l′) (instrSection p l′) (blockSection p l′) r × Outside (p .rows) (p .parts) l l′
 
-  pub row-in : code < 10 → length y ≡ length (rowSection p l) → y ≡ sets (rowSection p l) (4 * u .rows) (code ∷ s .a ∷ s .b ∷ []) → PutIn (putMid (p .rows) (p .blocks - p .rows) l y) Row
+  pub row-in : code < 11 → length y ≡ length (rowSection p l) → y ≡ sets (rowSection p l) (4 * u .rows) (code ∷ s .a ∷ s .b ∷ []) → PutIn (putMid (p .rows) (p .blocks - p .rows) l y) Row
   row-in h n e =
       let b = rows-back p l o y n in
       (rw (b .rows, b .instrs, b .blocks) (stored-row code s u (rowSection p l) (instrSection p l) (blockSection p l) h y e), b .outside)
 
-  pub block-in : code ≡ 10 → length y ≡ length (blockSection p l) → y ≡ sets (blockSection p l) (2 * u .blocks) (s .a ∷ u .instrs ∷ []) → PutIn (putMid (p .blocks) (p .instrs - p .blocks) l y) Block
+  pub block-in : code ≡ 11 → length y ≡ length (blockSection p l) → y ≡ sets (blockSection p l) (2 * u .blocks) (s .a ∷ u .instrs ∷ []) → PutIn (putMid (p .blocks) (p .instrs - p .blocks) l y) Block
   block-in h n e =
       let b = blocks-back p l o y n in
       (rw (b .rows, b .instrs, b .blocks) (stored-block code s u (rowSection p l) (instrSection p l) (blockSection p l) h y e), b .outside)
 
-  module _ (h : 10 ≤ code) (q : code ≡ 10 → ⊥) (n : length y ≡ length (instrSection p l)) (e : y ≡ sets (instrSection p l) (8 * u .instrs) ((code - 11) ∷ s .a ∷ s .b ∷ s .c ∷ s .d ∷ u .operands ∷ s .count ∷ [])) where
-    pub inside-in : code < 32 → PutIn (putMid (p .instrs) (p .parts - p .instrs) l y) (Instruction (s .count) (s .args))
-    inside-in k =
-        let b = instrs-back p l o y n in
-        (rw (b .rows, b .instrs, b .blocks) (stored-inside code s u (rowSection p l) (instrSection p l) (blockSection p l) h q y e k), b .outside)
-
-    pub last-in : 32 ≤ code → PutIn (putMid (p .instrs) (p .parts - p .instrs) l y) (Last (s .count) (s .args))
-    last-in k =
-        let b = instrs-back p l o y n in
-        (rw (b .rows, b .instrs, b .blocks) (stored-last code s u (rowSection p l) (instrSection p l) (blockSection p l) h q y e k), b .outside)
+  pub instr-in : 11 ≤ code → (code ≡ 11 → ⊥) → length y ≡ length (instrSection p l) → y ≡ sets (instrSection p l) (8 * u .instrs) ((code - 12) ∷ s .a ∷ s .b ∷ s .c ∷ s .d ∷ u .operands ∷ s .count ∷ [])
+      → (r : Line) → r ≡ lineOf code (s .count) (s .args) → PutIn (putMid (p .instrs) (p .parts - p .instrs) l y) r
+  instr-in h q n e r w =
+      let b = instrs-back p l o y n in
+      (rw (b .rows, b .instrs, b .blocks) (stored-instr code s u (rowSection p l) (instrSection p l) (blockSection p l) h q y e r w), b .outside)
 
 -- ---- the rest of a line, as a part that starts in its middle
 pub part-from : (l : List ℕ) (a : ℕ) → take (length l - a) (drop a l) ≡ drop a l

@@ -101,7 +101,7 @@ saidBy code s parts vs = guarded (s .ok) (entryWith code (s .a) (s .b) (s .c) (s
 
 -- the form at place `code` is neither U nor C, whose fields are rows and registers
 pub record PlainForm (code : ℕ) : Type 0 where
-  pub known : code < 34
+  pub known : code < 36
   pub no-tuple : code ≡ 3 → ⊥
   pub no-code : code ≡ 5 → ⊥
 

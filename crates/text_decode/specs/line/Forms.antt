@@ -5,7 +5,7 @@ use mathlib.Core.Bool.{cond}
 use mathlib.Core.List.{List, [], _∷_}
 use lib.Dec.{eqb, ltb}
 use lib.ListN.{getD}
-use Rattle.syntax.specs.Syntax.{reg, Operand, plain, add, sub, mul, beq, bneq, bgt, blt, bgte, blte, Instr, aop, bop, mov, ld, st, malloc, getsp, setsp, salloc, sfree, sld, sst, slp, ssp, jmp, halt, Entry, row, block, instr}
+use Rattle.syntax.specs.Syntax.{reg, Operand, plain, add, sub, mul, beq, bneq, bgt, blt, bgte, blte, Instr, aop, bop, mov, ld, st, malloc, getsp, setsp, salloc, sfree, sld, sst, slp, ssp, jmp, halt, unpack, Entry, row, block, instr}
 use Rattle.tables.specs.Tables.{rowFrom}
 use Rattle.text_decode.specs.declared.line.Form.{Form}
 
@@ -18,6 +18,7 @@ formTable =
     ∷ (0 ∷ 0 ∷ 0 ∷ 0 ∷ 0 ∷ [])
     ∷ (2 ∷ 0 ∷ 0 ∷ 0 ∷ 0 ∷ [])
     ∷ (0 ∷ 0 ∷ 0 ∷ 0 ∷ 0 ∷ [])
+    ∷ (2 ∷ 0 ∷ 0 ∷ 0 ∷ 0 ∷ [])
     ∷ (0 ∷ 0 ∷ 0 ∷ 0 ∷ 0 ∷ [])
     ∷ (3 ∷ 0 ∷ 0 ∷ 0 ∷ 0 ∷ [])
     ∷ (2 ∷ 2 ∷ 0 ∷ 0 ∷ 0 ∷ [])
@@ -46,6 +47,7 @@ formTable =
     ∷ (1 ∷ 3 ∷ 1 ∷ 2 ∷ 0 ∷ [])
     ∷ (0 ∷ 0 ∷ 0 ∷ 0 ∷ 1 ∷ [])
     ∷ (2 ∷ 0 ∷ 0 ∷ 0 ∷ 0 ∷ [])
+    ∷ (1 ∷ 0 ∷ 0 ∷ 0 ∷ 1 ∷ [])
     ∷ []
 
 -- a number packed in the entry of a form
@@ -72,7 +74,7 @@ abbrev pub firstOperand : List Operand → Operand
 firstOperand [] = plain (reg 0)
 firstOperand (v ∷ vs) = v
 
--- the instruction of that code (add 0 .. halt 22), its numbers in the order of the text, and its operands
+-- the instruction of that code (add 0 .. halt 22, unpack 23), its numbers in the order of the text, and its operands
 unfoldable pub instrWith : ℕ → ℕ → ℕ → ℕ → ℕ → List Operand → Instr
 instrWith k a b c d vs =
     cond (eqb k 0) (aop add a b (firstOperand vs))
@@ -96,9 +98,10 @@ instrWith k a b c d vs =
     (cond (eqb k 18) (sst a b)
     (cond (eqb k 19) (slp a b c)
     (cond (eqb k 20) (ssp a b c d)
-    (cond (eqb k 21) (jmp (firstOperand vs)) (halt a))))))))))))))))))))))
+    (cond (eqb k 21) (jmp (firstOperand vs))
+    (cond (eqb k 23) (unpack a (firstOperand vs)) (halt a)))))))))))))))))))))))
 
--- the entry of a form by its place: rows 0 to 9, the block line 10, instructions from 11 on
+-- the entry of a form by its place: rows 0 to 10, the block line 11, instructions from 12 on
 unfoldable pub entryWith : ℕ → ℕ → ℕ → ℕ → ℕ → List ℕ → List Operand → Entry
 entryWith code a b c d parts vs =
-    cond (ltb code 10) (row (rowFrom parts code a b)) (cond (eqb code 10) (block a) (instr (instrWith (code - 11) a b c d vs)))
+    cond (ltb code 11) (row (rowFrom parts code a b)) (cond (eqb code 11) (block a) (instr (instrWith (code - 12) a b c d vs)))

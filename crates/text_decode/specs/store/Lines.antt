@@ -97,20 +97,21 @@ LineEnds text r = (r .line ≡ NoForm → ⊥) → r .next ≡ length (lineIn te
 -- ---- what is stored of a line of the form at place `code`
 -- the rows, with it as the next one if it is a type line
 abbrev pub rowPut : ℕ → Said → Used → List ℕ → List ℕ
-rowPut code s u rows = cond (ltb code 10) (sets rows (4 * u .rows) (code ∷ s .a ∷ s .b ∷ [])) rows
+rowPut code s u rows = cond (ltb code 11) (sets rows (4 * u .rows) (code ∷ s .a ∷ s .b ∷ [])) rows
 
 -- the blocks, with it as the next one if it is a block's line
 abbrev pub blockPut : ℕ → Said → Used → List ℕ → List ℕ
-blockPut code s u blocks = cond (eqb code 10) (sets blocks (2 * u .blocks) (s .a ∷ u .instrs ∷ [])) blocks
+blockPut code s u blocks = cond (eqb code 11) (sets blocks (2 * u .blocks) (s .a ∷ u .instrs ∷ [])) blocks
 
 -- the instructions, with it as the next one if it is an instruction
 abbrev pub instrPut : ℕ → Said → Used → List ℕ → List ℕ
 instrPut code s u instrs =
-    cond (ltb 10 code) (sets instrs (8 * u .instrs) ((code - 11) ∷ s .a ∷ s .b ∷ s .c ∷ s .d ∷ u .operands ∷ s .count ∷ [])) instrs
+    cond (ltb 11 code) (sets instrs (8 * u .instrs) ((code - 12) ∷ s .a ∷ s .b ∷ s .c ∷ s .d ∷ u .operands ∷ s .count ∷ [])) instrs
 
--- which kind of line it is, with n operands that carry m arguments
+-- which kind of line it is, with n operands that carry m arguments: `jmp` 33 and `halt` 34 end a block
 abbrev pub lineOf : ℕ → ℕ → ℕ → Line
-lineOf code n m = cond (ltb code 10) Row (cond (eqb code 10) Block (cond (ltb code 32) (Instruction n m) (Last n m)))
+lineOf code n m =
+    cond (ltb code 11) Row (cond (eqb code 11) Block (cond (ltb code 33) (Instruction n m) (cond (ltb code 35) (Last n m) (Instruction n m))))
 
 -- the tables after it, and which kind of line it is
 pub record Stored (code : ℕ) (s : Said) (u : Used) (rows instrs blocks rows′ instrs′ blocks′ : List ℕ) (l : Line) : Type 0 where

@@ -3,18 +3,13 @@ use borrow.Author.Needs.{needs}
 -- Assumes nothing.
 use mathlib.Core.Path.{ap, sym, _∙_}
 use mathlib.Core.List.{List}
-use mathlib.Core.Option.{Option}
 use Prim.Native.Nat.{ℕ, _+_, _-_, _<_, _≤_}
 use native.Mathlib.Omega.{arith}
 use lib.ListN.{length, take, drop, length-drop}
-use lib.Seq.{sets}
-use Rattle.syntax.specs.Syntax.{Operand}
-use Rattle.text.specs.Bytes.{split}
-use Rattle.text.specs.Grammar.{carried, operand}
+use Rattle.text.specs.Grammar.{before, operand}
 use Rattle.text_lines.specs.Parts.{firstPart}
 use Rattle.text_fields.proofs.numbers.Laws.{part-from}
-use Rattle.text_fields.specs.plain_operands.Answers.{answerOf, argsOf}
-use Rattle.text_fields.proofs.Operands.{nothing-is, plain-is, field-plain, field-more, field-sides}
+use Rattle.text_fields.proofs.Operands.{nothing-is, same-is, plain-is, field-plain, field-more, field-sides}
 use Rattle.text_fields.proofs.any_operand.Statement.{statement}
 use Rattle.text_fields.proofs.any_operand.Tie as tie
 
@@ -37,7 +32,7 @@ returns-2 c =
 
 returns-3 : tie.Need-returns-3
 returns-3 c =
-    let c2 : tie.After-carried = search in
+    let w : tie.After-sides = search in
     let n : tie.Else2 = search in
     let p2 : tie.After-part-end2 = search in
     let n2 : tie.Else1 = search in
@@ -46,8 +41,8 @@ returns-3 c =
     let f = s2 .args .f .now in
     let d = p2 .part-end2 .ensures ∙ ap (λ (s : List ℕ). 0 + length (firstPart 61 (drop 0 s))) (part-from f (p3 .part-end .result + 1)) in
     let k : length (drop (p3 .part-end .result + 1) f) ≤ p2 .part-end2 .result = omega (arith, length-drop (p3 .part-end .result + 1) f, n .if2 .left) in
-    let e = ap (carried (split 58 (take (p3 .part-end .result - 0) (drop 0 f)))) (part-from f (p3 .part-end .result + 1)) ∙ sym (field-sides f (p3 .part-end .result) (p3 .part-end .ensures) (n2 .if1 .left) (p2 .part-end2 .result) d k) in
-    record { answer = c2 .carried .ensures .answer ∙ ap answerOf e; stored = c2 .carried .ensures .stored ∙ ap (λ (o : Option Operand). sets (s2 .args .out .now) (s2 .args .at) (argsOf o)) e }
+    let e = ap (before (take (p3 .part-end .result - 0) (drop 0 f))) (part-from f (p3 .part-end .result + 1)) ∙ sym (field-sides f (p3 .part-end .result) (p3 .part-end .ensures) (n2 .if1 .left) (p2 .part-end2 .result) d k) in
+    same-is e (w .sides .ensures)
 
 pub any-operand-spec : {M : Type 1} → statement M
 any-operand-spec =

@@ -119,7 +119,7 @@ too-long (n ∷ ns) f h l =
     let o : length (bytes (n .name)) < length f = omega arith in
     simp (longer (bytes (n .name)) f o) (ap suc (too-long ns f v l))
 
-pub code-too-long : (f : List ℕ) → 6 < length f → 34 ≡ nameCode f
+pub code-too-long : (f : List ℕ) → 6 < length f → 36 ≡ nameCode f
 unfolding nameCode allNames allBytes bytes forms
 code-too-long f l = too-long forms f tt l
 
@@ -158,16 +158,16 @@ packed-fits f i p h l =
 
 -- ---- the search: the keys as numbers, those of type lines and blocks, then those of instructions
 abbrev pub rowKeys : List ℕ
-rowKeys = 329 ∷ 334 ∷ 342 ∷ 341 ∷ 336 ∷ 323 ∷ 325 ∷ 344 ∷ 331 ∷ 321 ∷ 322 ∷ []
+rowKeys = 329 ∷ 334 ∷ 342 ∷ 341 ∷ 336 ∷ 323 ∷ 328 ∷ 325 ∷ 344 ∷ 331 ∷ 321 ∷ 322 ∷ []
 
 abbrev pub instrKeys : List ℕ
-instrKeys = 23356513 ∷ 23229811 ∷ 23885165 ∷ 24208738 ∷ 6197440098 ∷ 24405858 ∷ 24407138 ∷ 5997094754 ∷ 5997096034 ∷ 24538989 ∷ 91244 ∷ 95347 ∷ 390805188272493 ∷ 1582484972903 ∷ 1582484972915 ∷ 390805188272499 ∷ 1535005320819 ∷ 23358579 ∷ 24408947 ∷ 24145011 ∷ 24146803 ∷ 24145258 ∷ 6248227176 ∷ []
+instrKeys = 23356513 ∷ 23229811 ∷ 23885165 ∷ 24208738 ∷ 6197440098 ∷ 24405858 ∷ 24407138 ∷ 5997094754 ∷ 5997096034 ∷ 24538989 ∷ 91244 ∷ 95347 ∷ 390805188272493 ∷ 1582484972903 ∷ 1582484972915 ∷ 390805188272499 ∷ 1535005320819 ∷ 23358579 ∷ 24408947 ∷ 24145011 ∷ 24146803 ∷ 24145258 ∷ 6248227176 ∷ 399549557403253 ∷ []
 
-pub rows-are : take 11 (keysOf forms) ≡ rowKeys
+pub rows-are : take 12 (keysOf forms) ≡ rowKeys
 unfolding keysOf packed bytes forms
 rows-are = refl
 
-pub instrs-are : drop 11 (keysOf forms) ≡ instrKeys
+pub instrs-are : drop 12 (keysOf forms) ≡ instrKeys
 unfolding keysOf packed bytes forms
 instrs-are = refl
 
@@ -216,19 +216,19 @@ place-later (suc n) (x ∷ ks) k h = go (place-later n ks k) (eqb x k) h
     go r false l = add-suc (keyPlace (drop n ks) k) n ∙ ap suc (r (omega arith))
 
 -- a field's code, by what the searches give for its number
-module _ (f : List ℕ) (small : (i : ℕ) → getD f i 0 < 256) (k r : ℕ) (is : k ≡ packed f) (e : r ≡ keyPlace (take 11 (keysOf forms)) k) where
+module _ (f : List ℕ) (small : (i : ℕ) → getD f i 0 < 256) (k r : ℕ) (is : k ≡ packed f) (e : r ≡ keyPlace (take 12 (keysOf forms)) k) where
   code-is : keyPlace (keysOf forms) k ≡ nameCode f
   code-is = ap (keyPlace (keysOf forms)) is ∙ code-by-key f small
 
-  pub code-row : r < 11 → r ≡ nameCode f
+  pub code-row : r < 12 → r ≡ nameCode f
   code-row h =
-      let q : keyPlace (take 11 (keysOf forms)) k < 11 = omega arith in
-      e ∙ place-first 11 (keysOf forms) k q ∙ code-is
+      let q : keyPlace (take 12 (keysOf forms)) k < 12 = omega arith in
+      e ∙ place-first 12 (keysOf forms) k q ∙ code-is
 
-  pub code-instr : 11 ≤ r → (i : ℕ) → i ≡ keyPlace (drop 11 (keysOf forms)) k → i + 11 ≡ nameCode f
+  pub code-instr : 12 ≤ r → (i : ℕ) → i ≡ keyPlace (drop 12 (keysOf forms)) k → i + 12 ≡ nameCode f
   code-instr h i g =
-      let q : 11 ≤ keyPlace (take 11 (keysOf forms)) k = omega arith in
-      ap (λ (j : ℕ). j + 11) g ∙ place-later 11 (keysOf forms) k q ∙ code-is
+      let q : 12 ≤ keyPlace (take 12 (keysOf forms)) k = omega arith in
+      ap (λ (j : ℕ). j + 12) g ∙ place-later 12 (keysOf forms) k q ∙ code-is
 
 place-le : (xs : List ℕ) (k : ℕ) → keyPlace xs k ≤ length xs
 unfolding keyPlace
@@ -239,5 +239,5 @@ place-le (x ∷ xs) k = go (eqb x k) (place-le xs k)
     go true h = zero-le
     go false h = suc-le-suc h
 
-pub instr-few : (k : ℕ) → keyPlace (drop 11 (keysOf forms)) k ≤ 23
+pub instr-few : (k : ℕ) → keyPlace (drop 12 (keysOf forms)) k ≤ 24
 instr-few k = rw instrs-are (place-le instrKeys k)

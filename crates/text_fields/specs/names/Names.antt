@@ -11,7 +11,7 @@ unfoldable pub placeOf : List Named → List ℕ → ℕ
 placeOf [] f = 0
 placeOf (n ∷ ns) f = cond (sameBytes (bytes (n .name)) f) 0 (suc (placeOf ns f))
 
--- I 0, N 1, .. halt 33; 34 for any other field
+-- I 0, N 1, .. unpack 35; 36 for any other field
 unfoldable pub nameCode : List ℕ → ℕ
 nameCode f = placeOf forms f
 

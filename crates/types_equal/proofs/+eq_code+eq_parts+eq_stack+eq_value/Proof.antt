@@ -8,12 +8,13 @@ use borrow.Rule.Slice.PartMut.{putMid, same-len-mid}
 use borrow.Fn.Kinds.{In}
 use borrow.Fn.PlainCycle.{Measures, is, falls, and}
 use Rattle.types_rows.specs.Read.{tab, argsOf}
+use Rattle.types_rows.specs.Environments.{shifted}
 use Rattle.types_equal.specs.pending.Pending.{side, mass}
 use Rattle.types_equal.specs.Bounds.{big, Spare}
 use Rattle.types_equal.proofs.pending.Meets.{length-args}
 use Rattle.types_equal.proofs.pending.Sides.{agree-back}
-use Rattle.types_equal.proofs.Items.{own-room, given-room, tabled-low, tabled-given, tabled-arg, few-left, few-right, few-arg, few-args, room-of, spare-low, spare-arg, spare-kept, spare-own, spare-given}
-use Rattle.types_equal.proofs.Values.{big-of, pair-ok, value-pair, filled-value, filled-not, place-value, both-same, one-differs, heads-low, PartsLeft, parts-first, parts-last, parts-apart, parts-differ, parts-next, codes-off, codes-on}
+use Rattle.types_equal.proofs.Items.{left-in, right-in, own-room, given-room, tabled-low, tabled-given, tabled-arg, few-left, few-right, few-arg, few-args, room-of, spare-low, spare-arg, spare-kept, spare-own, spare-given}
+use Rattle.types_equal.proofs.Values.{big-of, pair-ok, value-pair, hiddens-are, filled-value, filled-not, place-value, both-same, one-differs, heads-low, PartsLeft, parts-first, parts-last, parts-apart, parts-differ, parts-next, codes-off, codes-on}
 use Rattle.types_equal.proofs.Stacks.{Matching, match-stored, match-over, match-unlike, match-onward, match-own, match-given, own-not, given-not, own-low, given-low, length-part, pends-more, not-true, not-false, plain-args}
 use Rattle.types_equal.proofs.eq_code.Reads as eq-code
 use Rattle.types_equal.proofs.eq_code.Kinds as eq-code-kinds
@@ -28,10 +29,13 @@ use Rattle.types_equal.proofs.eq_value.Reads as eq-value
 use Rattle.types_equal.proofs.eq_value.Kinds as eq-value-kinds
 use Rattle.types_equal.proofs.+eq_code+eq_parts+eq_stack+eq_value.Lts-eq_value as eq-value-lts
 use Rattle.types_equal.proofs.pending.store.Reads as store-reads
+use Rattle.types_equal.proofs.stack_pairs.current.Reads as current-reads
 use Rattle.types_equal.proofs.stack_pairs.greater.Reads as greater-reads
 use Rattle.types_equal.proofs.stack_pairs.next_pair.Reads as next-pair-reads
 use Rattle.types_equal.proofs.stack_pairs.same_place.Reads as same-place-reads
 use Rattle.types_equal.proofs.stack_pairs.same_stack.Reads as same-stack-reads
+use Rattle.types_equal.proofs.value_pairs.left_value.Reads as left-value-reads
+use Rattle.types_equal.proofs.value_pairs.right_value.Reads as right-value-reads
 use Rattle.types_equal.proofs.value_pairs.pair_up.Reads as pair-up-reads
 use Rattle.types_equal.proofs.value_pairs.same_letters.Reads as same-letters-reads
 use Rattle.types_equal.proofs.value_pairs.two_slots.Reads as two-slots-reads
@@ -39,48 +43,47 @@ use Rattle.types_rows.proofs.at.Reads as at-reads
 use Rattle.types_rows.proofs.is_stack.Reads as is-stack-reads
 use Rattle.types_rows.proofs.letter_count.Reads as letter-count-reads
 use Rattle.types_rows.proofs.part.Reads as part-reads
-use Rattle.types_rows.proofs.read_value.Reads as read-value-reads
 use Rattle.types_equal.proofs.+eq_code+eq_parts+eq_stack+eq_value.{statement}
 use Rattle.types_equal.proofs.+eq_code+eq_parts+eq_stack+eq_value.Tie.{close}
 
-abbrev μ-eq-code : Measures 4 eq-code-kinds.ps ℕ
-μ-eq-code κs a = big (a .1 .1 .1 .0 .m) + 131072 * a .1 .1 .1 .1 .0 + 66000
+abbrev μ-eq-code : Measures 5 eq-code-kinds.ps ℕ
+μ-eq-code κs a = big (a .1 .1 .1 .1 .0 .m) + 131072 * a .1 .1 .1 .1 .1 .0 + 66000
 
-abbrev μ-eq-parts : Measures 4 eq-parts-kinds.ps ℕ
-μ-eq-parts κs a = big (a .1 .1 .1 .0 .m) + 131072 * a .1 .1 .1 .1 .0 + 1
+abbrev μ-eq-parts : Measures 5 eq-parts-kinds.ps ℕ
+μ-eq-parts κs a = big (a .1 .1 .1 .1 .0 .m) + 131072 * a .1 .1 .1 .1 .1 .0 + 1
 
-abbrev μ-eq-stack : Measures 4 eq-stack-kinds.ps ℕ
-μ-eq-stack κs a = big (a .1 .1 .1 .0 .m) + 131072 * a .1 .1 .1 .1 .0 + 70001
+abbrev μ-eq-stack : Measures 5 eq-stack-kinds.ps ℕ
+μ-eq-stack κs a = big (a .1 .1 .1 .1 .0 .m) + 131072 * a .1 .1 .1 .1 .1 .0 + 70001
 
-abbrev μ-eq-value : Measures 4 eq-value-kinds.ps ℕ
-μ-eq-value κs a = big (a .1 .1 .1 .0 .m) + 131072 * a .1 .1 .1 .1 .0 + 70000
+abbrev μ-eq-value : Measures 5 eq-value-kinds.ps ℕ
+μ-eq-value κs a = big (a .1 .1 .1 .1 .0 .m) + 131072 * a .1 .1 .1 .1 .1 .0 + 70000
 
-abbrev eq-code-at : ℕ → In 4 eq-code-kinds.ps
-eq-code-at t = and 4 eq-code-kinds.ps (is 4 eq-code-kinds.ps μ-eq-code t) eq-code.Pre
+abbrev eq-code-at : ℕ → In 5 eq-code-kinds.ps
+eq-code-at t = and 5 eq-code-kinds.ps (is 5 eq-code-kinds.ps μ-eq-code t) eq-code.Pre
 
-abbrev eq-code-below : ℕ → In 4 eq-code-kinds.ps
-eq-code-below t = and 4 eq-code-kinds.ps (falls 4 eq-code-kinds.ps _<_ μ-eq-code t) eq-code.Pre
+abbrev eq-code-below : ℕ → In 5 eq-code-kinds.ps
+eq-code-below t = and 5 eq-code-kinds.ps (falls 5 eq-code-kinds.ps _<_ μ-eq-code t) eq-code.Pre
 
-abbrev eq-parts-at : ℕ → In 4 eq-parts-kinds.ps
-eq-parts-at t = and 4 eq-parts-kinds.ps (is 4 eq-parts-kinds.ps μ-eq-parts t) eq-parts.Pre
+abbrev eq-parts-at : ℕ → In 5 eq-parts-kinds.ps
+eq-parts-at t = and 5 eq-parts-kinds.ps (is 5 eq-parts-kinds.ps μ-eq-parts t) eq-parts.Pre
 
-abbrev eq-parts-below : ℕ → In 4 eq-parts-kinds.ps
+abbrev eq-parts-below : ℕ → In 5 eq-parts-kinds.ps
 eq-parts-below t =
-    and 4 eq-parts-kinds.ps (falls 4 eq-parts-kinds.ps _<_ μ-eq-parts t) eq-parts.Pre
+    and 5 eq-parts-kinds.ps (falls 5 eq-parts-kinds.ps _<_ μ-eq-parts t) eq-parts.Pre
 
-abbrev eq-stack-at : ℕ → In 4 eq-stack-kinds.ps
-eq-stack-at t = and 4 eq-stack-kinds.ps (is 4 eq-stack-kinds.ps μ-eq-stack t) eq-stack.Pre
+abbrev eq-stack-at : ℕ → In 5 eq-stack-kinds.ps
+eq-stack-at t = and 5 eq-stack-kinds.ps (is 5 eq-stack-kinds.ps μ-eq-stack t) eq-stack.Pre
 
-abbrev eq-stack-below : ℕ → In 4 eq-stack-kinds.ps
+abbrev eq-stack-below : ℕ → In 5 eq-stack-kinds.ps
 eq-stack-below t =
-    and 4 eq-stack-kinds.ps (falls 4 eq-stack-kinds.ps _<_ μ-eq-stack t) eq-stack.Pre
+    and 5 eq-stack-kinds.ps (falls 5 eq-stack-kinds.ps _<_ μ-eq-stack t) eq-stack.Pre
 
-abbrev eq-value-at : ℕ → In 4 eq-value-kinds.ps
-eq-value-at t = and 4 eq-value-kinds.ps (is 4 eq-value-kinds.ps μ-eq-value t) eq-value.Pre
+abbrev eq-value-at : ℕ → In 5 eq-value-kinds.ps
+eq-value-at t = and 5 eq-value-kinds.ps (is 5 eq-value-kinds.ps μ-eq-value t) eq-value.Pre
 
-abbrev eq-value-below : ℕ → In 4 eq-value-kinds.ps
+abbrev eq-value-below : ℕ → In 5 eq-value-kinds.ps
 eq-value-below t =
-    and 4 eq-value-kinds.ps (falls 4 eq-value-kinds.ps _<_ μ-eq-value t) eq-value.Pre
+    and 5 eq-value-kinds.ps (falls 5 eq-value-kinds.ps _<_ μ-eq-value t) eq-value.Pre
 
 abbrev eq-code-claims : ℕ → eq-code-lts.Claims
 eq-code-claims t = (letter-count-reads.Asked, letter-count-reads.Learnt, same-letters-reads.Asked, same-letters-reads.Learnt, eq-stack-below t, eq-stack.Post, eq-parts-below t, eq-parts.Post)
@@ -89,20 +92,24 @@ abbrev eq-parts-claims : ℕ → eq-parts-lts.Claims
 eq-parts-claims t = (part-reads.Asked, part-reads.Learnt, two-slots-reads.Asked, two-slots-reads.Learnt, eq-value-below t, eq-value.Post)
 
 abbrev eq-stack-claims : ℕ → eq-stack-lts.Claims
-eq-stack-claims t = (same-stack-reads.Asked, same-stack-reads.Learnt, store-reads.Asked, store-reads.Learnt, next-pair-reads.Asked, next-pair-reads.Learnt, greater-reads.Asked, greater-reads.Learnt, eq-value-below t, eq-value.Post)
+eq-stack-claims t = (same-stack-reads.Asked, same-stack-reads.Learnt, store-reads.Asked, store-reads.Learnt, next-pair-reads.Asked, next-pair-reads.Learnt, greater-reads.Asked, greater-reads.Learnt, eq-value-below t, eq-value.Post, current-reads.Asked, current-reads.Learnt)
 
 abbrev eq-value-claims : ℕ → eq-value-lts.Claims
 eq-value-claims t = (
   same-place-reads.Asked,
   same-place-reads.Learnt,
-  read-value-reads.Asked,
-  read-value-reads.Learnt,
+  left-value-reads.Asked,
+  left-value-reads.Learnt,
+  right-value-reads.Asked,
+  right-value-reads.Learnt,
   pair-up-reads.Asked,
   pair-up-reads.Learnt,
   at-reads.Asked,
   at-reads.Learnt,
   is-stack-reads.Asked,
   is-stack-reads.Learnt,
+  current-reads.Asked,
+  current-reads.Learnt,
   eq-value-below t,
   eq-value.Post,
   eq-parts-below t,
@@ -166,15 +173,15 @@ eq-code-eq-stack-requires t c κs =
       ),
     )
 
-eq-code-cast-t25 : (t : ℕ) → eq-code-lts.Need-cast-t25 (eq-code-claims t) (eq-code-at t) eq-code.Post
-eq-code-cast-t25 t c =
+eq-code-cast-t26 : (t : ℕ) → eq-code-lts.Need-cast-t26 (eq-code-claims t) (eq-code-at t) eq-code.Post
+eq-code-cast-t26 t c =
     let e : C-Stack t = search in
     let s = c-start t (c-letters t e) in
     let bs = s .pre .1 .2 in
     record { fits = omega arith }
 
-eq-code-cast-t26 : (t : ℕ) → eq-code-lts.Need-cast-t26 (eq-code-claims t) (eq-code-at t) eq-code.Post
-eq-code-cast-t26 t c =
+eq-code-cast-t27 : (t : ℕ) → eq-code-lts.Need-cast-t27 (eq-code-claims t) (eq-code-at t) eq-code.Post
+eq-code-cast-t27 t c =
     let e : C-Stack t = search in
     let s = c-start t (c-letters t e) in
     let bs = s .pre .1 .2 in
@@ -192,7 +199,7 @@ eq-code-eq-parts-requires t c κs =
     let bs = s .pre .1 .2 in
     let la = a .letter-count .ensures .1 in
     let lb = b .letter-count2 .ensures .1 in
-    (omega arith, (s .pre .1 .0, search needs, search needs, spare-kept (s .args .k .m) (s .args .l) (s .args .r) _ _ (s .pre .1 .3) (e .eq-stack .kept .1 .1 .1 .1 .1 .1 .0)))
+    (omega arith, (s .pre .1 .0, search needs, search needs, spare-kept (s .args .k .m) (s .args .l) (s .args .r) _ _ (s .pre .1 .3) (e .eq-stack .kept .1 .1 .1 .1 .1 .1 .1 .0)))
 
 eq-code-returns : (t : ℕ) → eq-code-lts.Need-returns (eq-code-claims t) (eq-code-at t) eq-code.Post
 eq-code-returns t c =
@@ -223,11 +230,11 @@ eq-code-returns-3 t c =
     codes-off _ _ _ _ _ _ _ _ _ _ _ _ _ _ (a .letter-count .ensures .0) (b .letter-count2 .ensures .0) (w .same-letters .ensures) (search)
 
 abbrev eq-parts-Inv-loop : eq-parts-lts.InvT-loop
-eq-parts-Inv-loop rows parts args k l r pending₀ file p q n i₀ pending i =
-    PartsLeft (tab rows parts) (argsOf (tab rows parts) args (k .m)) (k .by) (k .d) file l (k .by2) (k .d2) r p q n i × (length pending ≡ length pending₀)
+eq-parts-Inv-loop rows parts args envs k l r pending₀ file p q n i₀ pending i =
+    PartsLeft (tab rows parts) (argsOf (tab rows parts) args (k .m)) (shifted envs (k .env) (k .by)) (k .d) file l (shifted envs (k .env2) (k .by2)) (k .d2) r p q n i × (length pending ≡ length pending₀)
 
 abbrev eq-parts-μ-loop : eq-parts-lts.MeasureT-loop
-eq-parts-μ-loop rows parts args k l r pending₀ file p q n i₀ pending i = n - i
+eq-parts-μ-loop rows parts args envs k l r pending₀ file p q n i₀ pending i = n - i
 
 abbrev P-Start : ℕ → Type 0
 P-Start t = eq-parts-lts.Start (eq-parts-claims t) (eq-parts-at t) eq-parts.Post eq-parts-Inv-loop eq-parts-μ-loop
@@ -350,7 +357,7 @@ eq-parts-loop-again t c =
     let s = p-start t w in (
       parts-next _ _ _ _ _ _ _ _ _ _ _ _ _ (l .loop .inv .0) (n .loop-test .taken) (a .part .ensures .0) (b .part2 .ensures .0)
           (w .two-slots .ensures) (h .h .given .0 .0) (h .h .given .0 .1 .0) (h .h .given .1) (v .eq-value .ensures) (not-true (search)),
-      v .eq-value .kept .1 .1 .1 .1 .1 .1 .0 ∙ l .loop .inv .1,
+      v .eq-value .kept .1 .1 .1 .1 .1 .1 .1 .0 ∙ l .loop .inv .1,
     )
 
 eq-parts-returns-3 : (t : ℕ) → eq-parts-lts.Need-returns-3 (eq-parts-claims t) (eq-parts-at t) eq-parts.Post eq-parts-Inv-loop eq-parts-μ-loop
@@ -360,11 +367,11 @@ eq-parts-returns-3 t c =
     parts-last _ _ _ _ _ _ _ _ _ _ _ _ _ (search) (l .loop .inv .0)
 
 abbrev eq-stack-Inv-loop : eq-stack-lts.InvT-loop
-eq-stack-Inv-loop rows parts args k l r pending₀ i₀ j₀ pending i j =
-    Matching (tab rows parts) (argsOf (tab rows parts) args (k .m)) (k .m) (k .by) (k .d) l (k .by2) (k .d2) r (side false pending) i (side true pending) j × (length pending ≡ length pending₀)
+eq-stack-Inv-loop rows parts args envs k l r pending₀ i₀ j₀ pending i j =
+    Matching (tab rows parts) (argsOf (tab rows parts) args (k .m)) (k .m) (shifted envs (k .env) (k .by)) (k .d) l (shifted envs (k .env2) (k .by2)) (k .d2) r (side false pending) i (side true pending) j × (length pending ≡ length pending₀)
 
 abbrev eq-stack-μ-loop : eq-stack-lts.MeasureT-loop
-eq-stack-μ-loop rows parts args k l r pending₀ i₀ j₀ pending i j = mass (side false pending) i
+eq-stack-μ-loop rows parts args envs k l r pending₀ i₀ j₀ pending i j = mass (side false pending) i
 
 abbrev S-Start : ℕ → Type 0
 S-Start t = eq-stack-lts.Start (eq-stack-claims t) (eq-stack-at t) eq-stack.Post eq-stack-Inv-loop eq-stack-μ-loop
@@ -398,6 +405,12 @@ S-Value t = eq-stack-lts.After-eq-value (eq-stack-claims t) (eq-stack-at t) eq-s
 
 abbrev S-Value2 : ℕ → Type 0
 S-Value2 t = eq-stack-lts.After-eq-value2 (eq-stack-claims t) (eq-stack-at t) eq-stack.Post eq-stack-Inv-loop eq-stack-μ-loop
+
+abbrev S-Current : ℕ → Type 0
+S-Current t = eq-stack-lts.After-current (eq-stack-claims t) (eq-stack-at t) eq-stack.Post eq-stack-Inv-loop eq-stack-μ-loop
+
+abbrev s-current : (t : ℕ) → S-Value2 t → S-Current t
+s-current t c = search
 
 abbrev s-start : (t : ℕ) → S-Loop t → S-Start t
 s-start t c = search
@@ -433,10 +446,10 @@ s-great2 t c = search
 s-long : (t : ℕ) (c : S-Loop t) → length (c .loop .pending) ≡ length (s-start t c .args .pending .now)
 s-long t c = c .loop .inv .1 ∙ s-store2 t c .store2 .kept .0 ∙ s-store t c .store .kept .0
 
-s-longer : (t : ℕ) (c : S-Pair t) → length (c .next-pair .last .1 .1 .1 .0) ≡ length (s-start t (s-loop t c) .args .pending .now)
-s-longer t c = c .next-pair .kept .1 .1 .1 .0 ∙ s-long t (s-loop t c)
+s-longer : (t : ℕ) (c : S-Pair t) → length (c .next-pair .last .1 .1 .1 .1 .0) ≡ length (s-start t (s-loop t c) .args .pending .now)
+s-longer t c = c .next-pair .kept .1 .1 .1 .1 .0 ∙ s-long t (s-loop t c)
 
-s-spare : (t : ℕ) (c : S-Pair t) → Spare (s-start t (s-loop t c) .args .k .m) (s-start t (s-loop t c) .args .l) (s-start t (s-loop t c) .args .r) (length (c .next-pair .last .1 .1 .1 .0))
+s-spare : (t : ℕ) (c : S-Pair t) → Spare (s-start t (s-loop t c) .args .k .m) (s-start t (s-loop t c) .args .l) (s-start t (s-loop t c) .args .r) (length (c .next-pair .last .1 .1 .1 .1 .0))
 s-spare t c = let s = s-start t (s-loop t c) in spare-kept (s .args .k .m) (s .args .l) (s .args .r) _ _ (s .pre .1 .2) (s-longer t c)
 
 own-reach : (t : ℕ) (c : S-Own t) → (c .s2 .given .0 .1 .0 + c .s2 .given .0 .0 ≤ s-start t (s-loop t (s-own-pair t c)) .args .l) × (c .s2 .given .0 .1 .1 .1 .0 + c .s2 .given .0 .1 .1 .0 ≤ s-start t (s-loop t (s-own-pair t c)) .args .r)
@@ -445,13 +458,13 @@ own-reach t c =
     let l = s-loop t p in
     let s = s-start t l in
     own-low (tab (s .args .rows .now) (s .args .parts .now)) (argsOf (tab (s .args .rows .now) (s .args .parts .now)) (s .args .args .now)
-    (s .args .k .m)) (s .args .k .m) (s .args .k .by) (s .args .k .d) (s .args .l) (s .args .k .by2) (s .args .k .d2) (s .args .r)
+    (s .args .k .m)) (s .args .k .m) (shifted (s .args .envs .now) (s .args .k .env) (s .args .k .by)) (s .args .k .d) (s .args .l) (shifted (s .args .envs .now) (s .args .k .env2) (s .args .k .by2)) (s .args .k .d2) (s .args .r)
     (side false (l .loop .pending)) (l .loop .i) (side true (l .loop .pending)) (l .loop .j) (l .loop .inv .0)
-    (side false (p .next-pair .last .1 .1 .1 .0)) (side true (p .next-pair .last .1 .1 .1 .0)) (p .next-pair .result) (c .s2 .given .0 .0)
+    (side false (p .next-pair .last .1 .1 .1 .1 .0)) (side true (p .next-pair .last .1 .1 .1 .1 .0)) (p .next-pair .result) (c .s2 .given .0 .0)
     (c .s2 .given .0 .1 .0) (c .s2 .given .0 .1 .1 .0) (c .s2 .given .0 .1 .1 .1 .0) (p .next-pair .ensures (s .args .parts .now))
     (c .s2 .given .1)
 
-own-ends : (t : ℕ) (c : S-Great t) → (c .greater .result < length (s-own-pair t (s-own t c) .next-pair .last .1 .1 .1 .0)) × (length (s-own-pair t (s-own t c) .next-pair .last .1 .1 .1 .0) ≤ 32768)
+own-ends : (t : ℕ) (c : S-Great t) → (c .greater .result < length (s-own-pair t (s-own t c) .next-pair .last .1 .1 .1 .1 .0)) × (length (s-own-pair t (s-own t c) .next-pair .last .1 .1 .1 .1 .0) ≤ 32768)
 own-ends t c =
     let o = s-own t c in
     own-room (s-start t (s-loop t (s-own-pair t o)) .args .k .m) (s-start t (s-loop t (s-own-pair t o)) .args .l)
@@ -466,13 +479,13 @@ given-reach t c =
     let l = s-loop t p in
     let s = s-start t l in
     given-low (tab (s .args .rows .now) (s .args .parts .now)) (argsOf (tab (s .args .rows .now) (s .args .parts .now))
-    (s .args .args .now) (s .args .k .m)) (s .args .k .m) (s .args .k .by) (s .args .k .d) (s .args .l) (s .args .k .by2) (s .args .k .d2)
+    (s .args .args .now) (s .args .k .m)) (s .args .k .m) (shifted (s .args .envs .now) (s .args .k .env) (s .args .k .by)) (s .args .k .d) (s .args .l) (shifted (s .args .envs .now) (s .args .k .env2) (s .args .k .by2)) (s .args .k .d2)
     (s .args .r) (side false (l .loop .pending)) (l .loop .i) (side true (l .loop .pending)) (l .loop .j) (l .loop .inv .0)
-    (side false (p .next-pair .last .1 .1 .1 .0)) (side true (p .next-pair .last .1 .1 .1 .0)) (p .next-pair .result) (c .s3 .given .0 .0)
+    (side false (p .next-pair .last .1 .1 .1 .1 .0)) (side true (p .next-pair .last .1 .1 .1 .1 .0)) (p .next-pair .result) (c .s3 .given .0 .0)
     (c .s3 .given .0 .1 .0) (c .s3 .given .0 .1 .1 .0) (c .s3 .given .0 .1 .1 .1 .0) (p .next-pair .ensures (s .args .parts .now))
     (c .s3 .given .1)
 
-given-ends : (t : ℕ) (c : S-Great2 t) → (c .greater2 .result < length (s-given-pair t (s-given t c) .next-pair .last .1 .1 .1 .0)) × (length (s-given-pair t (s-given t c) .next-pair .last .1 .1 .1 .0) ≤ 32768)
+given-ends : (t : ℕ) (c : S-Great2 t) → (c .greater2 .result < length (s-given-pair t (s-given t c) .next-pair .last .1 .1 .1 .1 .0)) × (length (s-given-pair t (s-given t c) .next-pair .last .1 .1 .1 .1 .0) ≤ 32768)
 given-ends t c =
     let o = s-given t c in
     given-room (s-start t (s-loop t (s-given-pair t o)) .args .k .m) (s-start t (s-loop t (s-given-pair t o)) .args .l)
@@ -508,7 +521,7 @@ eq-stack-loop-holds t c =
     let b : S-Store2 t = search in
     let s0 = s .pre .1 .2 .0 in (
       match-stored (tab (s .args .rows .now) (s .args .parts .now)) (argsOf (tab (s .args .rows .now) (s .args .parts .now))
-          (s .args .args .now) (s .args .k .m)) (s .args .k .m) (s .args .k .by) (s .args .k .d) (s .args .l) (s .args .k .by2) (s .args .k .d2)
+          (s .args .args .now) (s .args .k .m)) (s .args .k .m) (shifted (s .args .envs .now) (s .args .k .env) (s .args .k .by)) (s .args .k .d) (s .args .l) (shifted (s .args .envs .now) (s .args .k .env2) (s .args .k .by2)) (s .args .k .d2)
           (s .args .r) (s .args .pending .now) (a .store .last .0) (b .store2 .last .0)
           (few-left (tab (s .args .rows .now) (s .args .parts .now)) (s .args .args .now) (s .pre .1 .0)) (few-right (tab (s .args .rows .now)
           (s .args .parts .now)) (s .args .args .now) (s .pre .1 .0)) (omega arith) (a .store .ensures .0) (a .store .ensures .1)
@@ -550,7 +563,7 @@ eq-stack-returns-2 t c =
     let p : S-Pair t = search in
     let l = s-loop t p in
     let s = s-start t l in
-    match-over _ _ _ _ _ _ _ _ _ (side false (l .loop .pending)) _ (side true (l .loop .pending)) _ (l .loop .inv .0) (side false (p .next-pair .last .1 .1 .1 .0)) (side true (p .next-pair .last .1 .1 .1 .0)) _ (p .next-pair .ensures _) (c .enum-told .given .1)
+    match-over _ _ _ _ _ _ _ _ _ (side false (l .loop .pending)) _ (side true (l .loop .pending)) _ (l .loop .inv .0) (side false (p .next-pair .last .1 .1 .1 .1 .0)) (side true (p .next-pair .last .1 .1 .1 .1 .0)) _ (p .next-pair .ensures _) (c .enum-told .given .1)
 
 eq-stack-same-length-2 : (t : ℕ) → eq-stack-lts.Need-same-length-2 (eq-stack-claims t) (eq-stack-at t) eq-stack.Post eq-stack-Inv-loop eq-stack-μ-loop
 eq-stack-same-length-2 t c =
@@ -562,7 +575,7 @@ eq-stack-returns-3 t c =
     let p : S-Pair t = search in
     let l = s-loop t p in
     let s = s-start t l in
-    match-unlike _ _ _ _ _ _ _ _ _ (side false (l .loop .pending)) _ (side true (l .loop .pending)) _ (l .loop .inv .0) (side false (p .next-pair .last .1 .1 .1 .0)) (side true (p .next-pair .last .1 .1 .1 .0)) _ (p .next-pair .ensures _) (c .enum-told2 .given .1)
+    match-unlike _ _ _ _ _ _ _ _ _ (side false (l .loop .pending)) _ (side true (l .loop .pending)) _ (l .loop .inv .0) (side false (p .next-pair .last .1 .1 .1 .1 .0)) (side true (p .next-pair .last .1 .1 .1 .1 .0)) _ (p .next-pair .ensures _) (c .enum-told2 .given .1)
 
 eq-stack-loop-less : (t : ℕ) → eq-stack-lts.Need-loop-less (eq-stack-claims t) (eq-stack-at t) eq-stack.Post eq-stack-Inv-loop eq-stack-μ-loop
 eq-stack-loop-less t c =
@@ -571,9 +584,9 @@ eq-stack-loop-less t c =
     let l = s-loop t p in
     let s = s-start t l in
     (match-onward (tab (s .args .rows .now) (s .args .parts .now)) (argsOf (tab (s .args .rows .now) (s .args .parts .now))
-    (s .args .args .now) (s .args .k .m)) (s .args .k .m) (s .args .k .by) (s .args .k .d) (s .args .l) (s .args .k .by2) (s .args .k .d2)
+    (s .args .args .now) (s .args .k .m)) (s .args .k .m) (shifted (s .args .envs .now) (s .args .k .env) (s .args .k .by)) (s .args .k .d) (s .args .l) (shifted (s .args .envs .now) (s .args .k .env2) (s .args .k .by2)) (s .args .k .d2)
     (s .args .r) (side false (l .loop .pending)) (l .loop .i) (side true (l .loop .pending)) (l .loop .j) (l .loop .inv .0)
-    (side false (p .next-pair .last .1 .1 .1 .0)) (side true (p .next-pair .last .1 .1 .1 .0)) (p .next-pair .result) (o .s .given .0 .0)
+    (side false (p .next-pair .last .1 .1 .1 .1 .0)) (side true (p .next-pair .last .1 .1 .1 .1 .0)) (p .next-pair .result) (o .s .given .0 .0)
     (o .s .given .0 .1 .0) (p .next-pair .ensures (s .args .parts .now)) (o .s .given .1)) .1
 
 eq-stack-loop-again : (t : ℕ) → eq-stack-lts.Need-loop-again (eq-stack-claims t) (eq-stack-at t) eq-stack.Post eq-stack-Inv-loop eq-stack-μ-loop
@@ -583,11 +596,11 @@ eq-stack-loop-again t c =
     let l = s-loop t p in
     let s = s-start t l in (
       (match-onward (tab (s .args .rows .now) (s .args .parts .now)) (argsOf (tab (s .args .rows .now) (s .args .parts .now))
-          (s .args .args .now) (s .args .k .m)) (s .args .k .m) (s .args .k .by) (s .args .k .d) (s .args .l) (s .args .k .by2) (s .args .k .d2)
+          (s .args .args .now) (s .args .k .m)) (s .args .k .m) (shifted (s .args .envs .now) (s .args .k .env) (s .args .k .by)) (s .args .k .d) (s .args .l) (shifted (s .args .envs .now) (s .args .k .env2) (s .args .k .by2)) (s .args .k .d2)
           (s .args .r) (side false (l .loop .pending)) (l .loop .i) (side true (l .loop .pending)) (l .loop .j) (l .loop .inv .0)
-          (side false (p .next-pair .last .1 .1 .1 .0)) (side true (p .next-pair .last .1 .1 .1 .0)) (p .next-pair .result) (o .s .given .0 .0)
+          (side false (p .next-pair .last .1 .1 .1 .1 .0)) (side true (p .next-pair .last .1 .1 .1 .1 .0)) (p .next-pair .result) (o .s .given .0 .0)
           (o .s .given .0 .1 .0) (p .next-pair .ensures (s .args .parts .now)) (o .s .given .1)) .0,
-      p .next-pair .kept .1 .1 .1 .0
+      p .next-pair .kept .1 .1 .1 .1 .0
           ∙ l .loop .inv .1,
     )
 
@@ -634,7 +647,7 @@ eq-stack-eq-value-requires t c κs =
         search needs,
         spare-own (s .args .k .m) (s .args .l)
             (s .args .r) _ (o .s2 .given .0 .1 .0) (o .s2 .given .0 .0) (o .s2 .given .0 .1 .1 .1 .0) (o .s2 .given .0 .1 .1 .0)
-            (g .greater .result) (g .greater .ensures) (s-spare t p) _ w (length-part (g .greater .result) (p .next-pair .last .1 .1 .1 .0)),
+            (g .greater .result) (g .greater .ensures) (s-spare t p) _ w (length-part (g .greater .result) (p .next-pair .last .1 .1 .1 .1 .0)),
       ),
     )
 
@@ -648,7 +661,7 @@ eq-stack-same-length-3 t c =
     let s = s-start t l in
     let w = own-ends t g in
     let w0 = w .0 in
-    same-len-mid (g .greater .result) (length (p .next-pair .last .1 .1 .1 .0) - (g .greater .result)) (p .next-pair .last .1 .1 .1 .0) (v .eq-value .last .1 .1 .1 .1 .1 .1 .0) (v .eq-value .kept .1 .1 .1 .1 .1 .1 .0) ∙ s-longer t p
+    same-len-mid (g .greater .result) (length (p .next-pair .last .1 .1 .1 .1 .0) - (g .greater .result)) (p .next-pair .last .1 .1 .1 .1 .0) (v .eq-value .last .1 .1 .1 .1 .1 .1 .1 .0) (v .eq-value .kept .1 .1 .1 .1 .1 .1 .1 .0) ∙ s-longer t p
 
 eq-stack-returns-4 : (t : ℕ) → eq-stack-lts.Need-returns-4 (eq-stack-claims t) (eq-stack-at t) eq-stack.Post eq-stack-Inv-loop eq-stack-μ-loop
 eq-stack-returns-4 t c =
@@ -661,7 +674,7 @@ eq-stack-returns-4 t c =
     let w = own-ends t g in
     let w0 = w .0 in
     own-not _ _ _ _ _ _ _ _ _ (side false (l .loop .pending)) _ (side true (l .loop .pending)) _ (l .loop .inv .0)
-    (side false (p .next-pair .last .1 .1 .1 .0)) (side true (p .next-pair .last .1 .1 .1 .0)) _ (o .s2 .given .0 .0)
+    (side false (p .next-pair .last .1 .1 .1 .1 .0)) (side true (p .next-pair .last .1 .1 .1 .1 .0)) _ (o .s2 .given .0 .0)
     (o .s2 .given .0 .1 .0) (o .s2 .given .0 .1 .1 .0) (o .s2 .given .0 .1 .1 .1 .0) (p .next-pair .ensures _) (o .s2 .given .1)
     (v .eq-value .ensures) (not-false (search))
 
@@ -676,18 +689,18 @@ eq-stack-loop-less-2 t c =
     let w = own-ends t g in
     let w0 = w .0 in
     (match-own (tab (s .args .rows .now) (s .args .parts .now)) (argsOf (tab (s .args .rows .now) (s .args .parts .now))
-    (s .args .args .now) (s .args .k .m)) (s .args .k .m) (s .args .k .by) (s .args .k .d) (s .args .l) (s .args .k .by2) (s .args .k .d2)
+    (s .args .args .now) (s .args .k .m)) (s .args .k .m) (shifted (s .args .envs .now) (s .args .k .env) (s .args .k .by)) (s .args .k .d) (s .args .l) (shifted (s .args .envs .now) (s .args .k .env2) (s .args .k .by2)) (s .args .k .d2)
     (s .args .r) (side false (l .loop .pending)) (l .loop .i) (side true (l .loop .pending)) (l .loop .j) (l .loop .inv .0)
-    (side false (p .next-pair .last .1 .1 .1 .0)) (side true (p .next-pair .last .1 .1 .1 .0)) (side false (putMid (g .greater .result)
-    (length (p .next-pair .last .1 .1 .1 .0) - (g .greater .result)) (p .next-pair .last .1 .1 .1 .0)
-    (v .eq-value .last .1 .1 .1 .1 .1 .1 .0))) (side true (putMid (g .greater .result)
-    (length (p .next-pair .last .1 .1 .1 .0) - (g .greater .result)) (p .next-pair .last .1 .1 .1 .0)
-    (v .eq-value .last .1 .1 .1 .1 .1 .1 .0))) (p .next-pair .result) (o .s2 .given .0 .0) (o .s2 .given .0 .1 .0)
+    (side false (p .next-pair .last .1 .1 .1 .1 .0)) (side true (p .next-pair .last .1 .1 .1 .1 .0)) (side false (putMid (g .greater .result)
+    (length (p .next-pair .last .1 .1 .1 .1 .0) - (g .greater .result)) (p .next-pair .last .1 .1 .1 .1 .0)
+    (v .eq-value .last .1 .1 .1 .1 .1 .1 .1 .0))) (side true (putMid (g .greater .result)
+    (length (p .next-pair .last .1 .1 .1 .1 .0) - (g .greater .result)) (p .next-pair .last .1 .1 .1 .1 .0)
+    (v .eq-value .last .1 .1 .1 .1 .1 .1 .1 .0))) (p .next-pair .result) (o .s2 .given .0 .0) (o .s2 .given .0 .1 .0)
     (o .s2 .given .0 .1 .1 .0) (o .s2 .given .0 .1 .1 .1 .0) (agree-back false (o .s2 .given .0 .1 .0) (g .greater .result)
-    (length (p .next-pair .last .1 .1 .1 .0) - (g .greater .result)) (p .next-pair .last .1 .1 .1 .0)
-    (v .eq-value .last .1 .1 .1 .1 .1 .1 .0) (g .greater .ensures .0) (omega arith)) (agree-back true (o .s2 .given .0 .1 .1 .1 .0)
-    (g .greater .result) (length (p .next-pair .last .1 .1 .1 .0) - (g .greater .result)) (p .next-pair .last .1 .1 .1 .0)
-    (v .eq-value .last .1 .1 .1 .1 .1 .1 .0) (g .greater .ensures .1) (omega arith)) (p .next-pair .ensures (s .args .parts .now))
+    (length (p .next-pair .last .1 .1 .1 .1 .0) - (g .greater .result)) (p .next-pair .last .1 .1 .1 .1 .0)
+    (v .eq-value .last .1 .1 .1 .1 .1 .1 .1 .0) (g .greater .ensures .0) (omega arith)) (agree-back true (o .s2 .given .0 .1 .1 .1 .0)
+    (g .greater .result) (length (p .next-pair .last .1 .1 .1 .1 .0) - (g .greater .result)) (p .next-pair .last .1 .1 .1 .1 .0)
+    (v .eq-value .last .1 .1 .1 .1 .1 .1 .1 .0) (g .greater .ensures .1) (omega arith)) (p .next-pair .ensures (s .args .parts .now))
     (o .s2 .given .1) (v .eq-value .ensures) (not-true (search))) .1
 
 eq-stack-loop-again-2 : (t : ℕ) → eq-stack-lts.Need-loop-again-2 (eq-stack-claims t) (eq-stack-at t) eq-stack.Post eq-stack-Inv-loop eq-stack-μ-loop
@@ -701,23 +714,33 @@ eq-stack-loop-again-2 t c =
     let w = own-ends t g in
     let w0 = w .0 in (
       (match-own (tab (s .args .rows .now) (s .args .parts .now)) (argsOf (tab (s .args .rows .now) (s .args .parts .now))
-          (s .args .args .now) (s .args .k .m)) (s .args .k .m) (s .args .k .by) (s .args .k .d) (s .args .l) (s .args .k .by2) (s .args .k .d2)
+          (s .args .args .now) (s .args .k .m)) (s .args .k .m) (shifted (s .args .envs .now) (s .args .k .env) (s .args .k .by)) (s .args .k .d) (s .args .l) (shifted (s .args .envs .now) (s .args .k .env2) (s .args .k .by2)) (s .args .k .d2)
           (s .args .r) (side false (l .loop .pending)) (l .loop .i) (side true (l .loop .pending)) (l .loop .j) (l .loop .inv .0)
-          (side false (p .next-pair .last .1 .1 .1 .0)) (side true (p .next-pair .last .1 .1 .1 .0)) (side false (putMid (g .greater .result)
-          (length (p .next-pair .last .1 .1 .1 .0) - (g .greater .result)) (p .next-pair .last .1 .1 .1 .0)
-          (v .eq-value .last .1 .1 .1 .1 .1 .1 .0))) (side true (putMid (g .greater .result)
-          (length (p .next-pair .last .1 .1 .1 .0) - (g .greater .result)) (p .next-pair .last .1 .1 .1 .0)
-          (v .eq-value .last .1 .1 .1 .1 .1 .1 .0))) (p .next-pair .result) (o .s2 .given .0 .0) (o .s2 .given .0 .1 .0)
+          (side false (p .next-pair .last .1 .1 .1 .1 .0)) (side true (p .next-pair .last .1 .1 .1 .1 .0)) (side false (putMid (g .greater .result)
+          (length (p .next-pair .last .1 .1 .1 .1 .0) - (g .greater .result)) (p .next-pair .last .1 .1 .1 .1 .0)
+          (v .eq-value .last .1 .1 .1 .1 .1 .1 .1 .0))) (side true (putMid (g .greater .result)
+          (length (p .next-pair .last .1 .1 .1 .1 .0) - (g .greater .result)) (p .next-pair .last .1 .1 .1 .1 .0)
+          (v .eq-value .last .1 .1 .1 .1 .1 .1 .1 .0))) (p .next-pair .result) (o .s2 .given .0 .0) (o .s2 .given .0 .1 .0)
           (o .s2 .given .0 .1 .1 .0) (o .s2 .given .0 .1 .1 .1 .0) (agree-back false (o .s2 .given .0 .1 .0) (g .greater .result)
-          (length (p .next-pair .last .1 .1 .1 .0) - (g .greater .result)) (p .next-pair .last .1 .1 .1 .0)
-          (v .eq-value .last .1 .1 .1 .1 .1 .1 .0) (g .greater .ensures .0) (omega arith)) (agree-back true (o .s2 .given .0 .1 .1 .1 .0)
-          (g .greater .result) (length (p .next-pair .last .1 .1 .1 .0) - (g .greater .result)) (p .next-pair .last .1 .1 .1 .0)
-          (v .eq-value .last .1 .1 .1 .1 .1 .1 .0) (g .greater .ensures .1) (omega arith)) (p .next-pair .ensures (s .args .parts .now))
+          (length (p .next-pair .last .1 .1 .1 .1 .0) - (g .greater .result)) (p .next-pair .last .1 .1 .1 .1 .0)
+          (v .eq-value .last .1 .1 .1 .1 .1 .1 .1 .0) (g .greater .ensures .0) (omega arith)) (agree-back true (o .s2 .given .0 .1 .1 .1 .0)
+          (g .greater .result) (length (p .next-pair .last .1 .1 .1 .1 .0) - (g .greater .result)) (p .next-pair .last .1 .1 .1 .1 .0)
+          (v .eq-value .last .1 .1 .1 .1 .1 .1 .1 .0) (g .greater .ensures .1) (omega arith)) (p .next-pair .ensures (s .args .parts .now))
           (o .s2 .given .1) (v .eq-value .ensures) (not-true (search))) .0,
       same-len-mid (g .greater .result)
-          (length (p .next-pair .last .1 .1 .1 .0) - (g .greater .result)) (p .next-pair .last .1 .1 .1 .0)
-          (v .eq-value .last .1 .1 .1 .1 .1 .1 .0) (v .eq-value .kept .1 .1 .1 .1 .1 .1 .0) ∙ p .next-pair .kept .1 .1 .1 .0 ∙ l .loop .inv .1,
+          (length (p .next-pair .last .1 .1 .1 .1 .0) - (g .greater .result)) (p .next-pair .last .1 .1 .1 .1 .0)
+          (v .eq-value .last .1 .1 .1 .1 .1 .1 .1 .0) (v .eq-value .kept .1 .1 .1 .1 .1 .1 .1 .0) ∙ p .next-pair .kept .1 .1 .1 .1 .0 ∙ l .loop .inv .1,
     )
+
+eq-stack-current-requires : (t : ℕ) → eq-stack-lts.Need-current-requires (eq-stack-claims t) (eq-stack-at t) eq-stack.Post eq-stack-Inv-loop eq-stack-μ-loop
+eq-stack-current-requires t c κs =
+    let g : S-Great2 t = search in
+    let o = s-given t g in
+    let p = s-given-pair t o in
+    let l = s-loop t p in
+    let s = s-start t l in
+    let rs = s .pre .1 .1 .envs in
+    omega arith
 
 eq-stack-mul-eq-value-2 : (t : ℕ) → eq-stack-lts.Need-mul-eq-value-2 (eq-stack-claims t) (eq-stack-at t) eq-stack.Post eq-stack-Inv-loop eq-stack-μ-loop
 eq-stack-mul-eq-value-2 t c =
@@ -766,7 +789,7 @@ eq-stack-eq-value-requires-2 t c κs =
         search needs,
         spare-given (s .args .k .m) (s .args .l)
             (s .args .r) _ (o .s3 .given .0 .1 .0) (o .s3 .given .0 .0) (o .s3 .given .0 .1 .1 .1 .0) (o .s3 .given .0 .1 .1 .0)
-            (g .greater2 .result) (g .greater2 .ensures) (s-spare t p) _ w (length-part (g .greater2 .result) (p .next-pair .last .1 .1 .1 .0)),
+            (g .greater2 .result) (g .greater2 .ensures) (s-spare t p) _ w (length-part (g .greater2 .result) (p .next-pair .last .1 .1 .1 .1 .0)),
       ),
     )
 
@@ -780,7 +803,7 @@ eq-stack-same-length-4 t c =
     let s = s-start t l in
     let w = given-ends t g in
     let w0 = w .0 in
-    same-len-mid (g .greater2 .result) (length (p .next-pair .last .1 .1 .1 .0) - (g .greater2 .result)) (p .next-pair .last .1 .1 .1 .0) (v .eq-value2 .last .1 .1 .1 .1 .1 .1 .0) (v .eq-value2 .kept .1 .1 .1 .1 .1 .1 .0) ∙ s-longer t p
+    same-len-mid (g .greater2 .result) (length (p .next-pair .last .1 .1 .1 .1 .0) - (g .greater2 .result)) (p .next-pair .last .1 .1 .1 .1 .0) (v .eq-value2 .last .1 .1 .1 .1 .1 .1 .1 .0) (v .eq-value2 .kept .1 .1 .1 .1 .1 .1 .1 .0) ∙ s-longer t p
 
 eq-stack-returns-5 : (t : ℕ) → eq-stack-lts.Need-returns-5 (eq-stack-claims t) (eq-stack-at t) eq-stack.Post eq-stack-Inv-loop eq-stack-μ-loop
 eq-stack-returns-5 t c =
@@ -793,10 +816,10 @@ eq-stack-returns-5 t c =
     let w = given-ends t g in
     let w0 = w .0 in
     given-not _ _ _ _ _ _ _ _ _ (side false (l .loop .pending)) _ (side true (l .loop .pending)) _ (l .loop .inv .0)
-    (side false (p .next-pair .last .1 .1 .1 .0)) (side true (p .next-pair .last .1 .1 .1 .0)) _ (o .s3 .given .0 .0)
+    (side false (p .next-pair .last .1 .1 .1 .1 .0)) (side true (p .next-pair .last .1 .1 .1 .1 .0)) _ (o .s3 .given .0 .0)
     (o .s3 .given .0 .1 .0) (o .s3 .given .0 .1 .1 .0) (o .s3 .given .0 .1 .1 .1 .0) (p .next-pair .ensures _) (o .s3 .given .1)
-    (v .eq-value2 .ensures ∙ plain-args (tab (s .args .rows .now) (s .args .parts .now)) (s .args .args .now) (s .args .k .d)
-    (o .s3 .given .0 .0) (s .args .k .by2) (s .args .k .d2) (o .s3 .given .0 .1 .1 .0)) (not-false (search))
+    (v .eq-value2 .ensures ∙ plain-args _ (s .args .args .now) (s .args .envs .now) _ (s .args .k .d)
+    (o .s3 .given .0 .0) (shifted (s .args .envs .now) (s .args .k .env2) (s .args .k .by2)) (s .args .k .d2) (o .s3 .given .0 .1 .1 .0) (s-current t v .current .ensures)) (not-false (search))
 
 eq-stack-loop-less-3 : (t : ℕ) → eq-stack-lts.Need-loop-less-3 (eq-stack-claims t) (eq-stack-at t) eq-stack.Post eq-stack-Inv-loop eq-stack-μ-loop
 eq-stack-loop-less-3 t c =
@@ -809,20 +832,19 @@ eq-stack-loop-less-3 t c =
     let w = given-ends t g in
     let w0 = w .0 in
     (match-given (tab (s .args .rows .now) (s .args .parts .now)) (argsOf (tab (s .args .rows .now) (s .args .parts .now))
-    (s .args .args .now) (s .args .k .m)) (s .args .k .m) (s .args .k .by) (s .args .k .d) (s .args .l) (s .args .k .by2) (s .args .k .d2)
+    (s .args .args .now) (s .args .k .m)) (s .args .k .m) (shifted (s .args .envs .now) (s .args .k .env) (s .args .k .by)) (s .args .k .d) (s .args .l) (shifted (s .args .envs .now) (s .args .k .env2) (s .args .k .by2)) (s .args .k .d2)
     (s .args .r) (side false (l .loop .pending)) (l .loop .i) (side true (l .loop .pending)) (l .loop .j) (l .loop .inv .0)
-    (side false (p .next-pair .last .1 .1 .1 .0)) (side true (p .next-pair .last .1 .1 .1 .0)) (side false (putMid (g .greater2 .result)
-    (length (p .next-pair .last .1 .1 .1 .0) - (g .greater2 .result)) (p .next-pair .last .1 .1 .1 .0)
-    (v .eq-value2 .last .1 .1 .1 .1 .1 .1 .0))) (side true (putMid (g .greater2 .result)
-    (length (p .next-pair .last .1 .1 .1 .0) - (g .greater2 .result)) (p .next-pair .last .1 .1 .1 .0)
-    (v .eq-value2 .last .1 .1 .1 .1 .1 .1 .0))) (p .next-pair .result) (o .s3 .given .0 .0) (o .s3 .given .0 .1 .0)
+    (side false (p .next-pair .last .1 .1 .1 .1 .0)) (side true (p .next-pair .last .1 .1 .1 .1 .0)) (side false (putMid (g .greater2 .result)
+    (length (p .next-pair .last .1 .1 .1 .1 .0) - (g .greater2 .result)) (p .next-pair .last .1 .1 .1 .1 .0)
+    (v .eq-value2 .last .1 .1 .1 .1 .1 .1 .1 .0))) (side true (putMid (g .greater2 .result)
+    (length (p .next-pair .last .1 .1 .1 .1 .0) - (g .greater2 .result)) (p .next-pair .last .1 .1 .1 .1 .0)
+    (v .eq-value2 .last .1 .1 .1 .1 .1 .1 .1 .0))) (p .next-pair .result) (o .s3 .given .0 .0) (o .s3 .given .0 .1 .0)
     (o .s3 .given .0 .1 .1 .0) (o .s3 .given .0 .1 .1 .1 .0) (agree-back false (o .s3 .given .0 .1 .0) (g .greater2 .result)
-    (length (p .next-pair .last .1 .1 .1 .0) - (g .greater2 .result)) (p .next-pair .last .1 .1 .1 .0)
-    (v .eq-value2 .last .1 .1 .1 .1 .1 .1 .0) (g .greater2 .ensures .0) (omega arith)) (agree-back true (o .s3 .given .0 .1 .1 .1 .0)
-    (g .greater2 .result) (length (p .next-pair .last .1 .1 .1 .0) - (g .greater2 .result)) (p .next-pair .last .1 .1 .1 .0)
-    (v .eq-value2 .last .1 .1 .1 .1 .1 .1 .0) (g .greater2 .ensures .1) (omega arith)) (p .next-pair .ensures (s .args .parts .now))
-    (o .s3 .given .1) (v .eq-value2 .ensures ∙ plain-args (tab (s .args .rows .now) (s .args .parts .now)) (s .args .args .now)
-    (s .args .k .d) (o .s3 .given .0 .0) (s .args .k .by2) (s .args .k .d2) (o .s3 .given .0 .1 .1 .0)) (not-true (search))) .1
+    (length (p .next-pair .last .1 .1 .1 .1 .0) - (g .greater2 .result)) (p .next-pair .last .1 .1 .1 .1 .0)
+    (v .eq-value2 .last .1 .1 .1 .1 .1 .1 .1 .0) (g .greater2 .ensures .0) (omega arith)) (agree-back true (o .s3 .given .0 .1 .1 .1 .0)
+    (g .greater2 .result) (length (p .next-pair .last .1 .1 .1 .1 .0) - (g .greater2 .result)) (p .next-pair .last .1 .1 .1 .1 .0)
+    (v .eq-value2 .last .1 .1 .1 .1 .1 .1 .1 .0) (g .greater2 .ensures .1) (omega arith)) (p .next-pair .ensures (s .args .parts .now))
+    (o .s3 .given .1) (v .eq-value2 .ensures ∙ plain-args _ (s .args .args .now) (s .args .envs .now) _ (s .args .k .d) (o .s3 .given .0 .0) (shifted (s .args .envs .now) (s .args .k .env2) (s .args .k .by2)) (s .args .k .d2) (o .s3 .given .0 .1 .1 .0) (s-current t v .current .ensures)) (not-true (search))) .1
 
 eq-stack-loop-again-3 : (t : ℕ) → eq-stack-lts.Need-loop-again-3 (eq-stack-claims t) (eq-stack-at t) eq-stack.Post eq-stack-Inv-loop eq-stack-μ-loop
 eq-stack-loop-again-3 t c =
@@ -835,33 +857,35 @@ eq-stack-loop-again-3 t c =
     let w = given-ends t g in
     let w0 = w .0 in (
       (match-given (tab (s .args .rows .now) (s .args .parts .now)) (argsOf (tab (s .args .rows .now) (s .args .parts .now))
-          (s .args .args .now) (s .args .k .m)) (s .args .k .m) (s .args .k .by) (s .args .k .d) (s .args .l) (s .args .k .by2) (s .args .k .d2)
+          (s .args .args .now) (s .args .k .m)) (s .args .k .m) (shifted (s .args .envs .now) (s .args .k .env) (s .args .k .by)) (s .args .k .d) (s .args .l) (shifted (s .args .envs .now) (s .args .k .env2) (s .args .k .by2)) (s .args .k .d2)
           (s .args .r) (side false (l .loop .pending)) (l .loop .i) (side true (l .loop .pending)) (l .loop .j) (l .loop .inv .0)
-          (side false (p .next-pair .last .1 .1 .1 .0)) (side true (p .next-pair .last .1 .1 .1 .0)) (side false (putMid (g .greater2 .result)
-          (length (p .next-pair .last .1 .1 .1 .0) - (g .greater2 .result)) (p .next-pair .last .1 .1 .1 .0)
-          (v .eq-value2 .last .1 .1 .1 .1 .1 .1 .0))) (side true (putMid (g .greater2 .result)
-          (length (p .next-pair .last .1 .1 .1 .0) - (g .greater2 .result)) (p .next-pair .last .1 .1 .1 .0)
-          (v .eq-value2 .last .1 .1 .1 .1 .1 .1 .0))) (p .next-pair .result) (o .s3 .given .0 .0) (o .s3 .given .0 .1 .0)
+          (side false (p .next-pair .last .1 .1 .1 .1 .0)) (side true (p .next-pair .last .1 .1 .1 .1 .0)) (side false (putMid (g .greater2 .result)
+          (length (p .next-pair .last .1 .1 .1 .1 .0) - (g .greater2 .result)) (p .next-pair .last .1 .1 .1 .1 .0)
+          (v .eq-value2 .last .1 .1 .1 .1 .1 .1 .1 .0))) (side true (putMid (g .greater2 .result)
+          (length (p .next-pair .last .1 .1 .1 .1 .0) - (g .greater2 .result)) (p .next-pair .last .1 .1 .1 .1 .0)
+          (v .eq-value2 .last .1 .1 .1 .1 .1 .1 .1 .0))) (p .next-pair .result) (o .s3 .given .0 .0) (o .s3 .given .0 .1 .0)
           (o .s3 .given .0 .1 .1 .0) (o .s3 .given .0 .1 .1 .1 .0) (agree-back false (o .s3 .given .0 .1 .0) (g .greater2 .result)
-          (length (p .next-pair .last .1 .1 .1 .0) - (g .greater2 .result)) (p .next-pair .last .1 .1 .1 .0)
-          (v .eq-value2 .last .1 .1 .1 .1 .1 .1 .0) (g .greater2 .ensures .0) (omega arith)) (agree-back true (o .s3 .given .0 .1 .1 .1 .0)
-          (g .greater2 .result) (length (p .next-pair .last .1 .1 .1 .0) - (g .greater2 .result)) (p .next-pair .last .1 .1 .1 .0)
-          (v .eq-value2 .last .1 .1 .1 .1 .1 .1 .0) (g .greater2 .ensures .1) (omega arith)) (p .next-pair .ensures (s .args .parts .now))
-          (o .s3 .given .1) (v .eq-value2 .ensures ∙ plain-args (tab (s .args .rows .now) (s .args .parts .now)) (s .args .args .now)
-          (s .args .k .d) (o .s3 .given .0 .0) (s .args .k .by2) (s .args .k .d2) (o .s3 .given .0 .1 .1 .0)) (not-true (search))) .0,
-      same-len-mid (g .greater2 .result) (length (p .next-pair .last .1 .1 .1 .0) - (g .greater2 .result)) (p .next-pair .last .1 .1 .1 .0)
-          (v .eq-value2 .last .1 .1 .1 .1 .1 .1 .0) (v .eq-value2 .kept .1 .1 .1 .1 .1 .1 .0) ∙ p .next-pair .kept .1 .1 .1 .0
+          (length (p .next-pair .last .1 .1 .1 .1 .0) - (g .greater2 .result)) (p .next-pair .last .1 .1 .1 .1 .0)
+          (v .eq-value2 .last .1 .1 .1 .1 .1 .1 .1 .0) (g .greater2 .ensures .0) (omega arith)) (agree-back true (o .s3 .given .0 .1 .1 .1 .0)
+          (g .greater2 .result) (length (p .next-pair .last .1 .1 .1 .1 .0) - (g .greater2 .result)) (p .next-pair .last .1 .1 .1 .1 .0)
+          (v .eq-value2 .last .1 .1 .1 .1 .1 .1 .1 .0) (g .greater2 .ensures .1) (omega arith)) (p .next-pair .ensures (s .args .parts .now))
+          (o .s3 .given .1) (v .eq-value2 .ensures ∙ plain-args _ (s .args .args .now) (s .args .envs .now) _ (s .args .k .d) (o .s3 .given .0 .0) (shifted (s .args .envs .now) (s .args .k .env2) (s .args .k .by2)) (s .args .k .d2) (o .s3 .given .0 .1 .1 .0) (s-current t v .current .ensures)) (not-true (search))) .0,
+      same-len-mid (g .greater2 .result) (length (p .next-pair .last .1 .1 .1 .1 .0) - (g .greater2 .result)) (p .next-pair .last .1 .1 .1 .1 .0)
+          (v .eq-value2 .last .1 .1 .1 .1 .1 .1 .1 .0) (v .eq-value2 .kept .1 .1 .1 .1 .1 .1 .1 .0) ∙ p .next-pair .kept .1 .1 .1 .1 .0
           ∙ l .loop .inv .1,
     )
 
 abbrev V-Start : ℕ → Type 0
 V-Start t = eq-value-lts.Start (eq-value-claims t) (eq-value-at t) eq-value.Post
 
+abbrev V-Current : ℕ → Type 0
+V-Current t = eq-value-lts.After-current (eq-value-claims t) (eq-value-at t) eq-value.Post
+
 abbrev V-Read : ℕ → Type 0
-V-Read t = eq-value-lts.After-read-value (eq-value-claims t) (eq-value-at t) eq-value.Post
+V-Read t = eq-value-lts.After-left-value (eq-value-claims t) (eq-value-at t) eq-value.Post
 
 abbrev V-Read2 : ℕ → Type 0
-V-Read2 t = eq-value-lts.After-read-value2 (eq-value-claims t) (eq-value-at t) eq-value.Post
+V-Read2 t = eq-value-lts.After-right-value (eq-value-claims t) (eq-value-at t) eq-value.Post
 
 abbrev V-Pair : ℕ → Type 0
 V-Pair t = eq-value-lts.After-pair-up (eq-value-claims t) (eq-value-at t) eq-value.Post
@@ -885,7 +909,7 @@ eq-value-returns : (t : ℕ) → eq-value-lts.Need-returns (eq-value-claims t) (
 eq-value-returns t c =
     let s2 : eq-value-lts.After-same-place (eq-value-claims t) (eq-value-at t) eq-value.Post = search in
     let s : V-Start t = search in
-    place-value _ _ _ _ _ _ _ _ _ (s2 .same-place .ensures) (search)
+    place-value _ _ (s .args .envs .now) (s .args .k) _ _ (s2 .same-place .ensures) (search)
 
 eq-value-returns-2 : (t : ℕ) → eq-value-lts.Need-returns-2 (eq-value-claims t) (eq-value-at t) eq-value.Post
 eq-value-returns-2 t c =
@@ -897,23 +921,51 @@ eq-value-returns-2 t c =
     let v = v-read t u in
     let w = v-read2 t u in
     let s = v-start t u in
-    let ok = pair-ok (s .args .k .m) (s .args .l) (s .args .r) (v .read-value .result) (w .read-value2 .result) (v .read-value .ensures .1) (w .read-value2 .ensures .1) (u .pair-up .ensures) (p .p .given .1) in
-    filled-not (tab (s .args .rows .now) (s .args .parts .now)) (s .args .args .now) (s .args .k .m) (s .args .k .by) (s .args .k .d)
-    (s .args .k .by2) (s .args .k .d2) (s .args .r) (p .p .given .0 .0) (a .at .result) ok (a .at .ensures .0) (b .is-stack .ensures)
+    let ok = pair-ok (s .args .k .m) (s .args .l) (s .args .r) (v .left-value .result) (w .right-value .result) (v .left-value .ensures .1) (w .right-value .ensures .1) (u .pair-up .ensures) (p .p .given .1) in
+    filled-not (tab (s .args .rows .now) (s .args .parts .now)) (s .args .args .now) (s .args .envs .now) (s .args .k .m) (s .args .k .d)
+    (shifted (s .args .envs .now) (s .args .k .env2) (s .args .k .by2)) (s .args .k .d2) (s .args .r) (p .p .given .0 .0) (a .at .result) ok (a .at .ensures .0) (b .is-stack .ensures)
     (i .if2 .taken) ∙ value-pair (tab (s .args .rows .now) (s .args .parts .now)) (argsOf (tab (s .args .rows .now) (s .args .parts .now))
-    (s .args .args .now) (s .args .k .m)) (s .args .k .by) (s .args .k .d) (s .args .k .by2) (s .args .k .d2) (s .args .k .m) (s .args .l)
+    (s .args .args .now) (s .args .k .m)) (shifted (s .args .envs .now) (s .args .k .env) (s .args .k .by)) (s .args .k .d) (shifted (s .args .envs .now) (s .args .k .env2) (s .args .k .by2)) (s .args .k .d2) (s .args .k .m) (s .args .l)
     (s .args .r) (length-args (tab (s .args .rows .now) (s .args .parts .now)) (s .args .args .now) (s .args .k .m))
-    (v .read-value .ensures .0) (w .read-value2 .ensures .0) (w .read-value2 .ensures .1) (u .pair-up .ensures) (p .p .given .1)
+    (v .left-value .ensures .0) (w .right-value .ensures .0) (w .right-value .ensures .1) (u .pair-up .ensures) (p .p .given .1)
+
+eq-value-left-value-requires : (t : ℕ) → eq-value-lts.Need-left-value-requires (eq-value-claims t) (eq-value-at t) eq-value.Post
+eq-value-left-value-requires t c κs =
+    let s : V-Start t = search in
+    let rs = s .pre .1 .1 in
+    let fl = few-left (tab (s .args .rows .now) (s .args .parts .now)) (s .args .args .now) (s .pre .1 .0) in
+    (omega arith, left-in rs)
+
+eq-value-right-value-requires : (t : ℕ) → eq-value-lts.Need-right-value-requires (eq-value-claims t) (eq-value-at t) eq-value.Post
+eq-value-right-value-requires t c κs =
+    let s : V-Start t = search in
+    let rs = s .pre .1 .1 in
+    let fr = few-right (tab (s .args .rows .now) (s .args .parts .now)) (s .args .args .now) (s .pre .1 .0) in
+    (omega arith, right-in rs)
+
+eq-value-add-t45 : (t : ℕ) → eq-value-lts.Need-add-t45 (eq-value-claims t) (eq-value-at t) eq-value.Post
+eq-value-add-t45 t c =
+    let s : V-Start t = search in
+    let rs = s .pre .1 .1 in
+    omega arith
+
+eq-value-add-t46 : (t : ℕ) → eq-value-lts.Need-add-t46 (eq-value-claims t) (eq-value-at t) eq-value.Post
+eq-value-add-t46 t c =
+    let s : V-Start t = search in
+    let rs = s .pre .1 .1 in
+    omega arith
 
 eq-value-eq-value-requires : (t : ℕ) → eq-value-lts.Need-eq-value-requires (eq-value-claims t) (eq-value-at t) eq-value.Post
 eq-value-eq-value-requires t c κs =
+    let u2 : V-Current t = search in
+    let z = u2 .current .ensures in
     let a : V-At t = search in
     let p : eq-value-lts.After-p (eq-value-claims t) (eq-value-at t) eq-value.Post = search in
     let u : V-Pair t = search in
     let v = v-read t u in
     let w = v-read2 t u in
     let s = v-start t u in
-    let ok = pair-ok (s .args .k .m) (s .args .l) (s .args .r) (v .read-value .result) (w .read-value2 .result) (v .read-value .ensures .1) (w .read-value2 .ensures .1) (u .pair-up .ensures) (p .p .given .1) in
+    let ok = pair-ok (s .args .k .m) (s .args .l) (s .args .r) (v .left-value .result) (w .right-value .result) (v .left-value .ensures .1) (w .right-value .ensures .1) (u .pair-up .ensures) (p .p .given .1) in
     let t0 = s .pre .0 in
     let rs = s .pre .1 .1 in
     let b = big-of (p .p .given .0 .0) (s .args .k .m) ok in
@@ -924,37 +976,11 @@ eq-value-eq-value-requires t c κs =
       (
         tabled-arg (tab (s .args .rows .now) (s .args .parts .now)) (s .args .args .now) (p .p .given .0 .0) (a .at .result)
             (s .args .r) (s .pre .1 .0) ok (a .at .ensures .0) (omega arith),
-        record { left = omega arith; right = rs .right },
+        record { left = omega arith; right = rs .right; envs = rs .envs; env = omega arith; env2 = rs .env2 },
         spare-arg
             (s .args .k .m) (s .args .l) (s .args .r) _ (a .at .result + 1) (p .p .given .0 .0) (s .pre .1 .2) ok (omega arith),
       ),
     )
-
-eq-value-cast-t34 : (t : ℕ) → eq-value-lts.Need-cast-t34 (eq-value-claims t) (eq-value-at t) eq-value.Post
-eq-value-cast-t34 t c =
-    let p : eq-value-lts.After-p2 (eq-value-claims t) (eq-value-at t) eq-value.Post = search in
-    let u : V-Pair t = search in
-    let v = v-read t u in
-    let w = v-read2 t u in
-    let s = v-start t u in
-    let ok = pair-ok (s .args .k .m) (s .args .l) (s .args .r) (v .read-value .result) (w .read-value2 .result) (v .read-value .ensures .1) (w .read-value2 .ensures .1) (u .pair-up .ensures) (p .p2 .given .1) in
-    let o0 = ok .0 in
-    let o1 = ok .1 in
-    let o2 = ok .2 in
-    record { fits = omega arith }
-
-eq-value-cast-t35 : (t : ℕ) → eq-value-lts.Need-cast-t35 (eq-value-claims t) (eq-value-at t) eq-value.Post
-eq-value-cast-t35 t c =
-    let p : eq-value-lts.After-p2 (eq-value-claims t) (eq-value-at t) eq-value.Post = search in
-    let u : V-Pair t = search in
-    let v = v-read t u in
-    let w = v-read2 t u in
-    let s = v-start t u in
-    let ok = pair-ok (s .args .k .m) (s .args .l) (s .args .r) (v .read-value .result) (w .read-value2 .result) (v .read-value .ensures .1) (w .read-value2 .ensures .1) (u .pair-up .ensures) (p .p2 .given .1) in
-    let o0 = ok .0 in
-    let o1 = ok .1 in
-    let o2 = ok .2 in
-    record { fits = omega arith }
 
 eq-value-cast-t36 : (t : ℕ) → eq-value-lts.Need-cast-t36 (eq-value-claims t) (eq-value-at t) eq-value.Post
 eq-value-cast-t36 t c =
@@ -963,7 +989,33 @@ eq-value-cast-t36 t c =
     let v = v-read t u in
     let w = v-read2 t u in
     let s = v-start t u in
-    let ok = pair-ok (s .args .k .m) (s .args .l) (s .args .r) (v .read-value .result) (w .read-value2 .result) (v .read-value .ensures .1) (w .read-value2 .ensures .1) (u .pair-up .ensures) (p .p2 .given .1) in
+    let ok = pair-ok (s .args .k .m) (s .args .l) (s .args .r) (v .left-value .result) (w .right-value .result) (v .left-value .ensures .1) (w .right-value .ensures .1) (u .pair-up .ensures) (p .p2 .given .1) in
+    let o0 = ok .0 in
+    let o1 = ok .1 in
+    let o2 = ok .2 in
+    record { fits = omega arith }
+
+eq-value-cast-t37 : (t : ℕ) → eq-value-lts.Need-cast-t37 (eq-value-claims t) (eq-value-at t) eq-value.Post
+eq-value-cast-t37 t c =
+    let p : eq-value-lts.After-p2 (eq-value-claims t) (eq-value-at t) eq-value.Post = search in
+    let u : V-Pair t = search in
+    let v = v-read t u in
+    let w = v-read2 t u in
+    let s = v-start t u in
+    let ok = pair-ok (s .args .k .m) (s .args .l) (s .args .r) (v .left-value .result) (w .right-value .result) (v .left-value .ensures .1) (w .right-value .ensures .1) (u .pair-up .ensures) (p .p2 .given .1) in
+    let o0 = ok .0 in
+    let o1 = ok .1 in
+    let o2 = ok .2 in
+    record { fits = omega arith }
+
+eq-value-cast-t38 : (t : ℕ) → eq-value-lts.Need-cast-t38 (eq-value-claims t) (eq-value-at t) eq-value.Post
+eq-value-cast-t38 t c =
+    let p : eq-value-lts.After-p2 (eq-value-claims t) (eq-value-at t) eq-value.Post = search in
+    let u : V-Pair t = search in
+    let v = v-read t u in
+    let w = v-read2 t u in
+    let s = v-start t u in
+    let ok = pair-ok (s .args .k .m) (s .args .l) (s .args .r) (v .left-value .result) (w .right-value .result) (v .left-value .ensures .1) (w .right-value .ensures .1) (u .pair-up .ensures) (p .p2 .given .1) in
     let o0 = ok .0 in
     let o1 = ok .1 in
     let o2 = ok .2 in
@@ -976,13 +1028,13 @@ eq-value-eq-parts-requires t c κs =
     let v = v-read t u in
     let w = v-read2 t u in
     let s = v-start t u in
-    let ok = pair-ok (s .args .k .m) (s .args .l) (s .args .r) (v .read-value .result) (w .read-value2 .result) (v .read-value .ensures .1) (w .read-value2 .ensures .1) (u .pair-up .ensures) (p .p2 .given .1) in
+    let ok = pair-ok (s .args .k .m) (s .args .l) (s .args .r) (v .left-value .result) (w .right-value .result) (v .left-value .ensures .1) (w .right-value .ensures .1) (u .pair-up .ensures) (p .p2 .given .1) in
     let t0 = s .pre .0 in
     let rs = s .pre .1 .1 in
     let o0 = ok .0 in
     let o1 = ok .1 in
     let o2 = ok .2 in
-    (omega arith, (s .pre .1 .0, record { left = omega arith; right = omega arith; left-row = ok .3; right-row = ok .4 }, record { few = o2; left = omega arith; right = omega arith }, s .pre .1 .2))
+    (omega arith, (s .pre .1 .0, record { left = omega arith; right = omega arith; left-row = ok .3; right-row = ok .4; envs = rs .envs; env = rs .env; env2 = rs .env2 }, record { few = o2; left = omega arith; right = omega arith }, s .pre .1 .2))
 
 eq-value-eq-stack-requires : (t : ℕ) → eq-value-lts.Need-eq-stack-requires (eq-value-claims t) (eq-value-at t) eq-value.Post
 eq-value-eq-stack-requires t c κs =
@@ -991,7 +1043,7 @@ eq-value-eq-stack-requires t c κs =
     let v = v-read t u in
     let w = v-read2 t u in
     let s = v-start t u in
-    let ok = pair-ok (s .args .k .m) (s .args .l) (s .args .r) (v .read-value .result) (w .read-value2 .result) (v .read-value .ensures .1) (w .read-value2 .ensures .1) (u .pair-up .ensures) (p .p3 .given .1) in
+    let ok = pair-ok (s .args .k .m) (s .args .l) (s .args .r) (v .left-value .result) (w .right-value .result) (v .left-value .ensures .1) (w .right-value .ensures .1) (u .pair-up .ensures) (p .p3 .given .1) in
     let t0 = s .pre .0 in
     let rs = s .pre .1 .1 in
     let o0 = ok .0 in
@@ -1006,6 +1058,28 @@ eq-value-eq-stack-requires t c κs =
       ),
     )
 
+eq-value-eq-value-requires-2 : (t : ℕ) → eq-value-lts.Need-eq-value-requires-2 (eq-value-claims t) (eq-value-at t) eq-value.Post
+eq-value-eq-value-requires-2 t c κs =
+    let p : eq-value-lts.After-p5 (eq-value-claims t) (eq-value-at t) eq-value.Post = search in
+    let u : V-Pair t = search in
+    let v = v-read t u in
+    let w = v-read2 t u in
+    let s = v-start t u in
+    let ok = pair-ok (s .args .k .m) (s .args .l) (s .args .r) (v .left-value .result) (w .right-value .result) (v .left-value .ensures .1) (w .right-value .ensures .1) (u .pair-up .ensures) (p .p5 .given .1) in
+    let t0 = s .pre .0 in
+    let rs = s .pre .1 .1 in
+    let o0 = ok .0 in
+    let o1 = ok .1 in (
+      omega arith,
+      (
+        tabled-low (tab (s .args .rows .now) (s .args .parts .now)) (s .args .args .now) (p .p5 .given .0 .0)
+            (p .p5 .given .0 .1 .0) (s .pre .1 .0) (omega arith) (omega arith),
+        search needs,
+        spare-low (s .args .k .m) (s .args .l) (s .args .r)
+            _ (p .p5 .given .0 .0) (p .p5 .given .0 .1 .0) (s .pre .1 .2) (omega arith) (omega arith),
+      ),
+    )
+
 eq-value-eq-code-requires : (t : ℕ) → eq-value-lts.Need-eq-code-requires (eq-value-claims t) (eq-value-at t) eq-value.Post
 eq-value-eq-code-requires t c κs =
     let p : eq-value-lts.After-p4 (eq-value-claims t) (eq-value-at t) eq-value.Post = search in
@@ -1013,7 +1087,7 @@ eq-value-eq-code-requires t c κs =
     let v = v-read t u in
     let w = v-read2 t u in
     let s = v-start t u in
-    let ok = pair-ok (s .args .k .m) (s .args .l) (s .args .r) (v .read-value .result) (w .read-value2 .result) (v .read-value .ensures .1) (w .read-value2 .ensures .1) (u .pair-up .ensures) (p .p4 .given .1) in
+    let ok = pair-ok (s .args .k .m) (s .args .l) (s .args .r) (v .left-value .result) (w .right-value .result) (v .left-value .ensures .1) (w .right-value .ensures .1) (u .pair-up .ensures) (p .p4 .given .1) in
     let t0 = s .pre .0 in
     let rs = s .pre .1 .1 in
     (omega arith, (s .pre .1 .0, rs, record { left-stack = ok .0; left-file = ok .1; right-stack = ok .2; right-file = ok .3 }, s .pre .1 .2))
@@ -1024,7 +1098,7 @@ eq-value-returns-3 t c =
     let v = v-read t u in
     let w = v-read2 t u in
     let s = v-start t u in
-    value-pair _ _ _ _ _ _ _ _ _ (length-args _ _ _) (v .read-value .ensures .0) (w .read-value2 .ensures .0) (w .read-value2 .ensures .1) (u .pair-up .ensures) (c .enum-told .given .1)
+    value-pair _ _ _ _ _ _ _ _ _ (length-args _ _ _) (v .left-value .ensures .0) (w .right-value .ensures .0) (w .right-value .ensures .1) (u .pair-up .ensures) (c .enum-told .given .1)
 
 eq-value-returns-4 : (t : ℕ) → eq-value-lts.Need-returns-4 (eq-value-claims t) (eq-value-at t) eq-value.Post
 eq-value-returns-4 t c =
@@ -1032,10 +1106,11 @@ eq-value-returns-4 t c =
     let v = v-read t u in
     let w = v-read2 t u in
     let s = v-start t u in
-    value-pair _ _ _ _ _ _ _ _ _ (length-args _ _ _) (v .read-value .ensures .0) (w .read-value2 .ensures .0) (w .read-value2 .ensures .1) (u .pair-up .ensures) (c .enum-told2 .given .1)
+    value-pair _ _ _ _ _ _ _ _ _ (length-args _ _ _) (v .left-value .ensures .0) (w .right-value .ensures .0) (w .right-value .ensures .1) (u .pair-up .ensures) (c .enum-told2 .given .1)
 
 eq-value-returns-5 : (t : ℕ) → eq-value-lts.Need-returns-5 (eq-value-claims t) (eq-value-at t) eq-value.Post
 eq-value-returns-5 t c =
+    let u2 : V-Current t = search in
     let e : eq-value-lts.After-eq-value (eq-value-claims t) (eq-value-at t) eq-value.Post = search in
     let i : eq-value-lts.Else2 (eq-value-claims t) (eq-value-at t) eq-value.Post = search in
     let b : V-Is t = search in
@@ -1045,14 +1120,14 @@ eq-value-returns-5 t c =
     let v = v-read t u in
     let w = v-read2 t u in
     let s = v-start t u in
-    let ok = pair-ok (s .args .k .m) (s .args .l) (s .args .r) (v .read-value .result) (w .read-value2 .result) (v .read-value .ensures .1) (w .read-value2 .ensures .1) (u .pair-up .ensures) (p .p .given .1) in
-    filled-value (tab (s .args .rows .now) (s .args .parts .now)) (s .args .args .now) (s .args .k .m) (s .args .k .by) (s .args .k .d)
-    (s .args .k .by2) (s .args .k .d2) (s .args .r) (p .p .given .0 .0) (a .at .result) ok (a .at .ensures .0) (b .is-stack .ensures)
+    let ok = pair-ok (s .args .k .m) (s .args .l) (s .args .r) (v .left-value .result) (w .right-value .result) (v .left-value .ensures .1) (w .right-value .ensures .1) (u .pair-up .ensures) (p .p .given .1) in
+    filled-value (tab (s .args .rows .now) (s .args .parts .now)) (s .args .args .now) (s .args .envs .now) (s .args .k .m) (s .args .k .d)
+    (shifted (s .args .envs .now) (s .args .k .env2) (s .args .k .by2)) (s .args .k .d2) (s .args .r) (p .p .given .0 .0) (a .at .result) ok (a .at .ensures .0) (u2 .current .ensures) (b .is-stack .ensures)
     (i .if2 .left) (e .eq-value .ensures) ∙ value-pair (tab (s .args .rows .now) (s .args .parts .now))
-    (argsOf (tab (s .args .rows .now) (s .args .parts .now)) (s .args .args .now) (s .args .k .m)) (s .args .k .by) (s .args .k .d)
-    (s .args .k .by2) (s .args .k .d2) (s .args .k .m) (s .args .l) (s .args .r) (length-args (tab (s .args .rows .now)
-    (s .args .parts .now)) (s .args .args .now) (s .args .k .m)) (v .read-value .ensures .0) (w .read-value2 .ensures .0)
-    (w .read-value2 .ensures .1) (u .pair-up .ensures) (p .p .given .1)
+    (argsOf (tab (s .args .rows .now) (s .args .parts .now)) (s .args .args .now) (s .args .k .m)) (shifted (s .args .envs .now) (s .args .k .env) (s .args .k .by)) (s .args .k .d)
+    (shifted (s .args .envs .now) (s .args .k .env2) (s .args .k .by2)) (s .args .k .d2) (s .args .k .m) (s .args .l) (s .args .r) (length-args (tab (s .args .rows .now)
+    (s .args .parts .now)) (s .args .args .now) (s .args .k .m)) (v .left-value .ensures .0) (w .right-value .ensures .0)
+    (w .right-value .ensures .1) (u .pair-up .ensures) (p .p .given .1)
 
 eq-value-returns-6 : (t : ℕ) → eq-value-lts.Need-returns-6 (eq-value-claims t) (eq-value-at t) eq-value.Post
 eq-value-returns-6 t c =
@@ -1062,7 +1137,7 @@ eq-value-returns-6 t c =
     let v = v-read t u in
     let w = v-read2 t u in
     let s = v-start t u in
-    e .eq-parts .ensures ∙ value-pair _ _ _ _ _ _ _ _ _ (length-args _ _ _) (v .read-value .ensures .0) (w .read-value2 .ensures .0) (w .read-value2 .ensures .1) (u .pair-up .ensures) (p .p2 .given .1)
+    e .eq-parts .ensures ∙ value-pair _ _ _ _ _ _ _ _ _ (length-args _ _ _) (v .left-value .ensures .0) (w .right-value .ensures .0) (w .right-value .ensures .1) (u .pair-up .ensures) (p .p2 .given .1)
 
 eq-value-returns-7 : (t : ℕ) → eq-value-lts.Need-returns-7 (eq-value-claims t) (eq-value-at t) eq-value.Post
 eq-value-returns-7 t c =
@@ -1072,7 +1147,7 @@ eq-value-returns-7 t c =
     let v = v-read t u in
     let w = v-read2 t u in
     let s = v-start t u in
-    e .eq-stack .ensures ∙ value-pair _ _ _ _ _ _ _ _ _ (length-args _ _ _) (v .read-value .ensures .0) (w .read-value2 .ensures .0) (w .read-value2 .ensures .1) (u .pair-up .ensures) (p .p3 .given .1)
+    e .eq-stack .ensures ∙ value-pair _ _ _ _ _ _ _ _ _ (length-args _ _ _) (v .left-value .ensures .0) (w .right-value .ensures .0) (w .right-value .ensures .1) (u .pair-up .ensures) (p .p3 .given .1)
 
 eq-value-returns-8 : (t : ℕ) → eq-value-lts.Need-returns-8 (eq-value-claims t) (eq-value-at t) eq-value.Post
 eq-value-returns-8 t c =
@@ -1082,7 +1157,17 @@ eq-value-returns-8 t c =
     let v = v-read t u in
     let w = v-read2 t u in
     let s = v-start t u in
-    e .eq-code .ensures ∙ value-pair _ _ _ _ _ _ _ _ _ (length-args _ _ _) (v .read-value .ensures .0) (w .read-value2 .ensures .0) (w .read-value2 .ensures .1) (u .pair-up .ensures) (p .p4 .given .1)
+    e .eq-code .ensures ∙ value-pair _ _ _ _ _ _ _ _ _ (length-args _ _ _) (v .left-value .ensures .0) (w .right-value .ensures .0) (w .right-value .ensures .1) (u .pair-up .ensures) (p .p4 .given .1)
+
+eq-value-returns-9 : (t : ℕ) → eq-value-lts.Need-returns-9 (eq-value-claims t) (eq-value-at t) eq-value.Post
+eq-value-returns-9 t c =
+    let e : eq-value-lts.After-eq-value2 (eq-value-claims t) (eq-value-at t) eq-value.Post = search in
+    let p : eq-value-lts.After-p5 (eq-value-claims t) (eq-value-at t) eq-value.Post = search in
+    let u : V-Pair t = search in
+    let v = v-read t u in
+    let w = v-read2 t u in
+    let s = v-start t u in
+    hiddens-are _ _ _ _ _ _ _ _ (e .eq-value2 .ensures) ∙ value-pair _ _ _ _ _ _ _ _ _ (length-args _ _ _) (v .left-value .ensures .0) (w .right-value .ensures .0) (w .right-value .ensures .1) (u .pair-up .ensures) (p .p5 .given .1)
 
 pub +eq-code+eq-parts+eq-stack+eq-value-spec : {M : Type 1} → statement M
 +eq-code+eq-parts+eq-stack+eq-value-spec =
@@ -1090,7 +1175,7 @@ pub +eq-code+eq-parts+eq-stack+eq-value-spec : {M : Type 1} → statement M
     (λ t. eq-code-lts.spec (eq-code-claims t) (eq-code-at t) eq-code.Post (λ c κs. search)
     (λ c κs. search) (λ c. search needs) (λ c. search needs) (λ c κs. search needs)
     (λ c. search needs) (λ c. search needs) (λ c. search needs) (λ c. search needs) (λ c. search needs) (λ c. search needs)
-    (eq-code-eq-stack-requires t) (eq-code-cast-t25 t) (eq-code-cast-t26 t) (eq-code-eq-parts-requires t) (λ c. search needs)
+    (eq-code-eq-stack-requires t) (eq-code-cast-t26 t) (eq-code-cast-t27 t) (eq-code-eq-parts-requires t) (λ c. search needs)
     (eq-code-returns t) (λ c. search) (eq-code-returns-2 t) (eq-code-returns-3 t))
     (λ t. eq-parts-lts.spec (eq-parts-claims t) (eq-parts-at t) eq-parts.Post eq-parts-Inv-loop eq-parts-μ-loop (λ c. search needs)
     (λ c. search needs) (λ c. search needs) (eq-parts-loop-holds t) (λ c. search needs) (λ c κs. search)
@@ -1104,14 +1189,14 @@ pub +eq-code+eq-parts+eq-stack+eq-value-spec : {M : Type 1} → statement M
     (eq-stack-loop-again t) (λ c. search) (λ c κs. search) (eq-stack-mul-eq-value t) (eq-stack-sub-eq-value t)
     (eq-stack-part-eq-value-start t) (λ c. search needs) (eq-stack-eq-value-requires t) (eq-stack-same-length-3 t)
     (eq-stack-returns-4 t) (eq-stack-loop-less-2 t) (eq-stack-loop-again-2 t) (λ c. search) (λ c κs. search)
-    (eq-stack-mul-eq-value-2 t) (eq-stack-sub-eq-value-2 t) (eq-stack-part-eq-value-start-2 t) (λ c. search needs)
+    (eq-stack-current-requires t) (eq-stack-mul-eq-value-2 t) (eq-stack-sub-eq-value-2 t) (eq-stack-part-eq-value-start-2 t) (λ c. search needs)
     (eq-stack-eq-value-requires-2 t) (eq-stack-same-length-4 t) (eq-stack-returns-5 t) (eq-stack-loop-less-3 t) (eq-stack-loop-again-3 t))
     (λ t. eq-value-lts.spec (eq-value-claims t) (eq-value-at t) eq-value.Post (λ c κs. search) (eq-value-returns t)
-    (λ c. search needs) (λ c. search needs) (λ c. search needs) (λ c κs. search needs)
-    (λ c. search needs) (λ c. search needs) (λ c κs. search needs) (λ c κs. search)
+    (eq-value-left-value-requires t) (eq-value-right-value-requires t) (λ c κs. search)
     (λ c. search) (λ c. search) (λ c. search) (λ c κs. search) (λ c κs. search needs)
-    (eq-value-returns-2 t) (λ c. search needs) (eq-value-eq-value-requires t) (λ c. search) (eq-value-cast-t34 t)
-    (eq-value-cast-t35 t) (eq-value-cast-t36 t) (eq-value-eq-parts-requires t) (λ c. search) (eq-value-eq-stack-requires t)
-    (λ c. search) (eq-value-eq-code-requires t) (eq-value-returns-3 t) (eq-value-returns-4 t) (λ c. search)
+    (eq-value-returns-2 t) (λ c κs. search needs) (λ c. search needs) (eq-value-eq-value-requires t) (λ c. search) (eq-value-cast-t36 t)
+    (eq-value-cast-t37 t) (eq-value-cast-t38 t) (eq-value-eq-parts-requires t) (λ c. search) (eq-value-eq-stack-requires t)
+    (λ c. search) (eq-value-eq-code-requires t) (λ c. search) (eq-value-add-t45 t) (eq-value-add-t46 t) (eq-value-eq-value-requires-2 t)
+    (eq-value-returns-3 t) (eq-value-returns-4 t) (λ c. search)
     (eq-value-returns-5 t) (λ c. search) (eq-value-returns-6 t) (λ c. search) (eq-value-returns-7 t)
-    (λ c. search) (eq-value-returns-8 t))
+    (λ c. search) (eq-value-returns-8 t) (λ c. search) (eq-value-returns-9 t))

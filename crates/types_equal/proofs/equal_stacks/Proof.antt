@@ -6,8 +6,8 @@ use borrow.Author.Needs.{needs}
 use Rattle.types_equal.proofs.equal_stacks.Statement.{statement}
 use Rattle.types_equal.proofs.equal_stacks.Tie as tie
 
-slice-aggregate-eq-stack : tie.Need-slice-aggregate-eq-stack
-slice-aggregate-eq-stack c =
+slice-aggregate-eq-stack-2 : tie.Need-slice-aggregate-eq-stack-2
+slice-aggregate-eq-stack-2 c =
     let s : tie.Start = search in
     sym (length-first 1543 (s .args .pending .now) (s .pre .1))
 
@@ -37,5 +37,5 @@ returns c =
 
 pub equal-stacks-spec : {M : Type 1} → statement M
 equal-stacks-spec =
-    tie.close (tie.spec (λ c κs. search) (λ c κs. search) (λ c. search needs) slice-aggregate-eq-stack eq-stack-requires
+    tie.close (tie.spec (λ c κs. search) (λ c κs. search) (λ c. search needs) (λ c. search needs) slice-aggregate-eq-stack-2 eq-stack-requires
     (λ c. search needs) returns)

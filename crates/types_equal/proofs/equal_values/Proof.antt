@@ -6,8 +6,8 @@ use borrow.Author.Needs.{needs}
 use Rattle.types_equal.proofs.equal_values.Statement.{statement}
 use Rattle.types_equal.proofs.equal_values.Tie as tie
 
-slice-aggregate-eq-value : tie.Need-slice-aggregate-eq-value
-slice-aggregate-eq-value c =
+slice-aggregate-eq-value-2 : tie.Need-slice-aggregate-eq-value-2
+slice-aggregate-eq-value-2 c =
     let s : tie.Start = search in
     sym (length-first 1543 (s .args .pending .now) (s .pre .1))
 
@@ -37,5 +37,5 @@ returns c =
 
 pub equal-values-spec : {M : Type 1} → statement M
 equal-values-spec =
-    tie.close (tie.spec (λ c κs. search) (λ c κs. search) (λ c. search needs) slice-aggregate-eq-value eq-value-requires
+    tie.close (tie.spec (λ c κs. search) (λ c κs. search) (λ c. search needs) (λ c. search needs) slice-aggregate-eq-value-2 eq-value-requires
     (λ c. search needs) returns)

@@ -12,7 +12,7 @@ use Rattle.types.specs.Types.{push, join, walk, raise, Arg, ofKind, fitsKind, m
 use Rattle.tables.specs.Tables.{RowTable}
 use Rattle.types_rows.specs.declared.Stk.{Stk}
 use Rattle.types_rows.specs.declared.Stk.the-variants.{Nil, StkVar, StkFill, Push, Join}
-use Rattle.types_rows.specs.Read.{isStackAt, stackAt, meanV, meanS, acting, valueUnder, stackUnder, argsOf, placeS, OkS}
+use Rattle.types_rows.specs.Read.{isStackAt, stackAt, meanV, meanS, acting, lift, valueUnder, stackUnder, argsOf, placeS, OkS}
 use Rattle.types_rows.proofs.Laws.{noArg, typeS, stack-read}
 use Rattle.types_equal.specs.declared.pending.Form.{Form}
 use Rattle.types_equal.specs.declared.pending.Form.the-variants.{One, Misfit}
@@ -20,12 +20,12 @@ use Rattle.types_equal.specs.pending.Pending.{entryType, entryMeets, Low
 use Rattle.types_equal.proofs.pending.Meets.{raised, length-args, arg-type, fits-stack, meetsS, stack-meets}
 
 -- ---- entries of the two sorts
-module _ (τ : RowTable) (A : List Arg) (by d : ℕ) where
-  pub own-type : (e : ℕ) → e < 32768 → entryType τ A by d e ≡ stackUnder τ A by d e
+module _ (τ : RowTable) (A : List Arg) (ρ : ℕ → ℕ) (d : ℕ) where
+  pub own-type : (e : ℕ) → e < 32768 → entryType τ A ρ d e ≡ stackUnder τ A ρ d e
   unfolding entryType
   own-type e h = rw (lt-ltb e 32768 h) refl
 
-  pub given-type : (h : ℕ) → entryType τ A by d (32768 + h) ≡ stackUnder τ [] d 0 h
+  pub given-type : (h : ℕ) → entryType τ A ρ d (32768 + h) ≡ stackUnder τ [] (lift d) 0 h
   unfolding entryType
   given-type h = let q : (32768 + h) - 32768 ≡ h = omega arith in rw (le-ltb (32768 + h) 32768 (omega arith), q) refl
 
@@ -67,35 +67,35 @@ arg-lower m e a h k b =
     (omega arith, λ l i f. let g = f .0 h in ((λ u. absurd (omega arith)), (λ u. (k, omega arith, omega arith))))
 
 -- ---- a row in its context
-module _ (τ : RowTable) (args : List ℕ) (m by d e : ℕ) (h : e < 32768) (g : Givens args m) where
+module _ (τ : RowTable) (args : List ℕ) (m : ℕ) (ρ : ℕ → ℕ) (d e : ℕ) (h : e < 32768) (g : Givens args m) where
   abbrev own-args : List Arg
   own-args = argsOf τ args m
 
   arg-is : (j : ℕ) (b : Bool) → j < m → b ≡ isStackAt (τ .rows) (getD args j 0)
-      → stackUnder τ own-args by d e ≡ raise d (ofKind stack (getD own-args j noArg)) → meets own-args d (meanS τ e) ≡ fitsKind stack own-args j → FormOf τ own-args by d m e (cond b (One (32769 + getD args j 0)) Misfit)
+      → stackUnder τ own-args ρ d e ≡ raise d (ofKind stack (getD own-args j noArg)) → meets own-args d (meanS τ e) ≡ fitsKind stack own-args j → FormOf τ own-args ρ d m e (cond b (One (32769 + getD args j 0)) Misfit)
   unfolding stackUnder
   arg-is j true l f s t =
       let a : ℕ = getD args j 0 in
       let z : 32769 + a ≡ 32768 + suc a = omega arith in
-      let y : entryType τ own-args by d (32769 + a) ≡ walk (acting [] d) 0 (meanS τ (suc a)) = ap (entryType τ own-args by d) z ∙ given-type τ own-args by d (suc a) in
+      let y : entryType τ own-args ρ d (32769 + a) ≡ walk (acting [] (lift d)) 0 (meanS τ (suc a)) = ap (entryType τ own-args ρ d) z ∙ given-type τ own-args ρ d (suc a) in
       let x : entryMeets τ own-args d (32769 + a) ≡ true = ap (entryMeets τ own-args d) z ∙ given-meets τ own-args d (suc a) in
       let w = arg-lower m e a h (omega arith) (g j l) in (
-        own-type τ own-args by d e h ∙ s ∙ ap (raise d) (arg-type τ args m j a l refl stack) ∙ sym (raised d (meanS τ (suc a))) ∙ sym y,
+        own-type τ own-args ρ d e h ∙ s ∙ ap (raise d) (arg-type τ args m j a l refl stack) ∙ sym (raised d (meanS τ (suc a))) ∙ sym y,
         own-meets τ own-args d e h ∙ t ∙ fits-stack τ args m j a l refl f ∙ sym x,
         w .0,
         w .1,
       )
   arg-is j false l f s t = (own-meets τ own-args d e h ∙ t ∙ fits-stack τ args m j (getD args j 0) l refl f, omega arith)
 
-  own-is : (s : Stk) → OkS m e s → stackUnder τ own-args by d e ≡ typeS τ own-args by d s → meets own-args d (meanS τ e) ≡ meetsS τ own-args by d s → FormOf τ own-args by d m e (ownForm (τ .rows) args s)
-  own-is Nil ok f k = (own-type τ own-args by d e h ∙ f, own-meets τ own-args d e h ∙ k)
-  own-is (StkVar i) ok f k = (own-type τ own-args by d e h ∙ f, own-meets τ own-args d e h ∙ k)
+  own-is : (s : Stk) → OkS m e s → stackUnder τ own-args ρ d e ≡ typeS τ own-args ρ d s → meets own-args d (meanS τ e) ≡ meetsS τ own-args ρ d s → FormOf τ own-args ρ d m e (ownForm (τ .rows) args s)
+  own-is Nil ok f k = (own-type τ own-args ρ d e h ∙ f, own-meets τ own-args d e h ∙ k)
+  own-is (StkVar i) ok f k = (own-type τ own-args ρ d e h ∙ f, own-meets τ own-args d e h ∙ k)
   own-is (StkFill j) ok f k = arg-is j (isStackAt (τ .rows) (getD args j 0)) ok refl f k
   own-is (Push t x) ok f k =
       let l = ok .1 in
       let w = own-lower m e x h l in
       let n = ok .0 in (
-        own-type τ own-args by d e h ∙ f ∙ ap (push (valueUnder τ own-args by d t)) (sym (own-type τ own-args by d x (omega arith))),
+        own-type τ own-args ρ d e h ∙ f ∙ ap (push (valueUnder τ own-args ρ d t)) (sym (own-type τ own-args ρ d x (omega arith))),
         own-meets τ own-args d e h ∙ k ∙ ap (λ z. meets own-args d (meanV τ t) && z) (sym (own-meets τ own-args d x (omega arith))),
         (λ l i z. let y = z .0 h in omega arith),
         w,
@@ -105,34 +105,34 @@ module _ (τ : RowTable) (args : List ℕ) (m by d e : ℕ) (h : e < 32768) (g :
       let n = ok .1 in
       let v = own-lower m e x h l in
       let w = own-lower m e y h n in (
-        own-type τ own-args by d e h ∙ f ∙ ap₂ join (sym (own-type τ own-args by d x (omega arith))) (sym (own-type τ own-args by d y (omega arith))),
+        own-type τ own-args ρ d e h ∙ f ∙ ap₂ join (sym (own-type τ own-args ρ d x (omega arith))) (sym (own-type τ own-args ρ d y (omega arith))),
         own-meets τ own-args d e h ∙ k ∙ ap₂ _&&_ (sym (own-meets τ own-args d x (omega arith))) (sym (own-meets τ own-args d y (omega arith))),
         v,
         w,
       )
 
   -- from what a reader answers
-  pub own-form : (s k : Stk) → s ≡ stackAt (τ .rows) (placeS m by d) e → OkS m e s → s ≡ k → FormOf τ own-args by d m e (ownForm (τ .rows) args k)
+  pub own-form : (s k : Stk) → s ≡ stackAt (τ .rows) (placeS m ρ d) e → OkS m e s → s ≡ k → FormOf τ own-args ρ d m e (ownForm (τ .rows) args k)
   own-form s k f ok q =
-      own-is k (subst (λ (z : Stk). OkS m e z) q ok) (stack-read τ own-args by d m e (length-args τ args m) f q) (stack-meets τ own-args by d m e (length-args τ args m) f q)
+      own-is k (subst (λ (z : Stk). OkS m e z) q ok) (stack-read τ own-args ρ d m e (length-args τ args m) f q) (stack-meets τ own-args ρ d m e (length-args τ args m) f q)
 
-  pub own-arg : (s : Stk) (j a : ℕ) {o : Form} → s ≡ stackAt (τ .rows) (placeS m by d) e → OkS m e s → s ≡ StkFill j → a ≡ getD args j 0 → o ≡ argForm (τ .rows) a → FormOf τ own-args by d m e o
+  pub own-arg : (s : Stk) (j a : ℕ) {o : Form} → s ≡ stackAt (τ .rows) (placeS m ρ d) e → OkS m e s → s ≡ StkFill j → a ≡ getD args j 0 → o ≡ argForm (τ .rows) a → FormOf τ own-args ρ d m e o
   own-arg s j a {o} f ok q b i =
-      subst (λ (z : Form). FormOf τ own-args by d m e z) (sym (i ∙ ap (argForm (τ .rows)) b)) (own-form s (StkFill j) f ok q)
+      subst (λ (z : Form). FormOf τ own-args ρ d m e z) (sym (i ∙ ap (argForm (τ .rows)) b)) (own-form s (StkFill j) f ok q)
 
 -- ---- a row of an argument
-module _ (τ : RowTable) (args : List ℕ) (m by d h : ℕ) (b : h ≤ 514) where
+module _ (τ : RowTable) (args : List ℕ) (m : ℕ) (ρ : ℕ → ℕ) (d h : ℕ) (b : h ≤ 514) where
   abbrev given-args : List Arg
   given-args = argsOf τ args m
 
-  given-is : (s : Stk) → OkS 0 h s → stackUnder τ [] d 0 h ≡ typeS τ [] d 0 s → FormOf τ given-args by d m (32768 + h) (givenForm s)
-  given-is Nil ok f = (given-type τ given-args by d h ∙ f, given-meets τ given-args d h)
-  given-is (StkVar i) ok f = (given-type τ given-args by d h ∙ f, given-meets τ given-args d h)
+  given-is : (s : Stk) → OkS 0 h s → stackUnder τ [] (lift d) 0 h ≡ typeS τ [] (lift d) 0 s → FormOf τ given-args ρ d m (32768 + h) (givenForm s)
+  given-is Nil ok f = (given-type τ given-args ρ d h ∙ f, given-meets τ given-args d h)
+  given-is (StkVar i) ok f = (given-type τ given-args ρ d h ∙ f, given-meets τ given-args d h)
   given-is (StkFill j) ok f = absurd (not-suc-le-zero ok)
   given-is (Push t x) ok f =
       let n = ok .0 in
       let w = given-lower m h x b (ok .1) in (
-        given-type τ given-args by d h ∙ f ∙ ap (push (valueUnder τ [] d 0 t)) (sym (given-type τ given-args by d x)),
+        given-type τ given-args ρ d h ∙ f ∙ ap (push (valueUnder τ [] (lift d) 0 t)) (sym (given-type τ given-args ρ d x)),
         given-meets τ given-args d h ∙ sym (given-meets τ given-args d x),
         (λ l i z. let y = z .1 (omega arith) in let u = y .2 in (y .0, omega arith, omega arith)),
         w,
@@ -140,21 +140,21 @@ module _ (τ : RowTable) (args : List ℕ) (m by d h : ℕ) (b : h ≤ 514) wher
   given-is (Join x y) ok f =
       let v = given-lower m h x b (ok .0) in
       let w = given-lower m h y b (ok .1) in (
-        given-type τ given-args by d h ∙ f ∙ ap₂ join (sym (given-type τ given-args by d x)) (sym (given-type τ given-args by d y)),
+        given-type τ given-args ρ d h ∙ f ∙ ap₂ join (sym (given-type τ given-args ρ d x)) (sym (given-type τ given-args ρ d y)),
         given-meets τ given-args d h ∙ ap₂ _&&_ (sym (given-meets τ given-args d x)) (sym (given-meets τ given-args d y)),
         v,
         w,
       )
 
-  pub given-form : (s k : Stk) → s ≡ stackAt (τ .rows) (placeS 0 d 0) h → OkS 0 h s → s ≡ k → FormOf τ given-args by d m (32768 + h) (givenForm k)
-  given-form s k f ok q = given-is k (subst (λ (z : Stk). OkS 0 h z) q ok) (stack-read τ [] d 0 0 h refl f q)
+  pub given-form : (s k : Stk) → s ≡ stackAt (τ .rows) (placeS 0 (lift d) 0) h → OkS 0 h s → s ≡ k → FormOf τ given-args ρ d m (32768 + h) (givenForm k)
+  given-form s k f ok q = given-is k (subst (λ (z : Stk). OkS 0 h z) q ok) (stack-read τ [] (lift d) 0 0 h refl f q)
 
 -- ---- an entry of either sort
-pub entry-given : (τ : RowTable) (A : List Arg) (by d m e : ℕ) (o : Form) → 32768 ≤ e → FormOf τ A by d m (32768 + (e - 32768)) o → FormOf τ A by d m e o
-entry-given τ A by d m e o h f = let q : 32768 + (e - 32768) ≡ e = omega arith in subst (λ z. FormOf τ A by d m z o) q f
+pub entry-given : (τ : RowTable) (A : List Arg) (ρ : ℕ → ℕ) (d m e : ℕ) (o : Form) → 32768 ≤ e → FormOf τ A ρ d m (32768 + (e - 32768)) o → FormOf τ A ρ d m e o
+entry-given τ A ρ d m e o h f = let q : 32768 + (e - 32768) ≡ e = omega arith in subst (λ z. FormOf τ A ρ d m z o) q f
 
-pub form-at : (τ : RowTable) (A : List Arg) (by d m e e₂ : ℕ) (f k : Form) → e ≡ e₂ → FormOf τ A by d m e f → f ≡ k → FormOf τ A by d m e₂ k
-form-at τ A by d m e e₂ f k p h q = subst (λ z. FormOf τ A by d m z k) p (subst (λ (z : Form). FormOf τ A by d m e z) q h)
+pub form-at : (τ : RowTable) (A : List Arg) (ρ : ℕ → ℕ) (d m e e₂ : ℕ) (f k : Form) → e ≡ e₂ → FormOf τ A ρ d m e f → f ≡ k → FormOf τ A ρ d m e₂ k
+form-at τ A ρ d m e e₂ f k p h q = subst (λ z. FormOf τ A ρ d m z k) p (subst (λ (z : Form). FormOf τ A ρ d m e z) q h)
 
 -- ---- what the readers need
 pub arg-row : (rows : List ℕ) (a : ℕ) {b : Bool} → b ≡ isStackAt rows a → b ≡ true → One (32769 + a) ≡ argForm rows a

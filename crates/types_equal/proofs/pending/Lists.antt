@@ -13,7 +13,7 @@ use Rattle.syntax.specs.Syntax.{stack}
 use Rattle.types.specs.Types.{Ty, push, join, Arg, meets}
 use Rattle.types.proofs.Filling.{join-assoc}
 use Rattle.tables.specs.Tables.{RowTable}
-use Rattle.types_rows.specs.Read.{meanV, valueUnder}
+use Rattle.types_rows.specs.Read.{meanV, lift, valueUnder}
 use Rattle.types_equal.specs.declared.pending.Form.the-variants.{Skip, One, Two, OwnTop, GivenTop, VarTop, Misfit}
 use Rattle.types_equal.specs.declared.pending.Next.the-variants.{End, OwnNext, GivenNext, VarNext, Wrong}
 use Rattle.types_equal.specs.pending.Pending.{entryType, pendingType, entryMeets, pendingMeets, Low, Pends, room, weight, power, mass, Lower, FormOf, Rest, NextIs}
@@ -49,11 +49,11 @@ mass-agree (suc n) ws out h = ap₂ _+_ (ap (λ z. power (weight z)) (h n (omega
 pub pends-agree : (m l n : ℕ) (ws out : List ℕ) → Agree n ws out → Pends m l ws n → Pends m l out n
 pends-agree m l n ws out h p i k = subst (λ z. Low m l i z) (sym (h i k)) (p i k)
 
-module _ (τ : RowTable) (A : List Arg) (by d : ℕ) where
-  pub type-agree : (n : ℕ) (ws out : List ℕ) → Agree n ws out → pendingType τ A by d out n ≡ pendingType τ A by d ws n
+module _ (τ : RowTable) (A : List Arg) (ρ : ℕ → ℕ) (d : ℕ) where
+  pub type-agree : (n : ℕ) (ws out : List ℕ) → Agree n ws out → pendingType τ A ρ d out n ≡ pendingType τ A ρ d ws n
   unfolding pendingType
   type-agree zero ws out h = refl
-  type-agree (suc n) ws out h = ap₂ join (ap (entryType τ A by d) (h n (omega arith))) (type-agree n ws out (λ i k. h i (omega arith)))
+  type-agree (suc n) ws out h = ap₂ join (ap (entryType τ A ρ d) (h n (omega arith))) (type-agree n ws out (λ i k. h i (omega arith)))
 
   pub meets-agree : (n : ℕ) (ws out : List ℕ) → Agree n ws out → pendingMeets τ A d out n ≡ pendingMeets τ A d ws n
   unfolding pendingMeets
@@ -76,14 +76,14 @@ put-pends m l ws i x h p q j k = go (eqb j i) refl
         let f = eqb-false j i e in
         subst (λ z. Low m l j z) (sym (getD-set-other ws i j x 0 f)) (p j (let g : (j ≡ i → ⊥) = f in omega (arith, g)))
 
-module _ (τ : RowTable) (A : List Arg) (by d : ℕ) where
-  put-type : (ws : List ℕ) (i x : ℕ) → i < length ws → pendingType τ A by d (set ws i x) (suc i) ≡ join (entryType τ A by d x) (pendingType τ A by d ws i)
+module _ (τ : RowTable) (A : List Arg) (ρ : ℕ → ℕ) (d : ℕ) where
+  put-type : (ws : List ℕ) (i x : ℕ) → i < length ws → pendingType τ A ρ d (set ws i x) (suc i) ≡ join (entryType τ A ρ d x) (pendingType τ A ρ d ws i)
   unfolding pendingType
-  put-type ws i x h = ap₂ join (ap (entryType τ A by d) (getD-set-same ws i x 0 h)) (type-agree τ A by d i ws (set ws i x) (agree-set i i x ws (omega arith)))
+  put-type ws i x h = ap₂ join (ap (entryType τ A ρ d) (getD-set-same ws i x 0 h)) (type-agree τ A ρ d i ws (set ws i x) (agree-set i i x ws (omega arith)))
 
   put-meets : (ws : List ℕ) (i x : ℕ) → i < length ws → pendingMeets τ A d (set ws i x) (suc i) ≡ entryMeets τ A d x && pendingMeets τ A d ws i
   unfolding pendingMeets
-  put-meets ws i x h = ap₂ _&&_ (ap (entryMeets τ A d) (getD-set-same ws i x 0 h)) (meets-agree τ A by d i ws (set ws i x) (agree-set i i x ws (omega arith)))
+  put-meets ws i x h = ap₂ _&&_ (ap (entryMeets τ A d) (getD-set-same ws i x 0 h)) (meets-agree τ A ρ d i ws (set ws i x) (agree-set i i x ws (omega arith)))
 
 -- ---- how far an entry may stand
 pub low-fits : (m l i e : ℕ) → Low m l i e → i ≤ l + room m
@@ -110,15 +110,15 @@ pub record Kept (m : ℕ) (ws : List ℕ) (top : ℕ) (out : List ℕ) (n : ℕ)
   pub keeps : (l : ℕ) → Pends m l ws top → Pends m l out n
   pub long : length out ≡ length ws
 
-pub record Means (τ : RowTable) (A : List Arg) (by d : ℕ) (ws : List ℕ) (top : ℕ) (out : List ℕ) (n : ℕ) : Type 0 where
-  pub type : pendingType τ A by d out n ≡ pendingType τ A by d ws top
+pub record Means (τ : RowTable) (A : List Arg) (ρ : ℕ → ℕ) (d : ℕ) (ws : List ℕ) (top : ℕ) (out : List ℕ) (n : ℕ) : Type 0 where
+  pub type : pendingType τ A ρ d out n ≡ pendingType τ A ρ d ws top
   pub fits : pendingMeets τ A d out n ≡ pendingMeets τ A d ws top
 
 pub kept-first : (m : ℕ) (ws : List ℕ) (top : ℕ) → Kept m ws top ws top
 kept-first m ws top = record { most = omega arith; keeps = λ l p. p; long = refl }
 
-pub means-first : (τ : RowTable) (A : List Arg) (by d : ℕ) (ws : List ℕ) (top : ℕ) → Means τ A by d ws top ws top
-means-first τ A by d ws top = record { type = refl; fits = refl }
+pub means-first : (τ : RowTable) (A : List Arg) (ρ : ℕ → ℕ) (d : ℕ) (ws : List ℕ) (top : ℕ) → Means τ A ρ d ws top ws top
+means-first τ A ρ d ws top = record { type = refl; fits = refl }
 
 pop-mass : (out : List ℕ) (n i : ℕ) → n ≡ suc i → mass out n ≡ power (weight (getD out i 0)) + mass out i
 unfolding mass
@@ -192,82 +192,82 @@ module _ (m : ℕ) (ws : List ℕ) (top : ℕ) (out : List ℕ) (n i : ℕ) (e :
           long = length-set (set out i y) n x ∙ length-set out i y ∙ g .long;
         }
 
-module _ (τ : RowTable) (A : List Arg) (by d : ℕ) (m : ℕ) (ws : List ℕ) (top : ℕ) (out : List ℕ) (n i : ℕ) (e : n ≡ suc i) (g : Means τ A by d ws top out n) where
+module _ (τ : RowTable) (A : List Arg) (ρ : ℕ → ℕ) (d : ℕ) (m : ℕ) (ws : List ℕ) (top : ℕ) (out : List ℕ) (n i : ℕ) (e : n ≡ suc i) (g : Means τ A ρ d ws top out n) where
   abbrev pub entry : ℕ
   entry = getD out i 0
 
   -- what the last entry stands for, and those below it
-  top-type : pendingType τ A by d ws top ≡ join (entryType τ A by d entry) (pendingType τ A by d out i)
+  top-type : pendingType τ A ρ d ws top ≡ join (entryType τ A ρ d entry) (pendingType τ A ρ d out i)
   unfolding pendingType
-  top-type = sym (g .type) ∙ ap (pendingType τ A by d out) e
+  top-type = sym (g .type) ∙ ap (pendingType τ A ρ d out) e
 
   top-meets : pendingMeets τ A d ws top ≡ entryMeets τ A d entry && pendingMeets τ A d out i
   unfolding pendingMeets
   top-meets = sym (g .fits) ∙ ap (pendingMeets τ A d out) e
 
-  pub means-skip : FormOf τ A by d m entry Skip → Means τ A by d ws top out i
+  pub means-skip : FormOf τ A ρ d m entry Skip → Means τ A ρ d ws top out i
   unfolding join
   means-skip f =
       record {
-        type = sym (top-type ∙ ap (λ z. join z (pendingType τ A by d out i)) (f .0));
+        type = sym (top-type ∙ ap (λ z. join z (pendingType τ A ρ d out i)) (f .0));
         fits = sym (top-meets ∙ ap (λ z. z && pendingMeets τ A d out i) (f .1));
       }
 
-  pub means-one : (x : ℕ) → i < length out → FormOf τ A by d m entry (One x) → Means τ A by d ws top (set out i x) n
+  pub means-one : (x : ℕ) → i < length out → FormOf τ A ρ d m entry (One x) → Means τ A ρ d ws top (set out i x) n
   means-one x b f =
       record {
-        type = ap (pendingType τ A by d (set out i x)) e ∙ put-type τ A by d out i x b ∙ sym (top-type ∙ ap (λ z. join z (pendingType τ A by d out i)) (f .0));
-        fits = ap (pendingMeets τ A d (set out i x)) e ∙ put-meets τ A by d out i x b ∙ sym (top-meets ∙ ap (λ z. z && pendingMeets τ A d out i) (f .1));
+        type = ap (pendingType τ A ρ d (set out i x)) e ∙ put-type τ A ρ d out i x b ∙ sym (top-type ∙ ap (λ z. join z (pendingType τ A ρ d out i)) (f .0));
+        fits = ap (pendingMeets τ A d (set out i x)) e ∙ put-meets τ A ρ d out i x b ∙ sym (top-meets ∙ ap (λ z. z && pendingMeets τ A d out i) (f .1));
       }
 
-  pub means-two : (x y : ℕ) → n < length out → FormOf τ A by d m entry (Two x y) → Means τ A by d ws top (set (set out i y) n x) (n + 1)
+  pub means-two : (x y : ℕ) → n < length out → FormOf τ A ρ d m entry (Two x y) → Means τ A ρ d ws top (set (set out i y) n x) (n + 1)
   means-two x y b f =
       let q : n + 1 ≡ suc n = omega arith in
       let h = length-set out i y in
-      let P : Ty stack = pendingType τ A by d out i in
+      let P : Ty stack = pendingType τ A ρ d out i in
       let M : Bool = pendingMeets τ A d out i in
       let s : i < length out = omega arith in
       let t : n < length (set out i y) = omega arith in
       record {
-        type = ap (pendingType τ A by d (set (set out i y) n x)) q ∙ put-type τ A by d (set out i y) n x t ∙ ap (join (entryType τ A by d x)) (ap (pendingType τ A by d (set out i y)) e ∙ put-type τ A by d out i y s)
-            ∙ sym (top-type ∙ ap (λ z. join z P) (f .0) ∙ join-assoc (entryType τ A by d x) (entryType τ A by d y) P);
-        fits = ap (pendingMeets τ A d (set (set out i y) n x)) q ∙ put-meets τ A by d (set out i y) n x t ∙ ap (λ z. entryMeets τ A d x && z) (ap (pendingMeets τ A d (set out i y)) e ∙ put-meets τ A by d out i y s)
+        type = ap (pendingType τ A ρ d (set (set out i y) n x)) q ∙ put-type τ A ρ d (set out i y) n x t ∙ ap (join (entryType τ A ρ d x)) (ap (pendingType τ A ρ d (set out i y)) e ∙ put-type τ A ρ d out i y s)
+            ∙ sym (top-type ∙ ap (λ z. join z P) (f .0) ∙ join-assoc (entryType τ A ρ d x) (entryType τ A ρ d y) P);
+        fits = ap (pendingMeets τ A d (set (set out i y) n x)) q ∙ put-meets τ A ρ d (set out i y) n x t ∙ ap (λ z. entryMeets τ A d x && z) (ap (pendingMeets τ A d (set out i y)) e ∙ put-meets τ A ρ d out i y s)
             ∙ sym (top-meets ∙ ap (λ z. z && M) (f .1) ∙ sym (and-assoc (entryMeets τ A d x) (entryMeets τ A d y) M));
       }
 
   -- ---- an item is found
   module _ (k : Kept m ws top out n) where
-    pub next-own : (t x : ℕ) → i < length out → FormOf τ A by d m entry (OwnTop t x) → NextIs τ A by d m ws top (set out i x) (OwnNext t n)
+    pub next-own : (t x : ℕ) → i < length out → FormOf τ A ρ d m entry (OwnTop t x) → NextIs τ A ρ d m ws top (set out i x) (OwnNext t n)
     unfolding join
     next-own t x b f =
         let w = f .3 in (
-          top-type ∙ ap (λ z. join z (pendingType τ A by d out i)) (f .0) ∙ ap (push (valueUnder τ A by d t)) (sym (ap (pendingType τ A by d (set out i x)) e ∙ put-type τ A by d out i x b)),
-          top-meets ∙ ap (λ z. z && pendingMeets τ A d out i) (f .1) ∙ sym (and-assoc (meets A d (meanV τ t)) (entryMeets τ A d x) (pendingMeets τ A d out i)) ∙ ap (λ z. meets A d (meanV τ t) && z) (sym (ap (pendingMeets τ A d (set out i x)) e ∙ put-meets τ A by d out i x b)),
+          top-type ∙ ap (λ z. join z (pendingType τ A ρ d out i)) (f .0) ∙ ap (push (valueUnder τ A ρ d t)) (sym (ap (pendingType τ A ρ d (set out i x)) e ∙ put-type τ A ρ d out i x b)),
+          top-meets ∙ ap (λ z. z && pendingMeets τ A d out i) (f .1) ∙ sym (and-assoc (meets A d (meanV τ t)) (entryMeets τ A d x) (pendingMeets τ A d out i)) ∙ ap (λ z. meets A d (meanV τ t) && z) (sym (ap (pendingMeets τ A d (set out i x)) e ∙ put-meets τ A ρ d out i x b)),
           rest-one m ws top out n i e k x b (w .0) (λ l j z. low-down m l j x (w .1 l j z)),
           (λ l p. let u = f .2 l i (last-low m ws top out n i e k l p) in (omega arith, omega arith)),
         )
 
-    pub next-given : (t x : ℕ) → i < length out → FormOf τ A by d m entry (GivenTop t x) → NextIs τ A by d m ws top (set out i x) (GivenNext t n)
+    pub next-given : (t x : ℕ) → i < length out → FormOf τ A ρ d m entry (GivenTop t x) → NextIs τ A ρ d m ws top (set out i x) (GivenNext t n)
     unfolding join
     next-given t x b f =
         let w = f .3 in (
-          top-type ∙ ap (λ z. join z (pendingType τ A by d out i)) (f .0) ∙ ap (push (valueUnder τ [] d 0 t)) (sym (ap (pendingType τ A by d (set out i x)) e ∙ put-type τ A by d out i x b)),
-          top-meets ∙ ap (λ z. z && pendingMeets τ A d out i) (f .1) ∙ sym (ap (pendingMeets τ A d (set out i x)) e ∙ put-meets τ A by d out i x b),
+          top-type ∙ ap (λ z. join z (pendingType τ A ρ d out i)) (f .0) ∙ ap (push (valueUnder τ [] (lift d) 0 t)) (sym (ap (pendingType τ A ρ d (set out i x)) e ∙ put-type τ A ρ d out i x b)),
+          top-meets ∙ ap (λ z. z && pendingMeets τ A d out i) (f .1) ∙ sym (ap (pendingMeets τ A d (set out i x)) e ∙ put-meets τ A ρ d out i x b),
           rest-one m ws top out n i e k x b (w .0) (λ l j z. low-down m l j x (w .1 l j z)),
           (λ l p. let u = f .2 l i (last-low m ws top out n i e k l p) in let v = u .2 in (u .0, u .1, omega arith)),
         )
 
-    pub next-var : (a : ℕ) → FormOf τ A by d m entry (VarTop a) → NextIs τ A by d m ws top out (VarNext a i)
+    pub next-var : (a : ℕ) → FormOf τ A ρ d m entry (VarTop a) → NextIs τ A ρ d m ws top out (VarNext a i)
     unfolding join
     next-var a f =
-        (top-type ∙ ap (λ z. join z (pendingType τ A by d out i)) (f .0), top-meets ∙ ap (λ z. z && pendingMeets τ A d out i) (f .1), rest-skip m ws top out n i e k)
+        (top-type ∙ ap (λ z. join z (pendingType τ A ρ d out i)) (f .0), top-meets ∙ ap (λ z. z && pendingMeets τ A d out i) (f .1), rest-skip m ws top out n i e k)
 
-    pub next-wrong : FormOf τ A by d m entry Misfit → NextIs τ A by d m ws top out Wrong
+    pub next-wrong : FormOf τ A ρ d m entry Misfit → NextIs τ A ρ d m ws top out Wrong
     next-wrong f = (top-meets ∙ ap (λ z. z && pendingMeets τ A d out i) (f .0), f .1)
 
-pub next-end : (τ : RowTable) (A : List Arg) (by d m : ℕ) (ws : List ℕ) (top : ℕ) (out : List ℕ) (n : ℕ) → n ≡ 0 → Means τ A by d ws top out n → NextIs τ A by d m ws top out End
+pub next-end : (τ : RowTable) (A : List Arg) (ρ : ℕ → ℕ) (d m : ℕ) (ws : List ℕ) (top : ℕ) (out : List ℕ) (n : ℕ) → n ≡ 0 → Means τ A ρ d ws top out n → NextIs τ A ρ d m ws top out End
 unfolding pendingType pendingMeets
-next-end τ A by d m ws top out n e g = (sym (g .type) ∙ ap (pendingType τ A by d out) e, sym (g .fits) ∙ ap (pendingMeets τ A d out) e)
+next-end τ A ρ d m ws top out n e g = (sym (g .type) ∙ ap (pendingType τ A ρ d out) e, sym (g .fits) ∙ ap (pendingMeets τ A d out) e)
 
 pub none-left : (n : ℕ) → n ≤ 0 → n ≡ 0
 none-left n h = omega arith

@@ -1,5 +1,5 @@
 -- Laws of arguments and their kinds.
-use mathlib.Core.Path.{_≡_, refl, ap, sym, _∙_}
+use mathlib.Core.Path.{_≡_, refl, ap, sym, _∙_, fun-ext}
 use mathlib.Core.Bool.{Bool, true, false, _&&_, not, cond}
 use mathlib.Core.List.{List, [], _∷_, map}
 use Prim.Native.Nat.{ℕ, zero, suc, _+_, _-_, _<_, _≤_}
@@ -9,14 +9,14 @@ use lib.Dec.{eqb, ltb}
 use lib.ListN.{length, getD, length-map}
 use borrow.Author.Tests.{lt-ltb, le-ltb, ltb-false}
 use Rattle.syntax.specs.Syntax.{Kind, value, stack}
-use Rattle.types.specs.Types.{walk, raising, raise, Ty, int, junk, var, tuple, pointer, code, nil, push, svar, gap, join, below, Arg, arg, ofKind, fitsKind, meets}
-use Rattle.types.proofs.Filling.{Side, lo, hi, side, below-lt, below-ge}
+use Rattle.types.specs.Types.{walk, raising, raise, Ty, int, junk, var, tuple, pointer, hidden, code, nil, push, svar, gap, join, variable, below, Arg, arg, ofKind, fitsKind, meets}
+use Rattle.types.proofs.Filling.{walk-ext, Side, lo, hi, side, below-lt, below-ge}
 use Rattle.tables.specs.Tables.{RowTable, cell, span}
 use Rattle.types_rows.specs.declared.Val.{Val}
-use Rattle.types_rows.specs.declared.Val.the-variants.{Int, Junk, ValVar, ValFill, Tuple, Pointer, Code}
+use Rattle.types_rows.specs.declared.Val.the-variants.{Int, Junk, ValVar, ValFill, Tuple, Pointer, Code, Hidden}
 use Rattle.types_rows.specs.declared.Stk.{Stk}
 use Rattle.types_rows.specs.declared.Stk.the-variants.{Nil, StkVar, StkFill, Push, Join}
-use Rattle.types_rows.specs.Read.{lower, valueWith, stackWith, valueAt, stackAt, isStackAt, partsOf, buildV, buildS, meanV, meanS, mean, codeOf, argOf, argsOf, placeV, placeS, placed, acting}
+use Rattle.types_rows.specs.Read.{lift, lower, valueWith, stackWith, valueAt, stackAt, isStackAt, partsOf, buildV, buildS, meanV, meanS, mean, codeOf, argOf, argsOf, placeV, placeS, placed, acting}
 use Rattle.types_rows.proofs.Laws.{noArg, value-is, stack-is}
 use Rattle.types_rows.proofs.Bridge.{arg-is}
 
@@ -41,10 +41,10 @@ and-swap true false false d = refl
 and-swap false b c d = refl
 
 -- ---- no arguments
--- a walk with no arguments only raises
-pub raised : (d : ℕ) {κ : Kind} (t : Ty κ) → walk (acting [] d) 0 t ≡ raise d t
+-- a walk with no arguments that lifts by d raises by d
+pub raised : (d : ℕ) {κ : Kind} (t : Ty κ) → walk (acting [] (lift d)) 0 t ≡ raise d t
 unfolding raise acting placed raising
-raised d t = refl
+raised d t = walk-ext (acting [] (lift d)) (raising d) (λ e κ k. ap (below e k (variable κ k)) (fun-ext (λ j. ap (variable κ) (omega arith)))) 0 t
 
 pub no-args : (τ : RowTable) (args : List ℕ) (m : ℕ) → m ≡ 0 → argsOf τ args m ≡ []
 unfolding argsOf span
@@ -61,6 +61,7 @@ meets-none d (var k) = go (side d k)
     go (hi j e) = rw e (below-ge d j true (λ j. true))
 meets-none d (tuple a) = meets-none d a
 meets-none d (pointer a) = meets-none d a
+meets-none d (hidden t) = meets-none (suc d) t
 meets-none d (code q a r) = rw (meets-none (length q + d) a) (meets-none (length q + d) r)
 meets-none d nil = refl
 meets-none d (push t a) = rw (meets-none d t) (meets-none d a)
@@ -79,7 +80,7 @@ meets-join A d (svar k a) b = ap (λ z. below d k true (fitsKind stack A) && z) 
 meets-join A d (gap a) b = meets-join A d a b
 
 -- ---- one argument
-fits-past : (κ : Kind) (A : List Arg) (j : ℕ) → length A ≤ j → fitsKind κ A j ≡ true
+pub fits-past : (κ : Kind) (A : List Arg) (j : ℕ) → length A ≤ j → fitsKind κ A j ≡ true
 unfolding fitsKind
 fits-past κ [] j l = refl
 fits-past κ (a ∷ A) zero l = absurd (not-suc-le-zero l)
@@ -151,7 +152,7 @@ module _ (τ : RowTable) (args : List ℕ) (m j a : ℕ) (h : j < m) (e : a ≡ 
       go false = refl
 
 -- ---- the kinds in a row, by its form with the variable placed
-module _ (τ : RowTable) (A : List Arg) (by d : ℕ) where
+module _ (τ : RowTable) (A : List Arg) (ρ : ℕ → ℕ) (d : ℕ) where
   abbrev pub meetsV : ℕ → Val → Bool
   meetsV h Int = true
   meetsV h Junk = true
@@ -160,6 +161,7 @@ module _ (τ : RowTable) (A : List Arg) (by d : ℕ) where
   meetsV h (Tuple p n) = meets A d (partsOf (meanV τ) (τ .parts) false h p n)
   meetsV h (Pointer x) = meets A d (meanS τ x)
   meetsV h (Code x p) = meets A d (codeOf τ h x p)
+  meetsV h (Hidden x) = meets A (suc d) (meanV τ x)
 
   abbrev pub meetsS : Stk → Bool
   meetsS Nil = true
@@ -181,55 +183,56 @@ module _ (τ : RowTable) (A : List Arg) (by d : ℕ) where
           let q : k - d ≡ j = omega arith in
           rw (le-ltb k d (omega arith), q, e) (below-ge d j true (fitsKind κ A) ∙ past j (ltb j (length A)) refl)
 
-  var-v : (h k : ℕ) → below d k true (fitsKind value A) ≡ meetsV h (placeV (length A) by d k)
+  var-v : (h k : ℕ) → below d k true (fitsKind value A) ≡ meetsV h (placeV (length A) ρ d k)
   var-v h k = meets-var value k ∙ go (ltb k d) (ltb (k - d) (length A))
     where
-      go : (x y : Bool) → cond x true (cond y (fitsKind value A (k - d)) true) ≡ meetsV h (cond x (ValVar k) (cond y (ValFill (k - d)) (ValVar (((k - d) - length A) + (by + d)))))
+      go : (x y : Bool) → cond x true (cond y (fitsKind value A (k - d)) true) ≡ meetsV h (cond x (ValVar k) (cond y (ValFill (k - d)) (ValVar (ρ ((k - d) - length A) + d))))
       go true y = refl
       go false true = refl
       go false false = refl
 
-  var-s : (k : ℕ) → below d k true (fitsKind stack A) ≡ meetsS (placeS (length A) by d k)
+  var-s : (k : ℕ) → below d k true (fitsKind stack A) ≡ meetsS (placeS (length A) ρ d k)
   var-s k = meets-var stack k ∙ go (ltb k d) (ltb (k - d) (length A))
     where
-      go : (x y : Bool) → cond x true (cond y (fitsKind stack A (k - d)) true) ≡ meetsS (cond x (StkVar k) (cond y (StkFill (k - d)) (StkVar (((k - d) - length A) + (by + d)))))
+      go : (x y : Bool) → cond x true (cond y (fitsKind stack A (k - d)) true) ≡ meetsS (cond x (StkVar k) (cond y (StkFill (k - d)) (StkVar (ρ ((k - d) - length A) + d))))
       go true y = refl
       go false true = refl
       go false false = refl
 
-  pub meets-value : (h : ℕ) → meets A d (meanV τ h) ≡ meetsV h (valueAt (τ .rows) (placeV (length A) by d) h)
+  pub meets-value : (h : ℕ) → meets A d (meanV τ h) ≡ meetsV h (valueAt (τ .rows) (placeV (length A) ρ d) h)
   unfolding valueWith meets codeOf
   meets-value zero = ap (meets A d) (value-is τ zero)
-  meets-value (suc r) = ap (meets A d) (value-is τ (suc r)) ∙ go (cell 4 (τ .rows) r 1) (cell 4 (τ .rows) r 2) (eqb (cell 4 (τ .rows) r 0) 0) (eqb (cell 4 (τ .rows) r 0) 2) (eqb (cell 4 (τ .rows) r 0) 3) (eqb (cell 4 (τ .rows) r 0) 4) (eqb (cell 4 (τ .rows) r 0) 5)
+  meets-value (suc r) = ap (meets A d) (value-is τ (suc r)) ∙ go (cell 4 (τ .rows) r 1) (cell 4 (τ .rows) r 2) (eqb (cell 4 (τ .rows) r 0) 0) (eqb (cell 4 (τ .rows) r 0) 2) (eqb (cell 4 (τ .rows) r 0) 3) (eqb (cell 4 (τ .rows) r 0) 4) (eqb (cell 4 (τ .rows) r 0) 5) (eqb (cell 4 (τ .rows) r 0) 6)
     where
-      go : (a b : ℕ) (x₁ x₂ x₃ x₄ x₅ : Bool) → meets A d (buildV (meanV τ) (meanS τ) (τ .parts) (suc r) (cond x₁ Int (cond x₂ (ValVar a) (cond x₃ (Tuple a b) (cond x₄ (Pointer (lower (suc r) a)) (cond x₅ (Code (lower (suc r) a) b) Junk))))))
-          ≡ meetsV (suc r) (cond x₁ Int (cond x₂ (placeV (length A) by d a) (cond x₃ (Tuple a b) (cond x₄ (Pointer (lower (suc r) a)) (cond x₅ (Code (lower (suc r) a) b) Junk)))))
-      go a b true x₂ x₃ x₄ x₅ = refl
-      go a b false true x₃ x₄ x₅ = var-v (suc r) a
-      go a b false false true x₄ x₅ = refl
-      go a b false false false true x₅ = refl
-      go a b false false false false true = refl
-      go a b false false false false false = refl
+      go : (a b : ℕ) (x₁ x₂ x₃ x₄ x₅ x₆ : Bool) → meets A d (buildV (meanV τ) (meanS τ) (τ .parts) (suc r) (cond x₁ Int (cond x₂ (ValVar a) (cond x₃ (Tuple a b) (cond x₄ (Pointer (lower (suc r) a)) (cond x₅ (Code (lower (suc r) a) b) (cond x₆ (Hidden (lower (suc r) a)) Junk)))))))
+          ≡ meetsV (suc r) (cond x₁ Int (cond x₂ (placeV (length A) ρ d a) (cond x₃ (Tuple a b) (cond x₄ (Pointer (lower (suc r) a)) (cond x₅ (Code (lower (suc r) a) b) (cond x₆ (Hidden (lower (suc r) a)) Junk))))))
+      go a b true x₂ x₃ x₄ x₅ x₆ = refl
+      go a b false true x₃ x₄ x₅ x₆ = var-v (suc r) a
+      go a b false false true x₄ x₅ x₆ = refl
+      go a b false false false true x₅ x₆ = refl
+      go a b false false false false true x₆ = refl
+      go a b false false false false false true = refl
+      go a b false false false false false false = refl
 
-  pub meets-stack : (h : ℕ) → meets A d (meanS τ h) ≡ meetsS (stackAt (τ .rows) (placeS (length A) by d) h)
+  pub meets-stack : (h : ℕ) → meets A d (meanS τ h) ≡ meetsS (stackAt (τ .rows) (placeS (length A) ρ d) h)
   unfolding stackWith meets
   meets-stack zero = ap (meets A d) (stack-is τ zero)
-  meets-stack (suc r) = ap (meets A d) (stack-is τ (suc r)) ∙ go (cell 4 (τ .rows) r 1) (cell 4 (τ .rows) r 2) (ltb (cell 4 (τ .rows) r 0) 7) (eqb (cell 4 (τ .rows) r 0) 7) (eqb (cell 4 (τ .rows) r 0) 8)
+  meets-stack (suc r) = ap (meets A d) (stack-is τ (suc r)) ∙ go (cell 4 (τ .rows) r 1) (cell 4 (τ .rows) r 2) (ltb (cell 4 (τ .rows) r 0) 8) (eqb (cell 4 (τ .rows) r 0) 8) (eqb (cell 4 (τ .rows) r 0) 9)
     where
       go : (a b : ℕ) (x₁ x₂ x₃ : Bool) → meets A d (buildS (meanV τ) (meanS τ) (cond x₁ Nil (cond x₂ (StkVar a) (cond x₃ (Push (lower (suc r) a) (lower (suc r) b)) (Join (lower (suc r) a) (lower (suc r) b))))))
-          ≡ meetsS (cond x₁ Nil (cond x₂ (placeS (length A) by d a) (cond x₃ (Push (lower (suc r) a) (lower (suc r) b)) (Join (lower (suc r) a) (lower (suc r) b)))))
+          ≡ meetsS (cond x₁ Nil (cond x₂ (placeS (length A) ρ d a) (cond x₃ (Push (lower (suc r) a) (lower (suc r) b)) (Join (lower (suc r) a) (lower (suc r) b)))))
       go a b true x₂ x₃ = refl
       go a b false true x₃ = and-true (below d a true (fitsKind stack A)) ∙ var-s a
       go a b false false true = refl
       go a b false false false = meets-join A d (meanS τ (lower (suc r) a)) (meanS τ (lower (suc r) b))
 
   -- the same from what a reader answers
-  pub stack-meets : (m h : ℕ) {n k : Stk} → length A ≡ m → n ≡ stackAt (τ .rows) (placeS m by d) h → n ≡ k → meets A d (meanS τ h) ≡ meetsS k
+  pub stack-meets : (m h : ℕ) {n k : Stk} → length A ≡ m → n ≡ stackAt (τ .rows) (placeS m ρ d) h → n ≡ k → meets A d (meanS τ h) ≡ meetsS k
   stack-meets m h {n} {k} l e f =
-      let q : stackAt (τ .rows) (placeS (length A) by d) h ≡ k = rw l (sym e ∙ f) in
+      let q : stackAt (τ .rows) (placeS (length A) ρ d) h ≡ k = rw l (sym e ∙ f) in
       meets-stack h ∙ ap meetsS q
 
-  pub value-meets : (m h : ℕ) {n : Val} → length A ≡ m → n ≡ valueAt (τ .rows) (placeV m by d) h → meets A d (meanV τ h) ≡ meetsV h n
+  pub value-meets : (m h : ℕ) {n : Val} → length A ≡ m → n ≡ valueAt (τ .rows) (placeV m ρ d) h → meets A d (meanV τ h) ≡ meetsV h n
   value-meets m h {n} l e =
-      let q : valueAt (τ .rows) (placeV (length A) by d) h ≡ n = rw l (sym e) in
+      let q : valueAt (τ .rows) (placeV (length A) ρ d) h ≡ n = rw l (sym e) in
       meets-value h ∙ ap (meetsV h) q

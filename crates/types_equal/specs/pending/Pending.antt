@@ -10,7 +10,7 @@ use Rattle.types.specs.Types.{Ty, nil, push, svar, join, Arg, meets}
 use Rattle.tables.specs.Tables.{RowTable}
 use Rattle.types_rows.specs.declared.Stk.{Stk}
 use Rattle.types_rows.specs.declared.Stk.the-variants.{Nil, StkVar, StkFill, Push, Join}
-use Rattle.types_rows.specs.Read.{isStackAt, meanV, meanS, valueUnder, stackUnder}
+use Rattle.types_rows.specs.Read.{isStackAt, meanV, meanS, lift, valueUnder, stackUnder}
 use Rattle.types_equal.specs.declared.pending.Form.{Form}
 use Rattle.types_equal.specs.declared.pending.Form.the-variants.{Skip, One, Two, OwnTop, GivenTop, VarTop, Misfit}
 use Rattle.types_equal.specs.declared.pending.Next.{Next}
@@ -27,10 +27,10 @@ unfoldable pub side : Bool → List ℕ → List ℕ
 side b ws = map (half b) ws
 
 -- ---- an entry: a row in its context, or, from 32768 on, a row of an argument, raised by d
-module _ (τ : RowTable) (A : List Arg) (by d : ℕ) where
+module _ (τ : RowTable) (A : List Arg) (ρ : ℕ → ℕ) (d : ℕ) where
   -- the stack type that an entry stands for
   unfoldable pub entryType : ℕ → Ty stack
-  entryType e = cond (ltb e 32768) (stackUnder τ A by d e) (stackUnder τ [] d 0 (e - 32768))
+  entryType e = cond (ltb e 32768) (stackUnder τ A ρ d e) (stackUnder τ [] (lift d) 0 (e - 32768))
 
   -- the first n entries, the last of them on top
   unfoldable pub pendingType : List ℕ → ℕ → Ty stack
@@ -117,17 +117,17 @@ givenForm (Join x y) = Two (32768 + x) (32768 + y)
 abbrev pub Lower : ℕ → ℕ → ℕ → Type 0
 Lower m e x = (weight x < weight e) × ((l i : ℕ) → Low m l i e → Low m l (suc i) x)
 
-module _ (τ : RowTable) (A : List Arg) (by d m e : ℕ) where
+module _ (τ : RowTable) (A : List Arg) (ρ : ℕ → ℕ) (d m e : ℕ) where
   -- what each form says of entry e
   abbrev pub FormOf : Form → Type 0
-  FormOf Skip = (entryType τ A by d e ≡ nil) × (entryMeets τ A d e ≡ true)
-  FormOf (One x) = (entryType τ A by d e ≡ entryType τ A by d x) × (entryMeets τ A d e ≡ entryMeets τ A d x) × (weight x < weight e) × ((l i : ℕ) → Low m l i e → Low m l i x)
-  FormOf (Two x y) = (entryType τ A by d e ≡ join (entryType τ A by d x) (entryType τ A by d y)) × (entryMeets τ A d e ≡ entryMeets τ A d x && entryMeets τ A d y) × Lower m e x × Lower m e y
+  FormOf Skip = (entryType τ A ρ d e ≡ nil) × (entryMeets τ A d e ≡ true)
+  FormOf (One x) = (entryType τ A ρ d e ≡ entryType τ A ρ d x) × (entryMeets τ A d e ≡ entryMeets τ A d x) × (weight x < weight e) × ((l i : ℕ) → Low m l i e → Low m l i x)
+  FormOf (Two x y) = (entryType τ A ρ d e ≡ join (entryType τ A ρ d x) (entryType τ A ρ d y)) × (entryMeets τ A d e ≡ entryMeets τ A d x && entryMeets τ A d y) × Lower m e x × Lower m e y
   FormOf (OwnTop t x) =
-      (entryType τ A by d e ≡ push (valueUnder τ A by d t) (entryType τ A by d x)) × (entryMeets τ A d e ≡ meets A d (meanV τ t) && entryMeets τ A d x) × ((l i : ℕ) → Low m l i e → suc i + t ≤ l) × Lower m e x
+      (entryType τ A ρ d e ≡ push (valueUnder τ A ρ d t) (entryType τ A ρ d x)) × (entryMeets τ A d e ≡ meets A d (meanV τ t) && entryMeets τ A d x) × ((l i : ℕ) → Low m l i e → suc i + t ≤ l) × Lower m e x
   FormOf (GivenTop t x) =
-      (entryType τ A by d e ≡ push (valueUnder τ [] d 0 t) (entryType τ A by d x)) × (entryMeets τ A d e ≡ entryMeets τ A d x) × ((l i : ℕ) → Low m l i e → (0 < m) × (t < 514) × (suc i + t ≤ 514 + l)) × Lower m e x
-  FormOf (VarTop k) = (entryType τ A by d e ≡ svar k nil) × (entryMeets τ A d e ≡ true)
+      (entryType τ A ρ d e ≡ push (valueUnder τ [] (lift d) 0 t) (entryType τ A ρ d x)) × (entryMeets τ A d e ≡ entryMeets τ A d x) × ((l i : ℕ) → Low m l i e → (0 < m) × (t < 514) × (suc i + t ≤ 514 + l)) × Lower m e x
+  FormOf (VarTop k) = (entryType τ A ρ d e ≡ svar k nil) × (entryMeets τ A d e ≡ true)
   FormOf Misfit = (entryMeets τ A d e ≡ false) × (0 < m)
 
 -- ---- the next item
@@ -136,15 +136,15 @@ pub record Rest (m : ℕ) (ws : List ℕ) (top : ℕ) (out : List ℕ) (n : ℕ)
   pub less : mass out n < mass ws top
   pub keeps : (l : ℕ) → Pends m l ws top → Pends m l out n
 
-module _ (τ : RowTable) (A : List Arg) (by d m : ℕ) (ws : List ℕ) (top : ℕ) (out : List ℕ) where
+module _ (τ : RowTable) (A : List Arg) (ρ : ℕ → ℕ) (d m : ℕ) (ws : List ℕ) (top : ℕ) (out : List ℕ) where
   -- what each answer says of the first entries of ws; `out` are the entries then
   abbrev pub NextIs : Next → Type 0
-  NextIs End = (pendingType τ A by d ws top ≡ nil) × (pendingMeets τ A d ws top ≡ true)
+  NextIs End = (pendingType τ A ρ d ws top ≡ nil) × (pendingMeets τ A d ws top ≡ true)
   NextIs (OwnNext t n) =
-      (pendingType τ A by d ws top ≡ push (valueUnder τ A by d t) (pendingType τ A by d out n)) × (pendingMeets τ A d ws top ≡ meets A d (meanV τ t) && pendingMeets τ A d out n)
+      (pendingType τ A ρ d ws top ≡ push (valueUnder τ A ρ d t) (pendingType τ A ρ d out n)) × (pendingMeets τ A d ws top ≡ meets A d (meanV τ t) && pendingMeets τ A d out n)
       × Rest m ws top out n × ((l : ℕ) → Pends m l ws top → (0 < n) × (n + t ≤ l))
   NextIs (GivenNext t n) =
-      (pendingType τ A by d ws top ≡ push (valueUnder τ [] d 0 t) (pendingType τ A by d out n)) × (pendingMeets τ A d ws top ≡ pendingMeets τ A d out n)
+      (pendingType τ A ρ d ws top ≡ push (valueUnder τ [] (lift d) 0 t) (pendingType τ A ρ d out n)) × (pendingMeets τ A d ws top ≡ pendingMeets τ A d out n)
       × Rest m ws top out n × ((l : ℕ) → Pends m l ws top → (0 < m) × (t < 514) × (n + t ≤ 514 + l))
-  NextIs (VarNext k n) = (pendingType τ A by d ws top ≡ svar k (pendingType τ A by d out n)) × (pendingMeets τ A d ws top ≡ pendingMeets τ A d out n) × Rest m ws top out n
+  NextIs (VarNext k n) = (pendingType τ A ρ d ws top ≡ svar k (pendingType τ A ρ d out n)) × (pendingMeets τ A d ws top ≡ pendingMeets τ A d out n) × Rest m ws top out n
   NextIs Wrong = (pendingMeets τ A d ws top ≡ false) × (0 < m)

@@ -1,21 +1,21 @@
 -- The least fault of operands and instructions, by their entries.
-use Prim.Native.Nat.{ℕ, zero, suc, _+_, _-_, _≤_, _<_, min}
+use Prim.Native.Nat.{ℕ, zero, suc, _+_, _-_, _≤_, _<_}
 use native.Mathlib.Omega.{arith}
 use mathlib.Core.Path.{_≡_, refl, sym, ap, ap₂, _∙_}
 use mathlib.Core.Bool.{Bool, true, false, _&&_, not, cond}
 use mathlib.Core.List.{List, [], _∷_, _++_, map, append-nil}
 use lib.Dec.{eqb, ltb, lit≤}
 use lib.ListN.{getD}
-use borrow.Author.Tests.{le-ltb, eq-eqb, ne-eqb}
-use Rattle.syntax.specs.Syntax.{Operand, plain, inst, Instr}
+use borrow.Author.Tests.{lt-ltb, le-ltb, eq-eqb, ne-eqb}
+use Rattle.syntax.specs.Syntax.{Operand, plain, inst, pack, Instr}
 use Rattle.syntax.specs.Fault.{given}
 use Rattle.syntax.proofs.Least.{least, leastOf, least-none, least-assoc, least-comm, least-swap, least-turn, least-given, numbered-given, least-append}
-use Rattle.tables.specs.Tables.{cell, span, rowsIn, baseOf, operandOf, OperandTable, operandAt, operandsAt, instrAt}
+use Rattle.tables.specs.Tables.{cell, span, rowsIn, baseOf, operandOf, operandFrom, OperandTable, operandAt, operandsAt, instrAt}
 use Rattle.tables.proofs.Cases.{_&_, each, instr-cases}
 use Rattle.tables.proofs.Steps.{operands-step}
-use Rattle.types.specs.Rows.{valueRow, codeRow, anyRow, Ref, ref, operandRefs, operandsRefs, names, baseLabels, labels, allBelow, refsFaults, instrFaults}
+use Rattle.types.specs.Rows.{valueRow, codeRow, hiddenRow, anyRow, Ref, ref, operandRefs, operandsRefs, names, baseLabels, labels, allBelow, refsFaults, instrFaults}
 use Rattle.types_rows.specs.Read.{tab}
-use Rattle.types_pass_two.specs.instr_refs.Instrs.{operandTable, labelLeast, operandsLeast, givenPlace, operandCount, countOf}
+use Rattle.types_pass_two.specs.instr_refs.Instrs.{operandTable, labelLeast, operandsLeast, codeOf, givenPlace, operandCount, countOf}
 use Rattle.types_pass_two.specs.row_refs.Least.{refLeast, refsLeast, listRefs}
 use Rattle.types_pass_two.specs.declared.row_refs.Part.the-variants.{Argument}
 use Rattle.types_pass_two.proofs.row_refs.References.{refs-least, numbered-refs, one-ref, refs-append, arguments}
@@ -42,6 +42,7 @@ labels-cons : (v : Operand) (vs : List Operand) → labels (v ∷ vs) ≡ labels
 unfolding labels
 labels-cons (plain b) vs = ap (λ (l : List ℕ). l ++ labels vs) (sym (append-nil (baseLabels b)))
 labels-cons (inst b ts t) vs = ap (λ (l : List ℕ). l ++ labels vs) (sym (append-nil (baseLabels b)))
+labels-cons (pack a b h) vs = ap (λ (l : List ℕ). l ++ labels vs) (sym (append-nil (baseLabels b)))
 
 and-true : (b : Bool) → _≡_ {A = ℕ} (cond (b && true) 0 4) (cond b 0 4)
 and-true true = refl
@@ -65,6 +66,10 @@ pub label-at : (nb k m l out : ℕ) → 2 ≤ k → out ≡ cond (ltb m nb) 0 4 
 label-at nb k m l out h o q = let e : ltb k 2 ≡ false = le-ltb k 2 h in rw (e, ← q) o
 
 -- ---- operands
+-- what was read of a package: its argument a and its `H` row h
+pub package-read : (rs : List ℕ) (n a b h t f x y w out : ℕ) → a ≡ b → h ≡ t → x ≡ refLeast rs n anyRow a → y ≡ refLeast rs n hiddenRow h → w ≡ least x y → out ≡ least f w → out ≡ least f (least (refLeast rs n anyRow b) (refLeast rs n hiddenRow t))
+package-read rs n a b h t f x y w out ea eh ex ey ew o = rw (← ea, ← eh) (o ∙ ap (least f) (ew ∙ ap₂ least ex ey))
+
 module _ (rs : List ℕ) (n nb : ℕ) where
   labels-more : (v : Operand) (vs : List Operand) → cond (allBelow nb (labels (v ∷ vs))) 0 4 ≡ least (cond (allBelow nb (labels (v ∷ []))) 0 4) (cond (allBelow nb (labels vs)) 0 4)
   labels-more v vs =
@@ -94,19 +99,29 @@ module _ (rs : List ℕ) (n nb : ℕ) where
       (ap (refsLeast rs n) (append-nil (map (ref anyRow) (a ∷ xs) ++ ref codeRow t ∷ []))
       ∙ (refs-append rs n (map (ref anyRow) (a ∷ xs)) (ref codeRow t ∷ []) ∙ ap (least (refsLeast rs n (map (ref anyRow) (a ∷ xs)))) (one-ref rs n codeRow t)))
 
+  -- a package
+  pack-least : (k l a h : ℕ) → operandsLeast rs n nb (pack a (baseOf k l) h ∷ []) ≡ least (labelLeast nb k l) (least (refLeast rs n anyRow a) (refLeast rs n hiddenRow h))
+  unfolding operandsLeast labels operandsRefs operandRefs refsLeast
+  pack-least k l a h = ap₂ least (label-least nb k l) (ap (least (refLeast rs n anyRow a)) (one-ref rs n hiddenRow h))
+
   module _ (os ns xs : List ℕ) (v : ℕ) where
-    pub operand-plain : (m k l f : ℕ) → m ≡ cell 4 os v 1 → k ≡ cell 4 os v 0 → l ≡ getD ns v 0 → m ≡ 0 → f ≡ labelLeast nb k l → f ≡ operandsLeast rs n nb (operandAt (operandTable os ns xs) v ∷ [])
-    unfolding operandAt span
-    operand-plain m k l f em ek el z o = rw (← em, ← ek, ← el, z) (o ∙ sym (plain-least k l (cell 4 os v 2)))
+    pub operand-package : (k f out : ℕ) → k ≡ cell 4 os v 0 → 4 ≤ k → f ≡ labelLeast nb (k - 4) (getD ns v 0) → out ≡ least f (least (refLeast rs n anyRow (getD xs (cell 4 os v 3) 0)) (refLeast rs n hiddenRow (cell 4 os v 2)))
+        → out ≡ operandsLeast rs n nb (operandAt (operandTable os ns xs) v ∷ [])
+    unfolding operandAt operandFrom
+    operand-package k f out ek l ef o = rw (← ek, le-ltb k 4 l) (o ∙ rw ef (sym (pack-least (k - 4) (getD ns v 0) (getD xs (cell 4 os v 3) 0) (cell 4 os v 2))))
+
+    pub operand-plain : (m k l f : ℕ) → m ≡ cell 4 os v 1 → k ≡ cell 4 os v 0 → l ≡ getD ns v 0 → k < 4 → m ≡ 0 → f ≡ labelLeast nb k l → f ≡ operandsLeast rs n nb (operandAt (operandTable os ns xs) v ∷ [])
+    unfolding operandAt operandFrom span
+    operand-plain m k l f em ek el h z o = rw (← em, ← ek, ← el, z, lt-ltb k 4 h) (o ∙ sym (plain-least k l (cell 4 os v 2)))
 
     pub operand-inst : (m k l b t f g h w out : ℕ) → m ≡ cell 4 os v 1 → k ≡ cell 4 os v 0 → l ≡ getD ns v 0 → b ≡ cell 4 os v 3
-        → t ≡ cell 4 os v 2 → (m ≡ 0 → ⊥) → f ≡ labelLeast nb k l → g ≡ refsLeast rs n (listRefs Argument (span xs b m)) → h ≡ refLeast rs
+        → t ≡ cell 4 os v 2 → k < 4 → (m ≡ 0 → ⊥) → f ≡ labelLeast nb k l → g ≡ refsLeast rs n (listRefs Argument (span xs b m)) → h ≡ refLeast rs
         n codeRow t → w ≡ least g h → out ≡ least f w → out ≡ operandsLeast rs n nb (operandAt (operandTable os ns xs) v ∷ [])
-    unfolding operandAt span
-    operand-inst zero k l b t f g h w out em ek el eb et z ef eg eh ew o = absurd (z refl)
-    operand-inst (suc m) k l b t f g h w out em ek el eb et z ef eg eh ew o =
+    unfolding operandAt operandFrom span
+    operand-inst zero k l b t f g h w out em ek el eb et i z ef eg eh ew o = absurd (z refl)
+    operand-inst (suc m) k l b t f g h w out em ek el eb et i z ef eg eh ew o =
         let e : g ≡ refsLeast rs n (map (ref anyRow) (span xs b (suc m))) = eg ∙ ap (refsLeast rs n) (arguments (span xs b (suc m))) in
-        rw (← em, ← ek, ← el, ← eb, ← et) (o ∙ (ap₂ least ef (ew ∙ ap₂ least e eh) ∙ sym (inst-least k l t (getD xs b 0) (span xs (suc b) m))))
+        rw (← em, ← ek, ← el, ← eb, ← et, lt-ltb k 4 i) (o ∙ (ap₂ least ef (ew ∙ ap₂ least e eh) ∙ sym (inst-least k l t (getD xs b 0) (span xs (suc b) m))))
 
 -- the loop over operands: f, and what is left from i on, make the whole
 module _ (rs : List ℕ) (n nb : ℕ) (ω : OperandTable) (v m : ℕ) where
@@ -137,54 +152,61 @@ module _ (rs : List ℕ) (n nb : ℕ) (ω : OperandTable) (v m : ℕ) where
       sym (least-none f) ∙ (rw d at rest)
 
 -- ---- instructions
+-- a code, read as k
+pub code-in : (k j : ℕ) → k ≡ j → k < 24 → k ≡ codeOf j
+code-in k j e l = rw (← e, lt-ltb k 24 l) refl
+
+pub code-past : (k j : ℕ) → k ≡ j → 24 ≤ k → 22 ≡ codeOf j
+code-past k j e l = rw (← e, le-ltb k 24 l) refl
+
 -- of a code of the table
-pub place-small : (k : ℕ) → k ≤ 22 → givenPlace k < 8
-place-small k h = each (λ k. givenPlace k < 8) 23 (tt & lit≤ tt & lit≤ tt & lit≤ tt & lit≤ tt & lit≤ tt & lit≤ tt & lit≤ tt & lit≤ tt & lit≤ tt & lit≤ tt & lit≤ tt & lit≤ tt & lit≤ tt & lit≤ tt & lit≤ tt & lit≤ tt & lit≤ tt & lit≤ tt & lit≤ tt & lit≤ tt & lit≤ tt & lit≤ tt & lit≤ tt) k (omega arith)
+pub place-small : (k : ℕ) → k < 24 → givenPlace k < 8
+place-small k h =
+    each (λ k. givenPlace k < 8) 24
+    (tt & lit≤ tt & lit≤ tt & lit≤ tt & lit≤ tt & lit≤ tt & lit≤ tt & lit≤ tt & lit≤ tt & lit≤ tt & lit≤ tt & lit≤ tt & lit≤ tt &
+    lit≤ tt & lit≤ tt & lit≤ tt & lit≤ tt & lit≤ tt & lit≤ tt & lit≤ tt & lit≤ tt & lit≤ tt & lit≤ tt & lit≤ tt & lit≤ tt) k h
 
 pub count-all : (k m h : ℕ) → h ≡ operandCount k → h ≡ 2 → m ≡ countOf k m
 count-all k m h e z = let q : eqb (operandCount k) 2 ≡ true = eq-eqb (operandCount k) 2 (sym e ∙ z) in rw q refl
 
-pub count-own : (k m h : ℕ) → k ≤ 22 → h ≡ operandCount k → (h ≡ 2 → ⊥) → (h ≡ countOf k m) × (h ≤ 65535)
+pub count-own : (k m h : ℕ) → k < 24 → h ≡ operandCount k → (h ≡ 2 → ⊥) → (h ≡ countOf k m) × (h ≤ 65535)
 count-own k m h l e z =
     let q : eqb (operandCount k) 2 ≡ false = ne-eqb (operandCount k) 2 (λ w. z (e ∙ w)) in
-    let b : operandCount k ≤ 2 = each (λ k. operandCount k ≤ 2) 23 (tt & lit≤ tt & lit≤ tt & lit≤ tt & lit≤ tt & lit≤ tt & lit≤ tt &
-    lit≤ tt & lit≤ tt & lit≤ tt & lit≤ tt & lit≤ tt & lit≤ tt & lit≤ tt & lit≤ tt & lit≤ tt & lit≤ tt & lit≤ tt & lit≤ tt & lit≤ tt &
-    lit≤ tt & lit≤ tt & lit≤ tt & lit≤ tt) k (omega arith) in
+    let b : operandCount k ≤ 2 = each (λ k. operandCount k ≤ 2) 24
+    (tt & lit≤ tt & lit≤ tt & lit≤ tt & lit≤ tt & lit≤ tt & lit≤ tt & lit≤ tt & lit≤ tt & lit≤ tt & lit≤ tt & lit≤ tt & lit≤ tt &
+    lit≤ tt & lit≤ tt & lit≤ tt & lit≤ tt & lit≤ tt & lit≤ tt & lit≤ tt & lit≤ tt & lit≤ tt & lit≤ tt & lit≤ tt & lit≤ tt) k l in
     (rw q e, omega arith)
 
 -- what an instruction names, by the code k that the tables of codes have for it
 module _ (ι : List ℕ) (ω : OperandTable) (j : ℕ) where
-  abbrev code : ℕ → ℕ
-  code k = min k 22
-
-  given-at : names (instrAt ι ω j) .valueRows ≡ cond (eqb (givenPlace (code (cell 8 ι j 0))) 0) [] (cell 8 ι j (givenPlace (code (cell 8 ι j 0))) ∷ [])
+  given-at : names (instrAt ι ω j) .valueRows ≡ cond (eqb (givenPlace (codeOf (cell 8 ι j 0))) 0) [] (cell 8 ι j (givenPlace (codeOf (cell 8 ι j 0))) ∷ [])
   unfolding instrAt names
   given-at =
-      instr-cases (λ k x. names x .valueRows ≡ cond (eqb (givenPlace (code k)) 0) [] (cell 8 ι j (givenPlace (code k)) ∷ [])) ω (cell 8 ι j 1) (cell 8 ι j 2) (cell 8 ι j 3) (cell 8 ι j 4) (cell 8 ι j 5) (cell 8 ι j 6)
-      (tt & refl & refl & refl & refl & refl & refl & refl & refl & refl & refl & refl & refl & refl & refl & refl & refl & refl & refl & refl & refl & refl & refl)
-      (λ k l. let e : min k 22 ≡ 22 = omega arith in rw e refl)
+      instr-cases (λ k x. names x .valueRows ≡ cond (eqb (givenPlace (codeOf k)) 0) [] (cell 8 ι j (givenPlace (codeOf k)) ∷ [])) ω (cell 8 ι j 1) (cell 8 ι j 2) (cell 8 ι j 3) (cell 8 ι j 4) (cell 8 ι j 5) (cell 8 ι j 6)
+      (tt & refl & refl & refl & refl & refl & refl & refl & refl & refl & refl & refl & refl & refl & refl & refl & refl & refl & refl & refl & refl & refl & refl & refl & refl)
+      (λ k l. rw (le-ltb k 24 l) refl)
       (cell 8 ι j 0)
 
-  operands-at : names (instrAt ι ω j) .operands ≡ operandsAt ω (cell 8 ι j 5) (countOf (code (cell 8 ι j 0)) (cell 8 ι j 6))
+  operands-at : names (instrAt ι ω j) .operands ≡ operandsAt ω (cell 8 ι j 5) (countOf (codeOf (cell 8 ι j 0)) (cell 8 ι j 6))
   unfolding instrAt names operandsAt
   operands-at =
-      instr-cases (λ k x. names x .operands ≡ operandsAt ω (cell 8 ι j 5) (countOf (code k) (cell 8 ι j 6))) ω (cell 8 ι j 1) (cell 8 ι j 2) (cell 8 ι j 3) (cell 8 ι j 4) (cell 8 ι j 5) (cell 8 ι j 6)
-      (tt & refl & refl & refl & refl & refl & refl & refl & refl & refl & refl & refl & refl & refl & refl & refl & refl & refl & refl & refl & refl & refl & refl)
-      (λ k l. let e : min k 22 ≡ 22 = omega arith in rw e refl)
+      instr-cases (λ k x. names x .operands ≡ operandsAt ω (cell 8 ι j 5) (countOf (codeOf k) (cell 8 ι j 6))) ω (cell 8 ι j 1) (cell 8 ι j 2) (cell 8 ι j 3) (cell 8 ι j 4) (cell 8 ι j 5) (cell 8 ι j 6)
+      (tt & refl & refl & refl & refl & refl & refl & refl & refl & refl & refl & refl & refl & refl & refl & refl & refl & refl & refl & refl & refl & refl & refl & refl & refl)
+      (λ k l. rw (le-ltb k 24 l) refl)
       (cell 8 ι j 0)
 
-  given-none : (k g : ℕ) → k ≡ code (cell 8 ι j 0) → g ≡ givenPlace k → g ≡ 0 → names (instrAt ι ω j) .valueRows ≡ []
+  given-none : (k g : ℕ) → k ≡ codeOf (cell 8 ι j 0) → g ≡ givenPlace k → g ≡ 0 → names (instrAt ι ω j) .valueRows ≡ []
   given-none k g ek eg z =
-      let q : eqb (givenPlace (code (cell 8 ι j 0))) 0 ≡ true = eq-eqb _ 0 (ap givenPlace (sym ek) ∙ (sym eg ∙ z)) in
-      given-at ∙ ap (λ (b : Bool). cond b [] (cell 8 ι j (givenPlace (code (cell 8 ι j 0))) ∷ [])) q
+      let q : eqb (givenPlace (codeOf (cell 8 ι j 0))) 0 ≡ true = eq-eqb _ 0 (ap givenPlace (sym ek) ∙ (sym eg ∙ z)) in
+      given-at ∙ ap (λ (b : Bool). cond b [] (cell 8 ι j (givenPlace (codeOf (cell 8 ι j 0))) ∷ [])) q
 
-  given-some : (k g t : ℕ) → k ≡ code (cell 8 ι j 0) → g ≡ givenPlace k → (g ≡ 0 → ⊥) → t ≡ cell 8 ι j g → names (instrAt ι ω j) .valueRows ≡ t ∷ []
+  given-some : (k g t : ℕ) → k ≡ codeOf (cell 8 ι j 0) → g ≡ givenPlace k → (g ≡ 0 → ⊥) → t ≡ cell 8 ι j g → names (instrAt ι ω j) .valueRows ≡ t ∷ []
   given-some k g t ek eg z et =
-      let e : g ≡ givenPlace (code (cell 8 ι j 0)) = eg ∙ ap givenPlace ek in
-      let q : eqb (givenPlace (code (cell 8 ι j 0))) 0 ≡ false = ne-eqb _ 0 (λ w. z (e ∙ w)) in
-      given-at ∙ (ap (λ (b : Bool). cond b [] (cell 8 ι j (givenPlace (code (cell 8 ι j 0))) ∷ [])) q ∙ ap (λ (x : ℕ). x ∷ []) (sym (et ∙ ap (cell 8 ι j) e)))
+      let e : g ≡ givenPlace (codeOf (cell 8 ι j 0)) = eg ∙ ap givenPlace ek in
+      let q : eqb (givenPlace (codeOf (cell 8 ι j 0))) 0 ≡ false = ne-eqb _ 0 (λ w. z (e ∙ w)) in
+      given-at ∙ (ap (λ (b : Bool). cond b [] (cell 8 ι j (givenPlace (codeOf (cell 8 ι j 0))) ∷ [])) q ∙ ap (λ (x : ℕ). x ∷ []) (sym (et ∙ ap (cell 8 ι j) e)))
 
-  operands-by : (k c v m : ℕ) → k ≡ code (cell 8 ι j 0) → c ≡ cell 8 ι j 6 → v ≡ cell 8 ι j 5 → m ≡ countOf k c → operandsAt ω v m ≡ names (instrAt ι ω j) .operands
+  operands-by : (k c v m : ℕ) → k ≡ codeOf (cell 8 ι j 0) → c ≡ cell 8 ι j 6 → v ≡ cell 8 ι j 5 → m ≡ countOf k c → operandsAt ω v m ≡ names (instrAt ι ω j) .operands
   operands-by k c v m ek ec ev em = ap₂ (operandsAt ω) ev (em ∙ ap₂ countOf ek ec) ∙ sym operands-at
 
 -- the least fault of an instruction is that of its row t and of its operands
@@ -207,14 +229,14 @@ module _ (rs ps : List ℕ) (n nb : ℕ) where
       turn a b c = sym (least-assoc a b c) ∙ (ap (λ (y : ℕ). least y c) (least-comm a b) ∙ least-assoc b a c)
 
   module _ (ι : List ℕ) (ω : OperandTable) (j : ℕ) where
-    pub instr-bare : (k c v m g f : ℕ) → k ≡ min (cell 8 ι j 0) 22 → c ≡ cell 8 ι j 6 → v ≡ cell 8 ι j 5 → m ≡ countOf k c → g ≡ givenPlace k → g ≡ 0 → f ≡ operandsLeast rs n nb (operandsAt ω v m) → f ≡ leastOf (instrFaults (rowsIn (tab rs ps) n) nb (instrAt ι ω j))
+    pub instr-bare : (k c v m g f : ℕ) → k ≡ codeOf (cell 8 ι j 0) → c ≡ cell 8 ι j 6 → v ≡ cell 8 ι j 5 → m ≡ countOf k c → g ≡ givenPlace k → g ≡ 0 → f ≡ operandsLeast rs n nb (operandsAt ω v m) → f ≡ leastOf (instrFaults (rowsIn (tab rs ps) n) nb (instrAt ι ω j))
     unfolding refsLeast least
     instr-bare k c v m g f ek ec ev em eg z ef =
         ef ∙ (ap (operandsLeast rs n nb) (operands-by ι ω j k c v m ek ec ev em)
         ∙ (ap (λ (l : List ℕ). least (refsLeast rs n (map (ref valueRow) l)) (operandsLeast rs n nb (names (instrAt ι ω j) .operands))) (sym (given-none ι ω j k g ek eg z))
         ∙ sym (instr-least (instrAt ι ω j))))
 
-    pub instr-given : (k c v m g f t y out : ℕ) → k ≡ min (cell 8 ι j 0) 22 → c ≡ cell 8 ι j 6 → v ≡ cell 8 ι j 5 → m ≡ countOf k c
+    pub instr-given : (k c v m g f t y out : ℕ) → k ≡ codeOf (cell 8 ι j 0) → c ≡ cell 8 ι j 6 → v ≡ cell 8 ι j 5 → m ≡ countOf k c
         → g ≡ givenPlace k → (g ≡ 0 → ⊥) → f ≡ operandsLeast rs n nb (operandsAt ω v m) → t ≡ cell 8 ι j g → y ≡ refLeast rs n valueRow t
         → out ≡ least y f → out ≡ leastOf (instrFaults (rowsIn (tab rs ps) n) nb (instrAt ι ω j))
     instr-given k c v m g f t y out ek ec ev em eg z ef et ey o =

@@ -14,7 +14,7 @@ use Rattle.syntax.proofs.Least.{least, leastOf, least-none, least-assoc, least-
 use Rattle.tables.specs.Tables.{cell, span, knownOf, RowTable, codeRowAt, rowFrom, rowAt, rowsIn}
 use Rattle.tables.proofs.Cases.{_&_, row-last, row-cases}
 use Rattle.tables.proofs.Steps.{length-rows, row-in, span-step}
-use Rattle.types.specs.Rows.{Sort, valueRow, stackRow, codeRow, anyRow, isValue, isCode, isOf, Ref, ref, rowsIn as rowsNamed, knownRefs, rowRefs, isSort, allBelow, allOfSort, sizeOf, refsFaults}
+use Rattle.types.specs.Rows.{Sort, valueRow, stackRow, codeRow, hiddenRow, anyRow, isValue, isCode, isHidden, isOf, Ref, ref, rowsIn as rowsNamed, knownRefs, rowRefs, isSort, allBelow, allOfSort, sizeOf, refsFaults}
 use Rattle.types.proofs.PassTwo.{rowFaultsBy}
 use Rattle.types_rows.specs.Read.{tab}
 use Rattle.types_pass_two.specs.row_refs.Rows.{rowRefsFaults}
@@ -23,21 +23,27 @@ use Rattle.types_pass_two.specs.declared.row_refs.Part.{Part}
 use Rattle.types_pass_two.specs.declared.row_refs.Part.the-variants.{Component, Register, Argument}
 
 -- ---- the sort of a row by its kind
-value-kind : (ps : List ℕ) (k a b : ℕ) → isValue (rowFrom ps k a b) ≡ ltb k 6
+value-kind : (ps : List ℕ) (k a b : ℕ) → isValue (rowFrom ps k a b) ≡ ltb k 7
 unfolding rowFrom isValue codeRowAt
 value-kind ps k a b =
-    row-cases (λ k r. isValue r ≡ ltb k 6) ps a b (tt & refl & refl & refl & refl & refl & refl & refl & refl & refl) (λ k l. sym (le-ltb k 6 (omega arith))) k
+    row-cases (λ k r. isValue r ≡ ltb k 7) ps a b (tt & refl & refl & refl & refl & refl & refl & refl & refl & refl & refl) (λ k l. sym (le-ltb k 7 (omega arith))) k
 
 code-kind : (ps : List ℕ) (k a b : ℕ) → isCode (rowFrom ps k a b) ≡ eqb k 5
 unfolding rowFrom isCode codeRowAt
 code-kind ps k a b =
-    row-cases (λ k r. isCode r ≡ eqb k 5) ps a b (tt & refl & refl & refl & refl & refl & refl & refl & refl & refl) (λ k l. sym (ne-eqb k 5 (λ q. absurd (omega arith)))) k
+    row-cases (λ k r. isCode r ≡ eqb k 5) ps a b (tt & refl & refl & refl & refl & refl & refl & refl & refl & refl & refl) (λ k l. sym (ne-eqb k 5 (λ q. absurd (omega arith)))) k
+
+hidden-kind : (ps : List ℕ) (k a b : ℕ) → isHidden (rowFrom ps k a b) ≡ eqb k 6
+unfolding rowFrom isHidden codeRowAt
+hidden-kind ps k a b =
+    row-cases (λ k r. isHidden r ≡ eqb k 6) ps a b (tt & refl & refl & refl & refl & refl & refl & refl & refl & refl & refl) (λ k l. sym (ne-eqb k 6 (λ q. absurd (omega arith)))) k
 
 sort-kind : (τ : RowTable) (s : Sort) (t : ℕ) → isOf s (rowAt τ t) ≡ kindFits s (cell 4 (τ .rows) t 0)
 unfolding isOf rowAt
 sort-kind τ valueRow t = value-kind (τ .parts) _ _ _
 sort-kind τ stackRow t = ap not (value-kind (τ .parts) _ _ _)
 sort-kind τ codeRow t = code-kind (τ .parts) _ _ _
+sort-kind τ hiddenRow t = hidden-kind (τ .parts) _ _ _
 sort-kind τ anyRow t = refl
 
 -- ---- references
@@ -188,33 +194,38 @@ module _ (rs ps : List ℕ) (r : ℕ) where
   unfolding rowFrom rowRefs
   row-pointer k a b out e o = rw e (o ∙ sym (one-ref rs r stackRow a))
 
+  pub row-hidden : (k a b out : ℕ) → k ≡ 6 → out ≡ refLeast rs r valueRow a → out ≡ refsLeast rs r (rowRefs (rowFrom ps k a b))
+  unfolding rowFrom rowRefs
+  row-hidden k a b out e o = rw e (o ∙ sym (one-ref rs r valueRow a))
+
   pub row-code : (k a b x y out : ℕ) → k ≡ 5 → x ≡ refLeast rs r stackRow a → y ≡ refsLeast rs r (listRefs Register (span ps b 8)) → out ≡ least x y → out ≡ refsLeast rs r (rowRefs (rowFrom ps k a b))
   unfolding rowFrom rowRefs codeRowAt refsLeast
   row-code k a b x y out e ex ey o = rw e (o ∙ ap₂ least ex (ey ∙ ap (refsLeast rs r) (registers (span ps b 8))))
 
-  pub row-push : (k a b x y out : ℕ) → k ≡ 8 → x ≡ refLeast rs r valueRow a → y ≡ refLeast rs r stackRow b → out ≡ least x y → out ≡ refsLeast rs r (rowRefs (rowFrom ps k a b))
+  pub row-push : (k a b x y out : ℕ) → k ≡ 9 → x ≡ refLeast rs r valueRow a → y ≡ refLeast rs r stackRow b → out ≡ least x y → out ≡ refsLeast rs r (rowRefs (rowFrom ps k a b))
   unfolding rowFrom rowRefs refsLeast
   row-push k a b x y out e ex ey o = rw e (o ∙ ap₂ least ex (ey ∙ sym (one-ref rs r stackRow b)))
 
-  pub row-join : (k a b x y out : ℕ) → 8 < k → x ≡ refLeast rs r stackRow a → y ≡ refLeast rs r stackRow b → out ≡ least x y → out ≡ refsLeast rs r (rowRefs (rowFrom ps k a b))
+  pub row-join : (k a b x y out : ℕ) → 9 < k → x ≡ refLeast rs r stackRow a → y ≡ refLeast rs r stackRow b → out ≡ least x y → out ≡ refsLeast rs r (rowRefs (rowFrom ps k a b))
   unfolding rowRefs refsLeast
   row-join k a b x y out l ex ey o = o ∙ (ap₂ least ex (ey ∙ sym (one-ref rs r stackRow b)) ∙ ap (λ (w : Row). refsLeast rs r (rowRefs w)) (sym (row-last ps k a b l)))
 
-  pub row-leaf : (k a b : ℕ) → (k ≡ 3 → ⊥) → (k ≡ 4 → ⊥) → (k ≡ 5 → ⊥) → (k ≡ 8 → ⊥) → k ≤ 8 → 0 ≡ refsLeast rs r (rowRefs (rowFrom ps k a b))
+  pub row-leaf : (k a b : ℕ) → (k ≡ 3 → ⊥) → (k ≡ 4 → ⊥) → (k ≡ 5 → ⊥) → (k ≡ 6 → ⊥) → (k ≡ 9 → ⊥) → k ≤ 9 → 0 ≡ refsLeast rs r (rowRefs (rowFrom ps k a b))
   unfolding rowFrom rowRefs refsLeast
   row-leaf k a b =
-      row-cases (λ k w. (k ≡ 3 → ⊥) → (k ≡ 4 → ⊥) → (k ≡ 5 → ⊥) → (k ≡ 8 → ⊥) → k ≤ 8 → 0 ≡ refsLeast rs r (rowRefs w)) ps a b
+      row-cases (λ k w. (k ≡ 3 → ⊥) → (k ≡ 4 → ⊥) → (k ≡ 5 → ⊥) → (k ≡ 6 → ⊥) → (k ≡ 9 → ⊥) → k ≤ 9 → 0 ≡ refsLeast rs r (rowRefs w)) ps a b
       (tt
-      & (λ t u c p l. refl)
-      & (λ t u c p l. refl)
-      & (λ t u c p l. refl)
-      & (λ t u c p l. absurd (t refl))
-      & (λ t u c p l. absurd (u refl))
-      & (λ t u c p l. absurd (c refl))
-      & (λ t u c p l. refl)
-      & (λ t u c p l. refl)
-      & (λ t u c p l. absurd (p refl)))
-      (λ k h t u c p l. absurd (omega arith))
+      & (λ t u c h p l. refl)
+      & (λ t u c h p l. refl)
+      & (λ t u c h p l. refl)
+      & (λ t u c h p l. absurd (t refl))
+      & (λ t u c h p l. absurd (u refl))
+      & (λ t u c h p l. absurd (c refl))
+      & (λ t u c h p l. absurd (h refl))
+      & (λ t u c h p l. refl)
+      & (λ t u c h p l. refl)
+      & (λ t u c h p l. absurd (p refl)))
+      (λ k m t u c h p l. absurd (omega arith))
       k
 
 -- all faults of row r: 4 and 5 from its references, and its size

@@ -22,8 +22,12 @@ labelLeast nb k l = cond (ltb k 2) 0 (cond (ltb l nb) 0 4)
 unfoldable pub operandsLeast : List ℕ → ℕ → ℕ → List Operand → ℕ
 operandsLeast rs n nb vs = least (cond (allBelow nb (labels vs)) 0 4) (refsLeast rs n (operandsRefs vs))
 
--- what an instruction names, by its code (add to halt): which of its entries is its row t, 0 for none; and its operands, 0 for none, 1 for
--- one, 2 for as many as it says
+-- the code k of an instruction; one past the last (unpack) counts as halt
+abbrev pub codeOf : ℕ → ℕ
+codeOf k = cond (ltb k 24) k 22
+
+-- what an instruction names, by its code (add to unpack): which of its entries is its row t, 0 for none; and its operands, 0 for none, 1
+-- for one, 2 for as many as it says
 abbrev pub instrNames : List (List ℕ)
 instrNames =
     (0 ∷ 1 ∷ [])
@@ -49,6 +53,7 @@ instrNames =
     ∷ (4 ∷ 0 ∷ [])
     ∷ (0 ∷ 1 ∷ [])
     ∷ (1 ∷ 0 ∷ [])
+    ∷ (0 ∷ 1 ∷ [])
     ∷ []
 
 -- which entry of an instruction with the code k is its row t

@@ -5,15 +5,16 @@ use mathlib.Core.List.{List, [], _∷_, _++_}
 use lib.Dec.{eqb, ltb}
 use Rattle.syntax.proofs.Least.{least}
 use Rattle.tables.specs.Tables.{cell}
-use Rattle.types.specs.Rows.{Sort, valueRow, stackRow, codeRow, anyRow, Ref, ref}
+use Rattle.types.specs.Rows.{Sort, valueRow, stackRow, codeRow, hiddenRow, anyRow, Ref, ref}
 use Rattle.types_pass_two.specs.declared.row_refs.Part.{Part}
 use Rattle.types_pass_two.specs.declared.row_refs.Part.the-variants.{Component, Register, Argument}
 
 -- which kinds of rows are of a sort
 abbrev pub kindFits : Sort → ℕ → Bool
-kindFits valueRow k = ltb k 6
-kindFits stackRow k = not (ltb k 6)
+kindFits valueRow k = ltb k 7
+kindFits stackRow k = not (ltb k 7)
 kindFits codeRow k = eqb k 5
+kindFits hiddenRow k = eqb k 6
 kindFits anyRow k = true
 
 -- row t, which is to be one of the first n and of the sort s

@@ -17,7 +17,7 @@ use Rattle.tables.specs.Tables.{RowTable, cell, rowAt, rowsFrom, rowsIn}
 use Rattle.types_rows.specs.declared.Val.the-variants.{ValVar}
 use Rattle.types_rows.specs.declared.Stk.{Stk}
 use Rattle.types_rows.specs.declared.Stk.the-variants.{Nil, StkVar, StkFill, Push, Join}
-use Rattle.types_rows.specs.Read.{tab, valueAt, stackAt, isStackAt, placeS, buildV, buildS, valueTo, stackTo, meanV, meanS, itemsAt}
+use Rattle.types_rows.specs.Read.{tab, valueAt, stackAt, isStackAt, placeS, lift, buildV, buildS, valueTo, stackTo, meanV, meanS, itemsAt}
 use Rattle.types_rows.proofs.Laws.{LowS, lowS-at, plain-stack, stack-is}
 use Rattle.types_rows.proofs.Bridge.{kind-value, counted-from}
 use Rattle.types_rows.specs.size.Size.{underS, sizeAt}
@@ -27,7 +27,7 @@ use Rattle.types_rows.proofs.measure.Sizes.{size-in}
 
 -- ---- the count of a row, by the counts of lower rows
 module _ (τ : RowTable) where
-  pub count-by : (h : ℕ) {n k : Stk} → n ≡ stackAt (τ .rows) (placeS 0 0 0) h → n ≡ k → items (buildS (meanV τ) (meanS τ) k) ≡ items (meanS τ h)
+  pub count-by : (h : ℕ) {n k : Stk} → n ≡ stackAt (τ .rows) (placeS 0 (lift 0) 0) h → n ≡ k → items (buildS (meanV τ) (meanS τ) k) ≡ items (meanS τ h)
   count-by h e f = sym (ap items (stack-is τ h ∙ ap (buildS (meanV τ) (meanS τ)) (sym (plain-stack (τ .rows) h) ∙ sym e ∙ f)))
 
   pub count-nil : {n : ℕ} → items nil ≡ n → 0 ≡ n
@@ -66,7 +66,7 @@ module _ (τ : RowTable) where
           let q : items (meanS τ (suc r)) ≡ items (buildS (meanV τ) (meanS τ) (stackAt (τ .rows) StkVar (suc r))) = ap items (stack-is τ (suc r)) in
           omega arith
       go false e i =
-          let q : items (meanS τ (suc r)) ≡ 0 = ap items (stack-is τ (suc r) ∙ ap (buildS (meanV τ) (meanS τ)) (kind-value τ (cell 4 (τ .rows) r 0) (cell 4 (τ .rows) r 1) (cell 4 (τ .rows) r 2) (suc r) (leb-false 6 (cell 4 (τ .rows) r 0) e))) in
+          let q : items (meanS τ (suc r)) ≡ 0 = ap items (stack-is τ (suc r) ∙ ap (buildS (meanV τ) (meanS τ)) (kind-value τ (cell 4 (τ .rows) r 0) (cell 4 (τ .rows) r 1) (cell 4 (τ .rows) r 2) (suc r) (leb-false 7 (cell 4 (τ .rows) r 0) e))) in
           omega arith
 
   pub items-size : (h : ℕ) → items (meanS τ h) ≤ sizeAt τ h

@@ -15,7 +15,7 @@ use Rattle.tables.specs.Tables.{RowTable, cell, span, knownOf, codeRowAt, rowFr
 use Rattle.types_rows.specs.declared.Val.the-variants.{ValVar}
 use Rattle.types_rows.specs.declared.Stk.the-variants.{StkVar}
 use Rattle.types_rows.specs.Read.{lower, valueWith, stackWith, slotAt}
-use Rattle.types_rows.proofs.Bridge.{row-nine, stack-nine, rows-snoc}
+use Rattle.types_rows.proofs.Bridge.{row-ten, stack-ten, rows-snoc}
 use Rattle.types_rows.specs.size.Size.{slotSize, partsSize, underV, underS, sizeAt, Measured}
 use Rattle.types_rows.proofs.size.Laws.{size-none, size-is}
 
@@ -53,7 +53,7 @@ module _ (τ : RowTable) (S : List ℕ) (n : ℕ) (ts : (x : ℕ) → getD S x 0
       go (suc t) e = ap₂ _+_ (ts t) e
 
   abbrev formed : ℕ → ℕ → ℕ → ℕ
-  formed k a b = cond (leb 6 k) (underS (sizeAt τ) (stackWith StkVar (suc n) k a b)) (underV (sizeAt τ) (τ .parts) (suc n) (valueWith ValVar (suc n) k a b))
+  formed k a b = cond (leb 7 k) (underS (sizeAt τ) (stackWith StkVar (suc n) k a b)) (underV (sizeAt τ) (τ .parts) (suc n) (valueWith ValVar (suc n) k a b))
 
   two-size : (a b : ℕ) → getD S a 0 + (getD S b 0 + 0) ≡ sizeAt τ (lower (suc n) a) + sizeAt τ (lower (suc n) b)
   two-size a b = let p = ts a in let q = ts b in omega arith
@@ -61,9 +61,9 @@ module _ (τ : RowTable) (S : List ℕ) (n : ℕ) (ts : (x : ℕ) → getD S x 0
   one-size : (a : ℕ) → getD S a 0 + 0 ≡ sizeAt τ (lower (suc n) a)
   one-size a = let p = ts a in omega arith
 
-  row-high : (k a b : ℕ) → 9 ≤ k → total S (rowRefs (rowFrom (τ .parts) k a b)) ≡ formed k a b
+  row-high : (k a b : ℕ) → 10 ≤ k → total S (rowRefs (rowFrom (τ .parts) k a b)) ≡ formed k a b
   unfolding total rowRefs
-  row-high k a b h = rw (le-leb 6 k (omega arith), row-nine (τ .parts) k a b h, stack-nine (suc n) k a b h) (two-size a b)
+  row-high k a b h = rw (le-leb 7 k (omega arith), row-ten (τ .parts) k a b h, stack-ten (suc n) k a b h) (two-size a b)
 
   row-sized : (k a b : ℕ) → total S (rowRefs (rowFrom (τ .parts) k a b)) ≡ formed k a b
   unfolding total rowRefs rowFrom codeRowAt valueWith stackWith
@@ -73,10 +73,11 @@ module _ (τ : RowTable) (S : List ℕ) (n : ℕ) (ts : (x : ℕ) → getD S x 0
   row-sized (suc (suc (suc zero))) a b = components-size a b
   row-sized (suc (suc (suc (suc zero)))) a b = one-size a
   row-sized (suc (suc (suc (suc (suc zero))))) a b = ap₂ _+_ (ts a) (registers-size b 8)
-  row-sized (suc (suc (suc (suc (suc (suc zero)))))) a b = refl
+  row-sized (suc (suc (suc (suc (suc (suc zero)))))) a b = one-size a
   row-sized (suc (suc (suc (suc (suc (suc (suc zero))))))) a b = refl
-  row-sized (suc (suc (suc (suc (suc (suc (suc (suc zero)))))))) a b = two-size a b
-  row-sized (suc (suc (suc (suc (suc (suc (suc (suc (suc k))))))))) a b = row-high (suc (suc (suc (suc (suc (suc (suc (suc (suc k))))))))) a b (omega arith)
+  row-sized (suc (suc (suc (suc (suc (suc (suc (suc zero)))))))) a b = refl
+  row-sized (suc (suc (suc (suc (suc (suc (suc (suc (suc zero))))))))) a b = two-size a b
+  row-sized (suc (suc (suc (suc (suc (suc (suc (suc (suc (suc k)))))))))) a b = row-high (suc (suc (suc (suc (suc (suc (suc (suc (suc (suc k)))))))))) a b (omega arith)
 
 module _ (τ : RowTable) where
   abbrev Sized : ℕ → Type 0

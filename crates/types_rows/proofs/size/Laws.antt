@@ -9,12 +9,12 @@ use native.Mathlib.Numerals.{add-one}
 use lib.ListN.{getD}
 use Rattle.tables.specs.Tables.{RowTable}
 use Rattle.types_rows.specs.declared.Val.{Val}
-use Rattle.types_rows.specs.declared.Val.the-variants.{Int, Junk, ValVar, ValFill, Tuple, Pointer, Code}
+use Rattle.types_rows.specs.declared.Val.the-variants.{Int, Junk, ValVar, ValFill, Tuple, Pointer, Code, Hidden}
 use Rattle.types_rows.specs.declared.Stk.{Stk}
 use Rattle.types_rows.specs.declared.Stk.the-variants.{Nil, StkVar, StkFill, Push, Join}
 use Rattle.types_rows.specs.declared.Slot.{Slot}
 use Rattle.types_rows.specs.declared.Slot.the-variants.{Gap, Known}
-use Rattle.types_rows.specs.Read.{valueAt, stackAt, isStackAt, slotAt, placeV, placeS, OkV, OkSlot}
+use Rattle.types_rows.specs.Read.{valueAt, stackAt, isStackAt, slotAt, placeV, placeS, lift, OkV, OkSlot}
 use Rattle.types_rows.proofs.Laws.{LowV, LowS, lowV-at, lowS-at, slot-low, plain-value, plain-stack}
 use Rattle.types_rows.specs.size.Size.{Measured, slotSize, slotRow, partsSize, underV, underS, sizeTo, sizeAt}
 
@@ -37,6 +37,7 @@ module _ (h : ℕ) (f g : ℕ → ℕ) (e : (x : ℕ) → x < h → f x ≡ g x)
   same-underV ps (Tuple p n) l = same-parts ps false p n l
   same-underV ps (Pointer x) l = e x l
   same-underV ps (Code x p) l = ap₂ _+_ (e x l) (same-parts ps true p 8 (omega arith))
+  same-underV ps (Hidden x) l = e x l
 
   same-underS : (n : Stk) → LowS h n → underS f n ≡ underS g n
   same-underS Nil l = refl
@@ -103,10 +104,10 @@ module _ (τ : RowTable) where
   spent-known sizes h left m e z g = g ∙ ap (λ x. left - x) (e ∙ m h (λ q. z (e ∙ q)))
 
   -- the forms that the readers answer
-  pub under-value : (h : ℕ) {n k : Val} → n ≡ valueAt (τ .rows) (placeV 0 0 0) h → n ≡ k → underV (sizeAt τ) (τ .parts) h (valueAt (τ .rows) ValVar h) ≡ underV (sizeAt τ) (τ .parts) h k
+  pub under-value : (h : ℕ) {n k : Val} → n ≡ valueAt (τ .rows) (placeV 0 (lift 0) 0) h → n ≡ k → underV (sizeAt τ) (τ .parts) h (valueAt (τ .rows) ValVar h) ≡ underV (sizeAt τ) (τ .parts) h k
   under-value h e f = ap (underV (sizeAt τ) (τ .parts) h) (sym (plain-value (τ .rows) h) ∙ sym e ∙ f)
 
-  pub under-stack : (h : ℕ) {n k : Stk} → n ≡ stackAt (τ .rows) (placeS 0 0 0) h → n ≡ k → underS (sizeAt τ) (stackAt (τ .rows) StkVar h) ≡ underS (sizeAt τ) k
+  pub under-stack : (h : ℕ) {n k : Stk} → n ≡ stackAt (τ .rows) (placeS 0 (lift 0) 0) h → n ≡ k → underS (sizeAt τ) (stackAt (τ .rows) StkVar h) ≡ underS (sizeAt τ) k
   under-stack h e f = ap (underS (sizeAt τ)) (sym (plain-stack (τ .rows) h) ∙ sym e ∙ f)
 
   -- parts p + i to p + n are left, and `rest` of `left` then

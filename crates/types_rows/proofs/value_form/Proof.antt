@@ -1,6 +1,7 @@
 use mathlib.Core.Path.{_∙_}
 use borrow.Author.Tests.{eq-eqb, ne-eqb}
 use Rattle.types_rows.specs.Read.{valueWith}
+use Rattle.types_rows.specs.Environments.{shifted}
 use Rattle.types_rows.proofs.Laws.{ok-placed, lower-low}
 use borrow.Author.Needs.{needs}
 use Rattle.types_rows.proofs.value_form.Statement.{statement}
@@ -16,7 +17,7 @@ returns-2 c =
     let y : tie.Then2 = search in
     let n : tie.Else1 = search in
     let s : tie.Start = search in
-    (c .place-value .ensures .0 ∙ simp (ne-eqb _ _ (n .if1 .left), eq-eqb _ _ (y .if2 .taken)), ok-placed _ _ (s .args .by) (s .args .d) (s .args .a) (c .place-value .ensures .0) (search))
+    (c .place-value .ensures .0 ∙ simp (ne-eqb _ _ (n .if1 .left), eq-eqb _ _ (y .if2 .taken)), ok-placed _ _ (shifted (s .args .envs .now) (s .args .c .env) (s .args .c .by)) (s .args .c .d) (s .args .a) (c .place-value .ensures .0) (search))
 
 returns-3 : tie.Need-returns-3
 unfolding valueWith
@@ -47,12 +48,25 @@ returns-5 c =
 returns-6 : tie.Need-returns-6
 unfolding valueWith
 returns-6 c =
+    let y : tie.Then6 = search in
+    let n5 : tie.Else5 = search in
     let n4 : tie.Else4 = search in
     let n3 : tie.Else3 = search in
     let n2 : tie.Else2 = search in
     let n : tie.Else1 = search in
-    (simp (ne-eqb _ _ (n .if1 .left), ne-eqb _ _ (n2 .if2 .left), ne-eqb _ _ (n3 .if3 .left), ne-eqb _ _ (n4 .if4 .left), ne-eqb _ _ (c .if5 .left)), tt)
+    (simp (ne-eqb _ _ (n .if1 .left), ne-eqb _ _ (n2 .if2 .left), ne-eqb _ _ (n3 .if3 .left), ne-eqb _ _ (n4 .if4 .left), ne-eqb _ _ (n5 .if5 .left), eq-eqb _ _ (y .if6 .taken), c .link3 .ensures), rw (c .link3 .ensures) (lower-low _ _ (search)))
+
+returns-7 : tie.Need-returns-7
+unfolding valueWith
+returns-7 c =
+    let n5 : tie.Else5 = search in
+    let n4 : tie.Else4 = search in
+    let n3 : tie.Else3 = search in
+    let n2 : tie.Else2 = search in
+    let n : tie.Else1 = search in
+    (simp (ne-eqb _ _ (n .if1 .left), ne-eqb _ _ (n2 .if2 .left), ne-eqb _ _ (n3 .if3 .left), ne-eqb _ _ (n4 .if4 .left), ne-eqb _ _ (n5 .if5 .left), ne-eqb _ _ (c .if6 .left)), tt)
 
 pub value-form-spec : {M : Type 1} → statement M
 value-form-spec =
-    tie.close (tie.spec returns (λ c κs. search) returns-2 returns-3 (λ c κs. search) returns-4 (λ c κs. search) returns-5 returns-6)
+    tie.close (tie.spec returns (λ c κs. search) returns-2 returns-3 (λ c κs. search) returns-4 (λ c κs. search) returns-5
+    (λ c κs. search) returns-6 returns-7)

@@ -7,7 +7,7 @@ use lib.ListN.{getD}
 use Rattle.tables.specs.Tables.{RowTable}
 use Rattle.types_rows.specs.Read.{valueAt, stackAt, isStackAt, slotAt}
 use Rattle.types_rows.specs.declared.Val.{Val}
-use Rattle.types_rows.specs.declared.Val.the-variants.{Int, Junk, ValVar, ValFill, Tuple, Pointer, Code}
+use Rattle.types_rows.specs.declared.Val.the-variants.{Int, Junk, ValVar, ValFill, Tuple, Pointer, Code, Hidden}
 use Rattle.types_rows.specs.declared.Stk.{Stk}
 use Rattle.types_rows.specs.declared.Stk.the-variants.{Nil, StkVar, StkFill, Push, Join}
 use Rattle.types_rows.specs.declared.Slot.{Slot}
@@ -37,6 +37,7 @@ underV s ps h (ValFill j) = 0
 underV s ps h (Tuple p n) = partsSize s ps false h p n
 underV s ps h (Pointer x) = s x
 underV s ps h (Code x p) = s x + partsSize s ps true h p 8
+underV s ps h (Hidden x) = s x
 
 -- the sizes of the rows that a stack row names
 abbrev pub underS : (ℕ → ℕ) → Stk → ℕ

@@ -8,7 +8,7 @@ pass-three-requires : tie.Need-pass-three-requires
 pass-three-requires c κs =
     let s : tie.Start = search in
     let q = s .pre in
-    (q .0, q .1, record { registers = zeros-long 8 8 (omega arith); items = zeros-long 64 64 (omega arith); work = q .2; pending = q .3 })
+    (q .0, q .1, record { registers = zeros-long 16 16 (omega arith); items = zeros-long 128 128 (omega arith); work = q .2; pending = q .3 })
 
 pub third-pass-spec : {M : Type 1} → statement M
 third-pass-spec =

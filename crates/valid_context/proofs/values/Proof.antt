@@ -4,7 +4,7 @@ use Prim.Native.Nat.{ℕ, _-_, _≤_, _<_}
 use native.Mathlib.Omega.{arith}
 use native.Mathlib.Nat.{sub-zero}
 use mathlib.Core.Path.{_≡_, sym, ap₂, _∙_}
-use lib.ListN.{getD}
+use Rattle.tables.specs.Tables.{cell}
 use Rattle.valid_context.specs.Context.{areValues}
 use Rattle.valid_context.proofs.Sp.{values-few, values-more, values-end, values-all, values-told}
 use Rattle.valid_context.proofs.values.Statement.{statement}
@@ -27,7 +27,7 @@ returns-2 c =
     let l : tie.At-loop Inv-loop μ-loop = search in
     let s : tie.Start Inv-loop μ-loop = search in
     let i : ℕ = l .loop .i in
-    let x : 1024 ≤ getD (s .args .sp .now) (s .args .d - i - 1) 0 = omega arith in
+    let x : 1024 ≤ cell 2 (s .args .sp .now) (s .args .d - i - 1) 0 = omega arith in
     values-told _ _ _ (sym (values-end _ _ _ _ (search) (search) x) ∙ l .loop .inv .1)
 
 loop-again : tie.Need-loop-again Inv-loop μ-loop
@@ -35,7 +35,7 @@ loop-again c =
     let l : tie.At-loop Inv-loop μ-loop = search in
     let s : tie.Start Inv-loop μ-loop = search in
     let i : ℕ = l .loop .i in
-    let x : getD (s .args .sp .now) (s .args .d - i - 1) 0 < 1024 = omega arith in
+    let x : cell 2 (s .args .sp .now) (s .args .d - i - 1) 0 < 1024 = omega arith in
     (omega arith, sym (values-more _ _ _ _ (search) (search) x) ∙ l .loop .inv .1)
 
 returns-3 : tie.Need-returns-3 Inv-loop μ-loop
@@ -45,5 +45,5 @@ returns-3 c =
 
 pub values-spec : {M : Type 1} → statement M
 values-spec =
-    tie.close (tie.spec Inv-loop μ-loop returns loop-holds (λ c. search needs) (λ c. search needs) (λ c κs. search) returns-2
+    tie.close (tie.spec Inv-loop μ-loop returns loop-holds (λ c. search needs) (λ c. search needs) (λ c κs. search needs) returns-2
     (λ c. search needs) (λ c. search needs) loop-again returns-3)

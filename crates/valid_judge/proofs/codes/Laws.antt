@@ -2,17 +2,17 @@
 use Prim.Native.Nat.{ℕ, zero, suc, _≤_, _<_}
 use native.Mathlib.Omega.{arith}
 use mathlib.Core.Path.{_≡_, refl, ap, sym, _∙_, subst}
-use mathlib.Core.List.{List}
+use mathlib.Core.List.{List, _∷_}
 use mathlib.Core.Bool.{Bool, true, false}
-use lib.Dec.{leb}
+use lib.Dec.{eqb, leb}
 use lib.ListN.{length, getD, List·getD-eq-default}
-use borrow.Author.Tests.{leb-true, leb-false}
-use Rattle.syntax.specs.Syntax.{Kind, Operand, Arith, add, sub, mul, Branch, beq, bneq, bgt, blt, bgte, blte, Instr, aop, bop, mov, ld, st, malloc, getsp, setsp, salloc, sfree, sld, sst, slp, ssp, jmp, halt}
+use borrow.Author.Tests.{eqb-true, eqb-false, leb-true, leb-false}
+use Rattle.syntax.specs.Syntax.{Kind, value, Operand, Arith, add, sub, mul, Branch, beq, bneq, bgt, blt, bgte, blte, Instr, aop, bop, mov, ld, st, malloc, getsp, setsp, salloc, sfree, sld, sst, slp, ssp, jmp, halt, unpack}
 use Rattle.types.specs.Rows.{names}
 use Rattle.tables.specs.Tables.{OperandTable, cell, operandAt, operandsAt, instrFrom, instrAt}
-use Rattle.tables.proofs.Cases.{_&_, each, instr-last}
+use Rattle.tables.proofs.Cases.{_&_, each, instr-last, instr-cases}
 use Rattle.valid.specs.Program.{Program}
-use Rattle.valid.specs.Rules.{Context}
+use Rattle.valid.specs.Rules.{Context, lettersAfter}
 use Rattle.valid.specs.PassThree.{judge}
 use Rattle.valid_context.specs.Told.{toldOf, answer}
 use Rattle.valid.specs.Bounds.{Short, AllShort, SmallInstr}
@@ -44,8 +44,14 @@ module _ (ι : List ℕ) (ω : OperandTable) (j k : ℕ) (ek : k ≡ cell 8 ι j
     pub is-sfree : k ≡ 16 → instrAt ι ω j ≡ sfree a
     is-sfree e = is-code 16 e ∙ ap sfree (sym ea)
 
-    pub is-halt : 22 ≤ k → instrAt ι ω j ≡ halt a
-    is-halt l = is-code k refl ∙ instr-last ω k (cell 8 ι j 1) (cell 8 ι j 2) (cell 8 ι j 3) (cell 8 ι j 4) (cell 8 ι j 5) (cell 8 ι j 6) l ∙ ap halt (sym ea)
+    pub is-halt : 22 ≤ k → (k ≡ 23 → ⊥) → instrAt ι ω j ≡ halt a
+    is-halt l n = go (eqb k 22) refl
+      where
+        go : (b : Bool) → eqb k 22 ≡ b → instrAt ι ω j ≡ halt a
+        go true e = is-code 22 (eqb-true k 22 e) ∙ ap halt (sym ea)
+        go false e =
+            let m : 24 ≤ k = omega (arith, n, eqb-false k 22 e) in
+            is-code k refl ∙ instr-last ω k (cell 8 ι j 1) (cell 8 ι j 2) (cell 8 ι j 3) (cell 8 ι j 4) (cell 8 ι j 5) (cell 8 ι j 6) m ∙ ap halt (sym ea)
 
     module _ {b : ℕ} (eb : b ≡ cell 8 ι j 2) where
       pub is-getsp : k ≡ 13 → instrAt ι ω j ≡ getsp a b
@@ -79,6 +85,9 @@ module _ (ι : List ℕ) (ω : OperandTable) (j k : ℕ) (ek : k ≡ cell 8 ι j
       pub is-mov : k ≡ 9 → instrAt ι ω j ≡ mov a (operandAt ω v)
       is-mov e = is-code 9 e ∙ rw (ea, ev)
 
+      pub is-unpack : k ≡ 23 → instrAt ι ω j ≡ unpack a (operandAt ω v)
+      is-unpack e = is-code 23 e ∙ rw (ea, ev)
+
       pub each-bop : (Q : Instr → Type 0) → 3 ≤ k → k < 9 → ((o : Branch) → Q (bop o a (operandAt ω v))) → Q (instrAt ι ω j)
       each-bop Q h l q =
           there Q (is-code k refl) (each (λ (x : ℕ). 3 ≤ x → Q (from x)) 9 (tt & (λ z. absurd (omega arith)) & (λ z. absurd (omega arith)) & (λ z. absurd (omega arith)) & (λ z. at beq) & (λ z. at bneq) & (λ z. at bgt) & (λ z. at blt) & (λ z. at bgte) & (λ z. at blte)) k l h)
@@ -109,6 +118,10 @@ small-mov : (d : ℕ) (v : Operand) → SmallInstr (mov d v) → Short v
 unfolding names
 small-mov d v h = h .0 .0
 
+small-unpack : (d : ℕ) (v : Operand) → SmallInstr (unpack d v) → Short v
+unfolding names
+small-unpack d v h = h .0 .0
+
 small-jmp : (v : Operand) → SmallInstr (jmp v) → Short v
 unfolding names
 small-jmp v h = h .0 .0
@@ -131,6 +144,9 @@ module _ (ι : List ℕ) (ω : OperandTable) (j k : ℕ) (s : SmallInstr (instrA
 
   pub short-mov : k ≡ 9 → Short (operandAt ω v)
   short-mov e = small-mov _ (operandAt ω v) (subst SmallInstr (is-mov ι ω j k ek ev refl e) s)
+
+  pub short-unpack : k ≡ 23 → Short (operandAt ω v)
+  short-unpack e = small-unpack _ (operandAt ω v) (subst SmallInstr (is-unpack ι ω j k ek ev refl e) s)
 
   pub short-jmp : k ≡ 21 → Short (operandAt ω v)
   short-jmp e = small-jmp (operandAt ω v) (subst SmallInstr (is-jmp ι ω j k ek ev e) s)
@@ -155,3 +171,18 @@ not-jump k h n = go (leb 9 k) refl
     go : (b : Bool) → leb 9 k ≡ b → k < 9
     go true e = absurd (n (h (leb-true 9 k e)))
     go false e = leb-false 9 k e
+
+-- an instruction that is no `unpack` leaves the letters as they are
+pub same-letters : (ι : List ℕ) (ω : OperandTable) (j k : ℕ) → k ≡ cell 8 ι j 0 → (k ≡ 23 → ⊥) → (Δ : List Kind) → lettersAfter (instrAt ι ω j) Δ ≡ Δ
+unfolding instrAt
+same-letters ι ω j k ek n Δ =
+    instr-cases (λ k x. (k ≡ 23 → ⊥) → lettersAfter x Δ ≡ Δ) ω (cell 8 ι j 1) (cell 8 ι j 2) (cell 8 ι j 3) (cell 8 ι j 4) (cell 8 ι j 5) (cell 8 ι j 6)
+    (tt & no & no & no & no & no & no & no & no & no & no & no & no & no & no & no & no & no & no & no & no & no & no & no & (λ n. absurd (n refl)))
+    (λ k l. no) (cell 8 ι j 0) (λ e. n (ek ∙ e))
+  where
+    no : {A : Type 0} → A → Δ ≡ Δ
+    no n = refl
+
+-- an `unpack` has one more
+pub opened-letters : (ι : List ℕ) (ω : OperandTable) (j k : ℕ) → k ≡ cell 8 ι j 0 → k ≡ 23 → (Δ : List Kind) → lettersAfter (instrAt ι ω j) Δ ≡ value ∷ Δ
+opened-letters ι ω j k ek e Δ = ap (λ (x : Instr). lettersAfter x Δ) (is-unpack ι ω j k ek refl refl e)

@@ -8,15 +8,15 @@ use mathlib.Core.List.{List}
 use Rattle.syntax.specs.Partial.{chain, guarded}
 use Rattle.syntax.specs.Syntax.{Kind, value, stack, slp, ssp}
 use Rattle.syntax.proofs.Least.{least}
-use Rattle.types.specs.Types.{Ty, pointer, nil, push, svar, gap, join, items, Arg}
-use Rattle.types.specs.Rows.{typeAt}
+use Rattle.types.specs.Types.{Ty, pointer, nil, push, svar, gap, join, items}
 use Rattle.types.specs.Equal.{same}
 use Rattle.types.proofs.Equal.{same-sound}
 use Rattle.valid.specs.Program.{Program, typeOf}
 use Rattle.valid.specs.Rules.{Context, withSp}
 use Rattle.valid.specs.Tests.{itemAt, replaced, above}
 use Rattle.valid.specs.PassThree.{pointerAt, known, formed, assign, newTail, judge}
-use Rattle.valid_context.specs.Context.{linked, regsOf, spOf, spAbove, contextOf}
+use Rattle.valid_context.specs.declared.Link.{Link}
+use Rattle.valid_context.specs.Context.{Reading, linked, regsOf, spOf, spAbove, contextOf}
 use Rattle.valid_context.specs.Told.{toldOf, answer}
 use Rattle.valid_context.proofs.Sp.{join-is}
 use Rattle.valid_typing.proofs.Judging.{ifNone, known-told, slp-lacks, slp-goes, tail-lacks, tail-goes, through, through-stops, through-goes, ssp-stops, ssp-goes}
@@ -29,16 +29,16 @@ link-there k zero e z = omega arith
 link-there k (suc u) e z = omega arith
 
 -- ---- slp
-module _ (P : Program) (Δ : List Kind) (T : List Arg) (regs sp : List ℕ) (dep d s i f : ℕ) (b : Ty stack) (v : Bool) (u a g h : ℕ)
-    (p : toldOf (pointerAt P Δ (regsOf T regs) s) ≡ answer f b) (z : f ≡ 0) (ta : above b (spOf T sp dep) ≡ guarded v (spAbove T sp (items b) (dep - items b))) (it : itemAt b i ≡ linked T u) (ea : a ≡ cond v 0 12) (eg : g ≡ ifNone 11 u) (eh : h ≡ least a g) where
+module _ (P : Program) (Δ : List Kind) (T : Reading) (regs sp : List ℕ) (dep d s i f : ℕ) (b : Ty stack) (v : Bool) (x u a g h : ℕ)
+    (p : toldOf (pointerAt P Δ (regsOf T regs) s) ≡ answer f b) (z : f ≡ 0) (ta : above b (spOf T sp dep) ≡ guarded v (spAbove T sp (items b) (dep - items b))) (it : itemAt b i ≡ linked T x u) (ea : a ≡ cond v 0 12) (eg : g ≡ ifNone 11 u) (eh : h ≡ least a g) where
   faults : h ≡ least (cond v 0 12) (ifNone 11 u)
   faults = eh ∙ ap₂ least ea eg
 
   pub read-none : (Γ′ : Context) → (h ≡ 0 → ⊥) → toldOf (judge P Δ (contextOf T regs sp dep) (slp d s i)) ≡ answer h Γ′
-  read-none Γ′ n = slp-lacks P Δ (contextOf T regs sp dep) T d s i f b (spAbove T sp (items b) (dep - items b)) v u p z ta it Γ′ (λ e. n (faults ∙ e)) ∙ ap (λ (k : ℕ). answer k Γ′) (sym faults)
+  read-none Γ′ n = slp-lacks P Δ (contextOf T regs sp dep) T d s i f b (spAbove T sp (items b) (dep - items b)) v x u p z ta it Γ′ (λ e. n (faults ∙ e)) ∙ ap (λ (k : ℕ). answer k Γ′) (sym faults)
 
-  pub read : (k : ℕ) (Γ′ : Context) → h ≡ 0 → toldOf (assign P Δ (contextOf T regs sp dep) d (typeAt value T (u - 1))) ≡ answer k Γ′ → toldOf (judge P Δ (contextOf T regs sp dep) (slp d s i)) ≡ answer k Γ′
-  read k Γ′ n q = slp-goes P Δ (contextOf T regs sp dep) T d s i f b (spAbove T sp (items b) (dep - items b)) v u p z ta it k Γ′ (sym faults ∙ n) q
+  pub read : (k : ℕ) (Γ′ : Context) → h ≡ 0 → toldOf (assign P Δ (contextOf T regs sp dep) d (T .type x (u - 1))) ≡ answer k Γ′ → toldOf (judge P Δ (contextOf T regs sp dep) (slp d s i)) ≡ answer k Γ′
+  read k Γ′ n q = slp-goes P Δ (contextOf T regs sp dep) T d s i f b (spAbove T sp (items b) (dep - items b)) v x u p z ta it k Γ′ (sym faults ∙ n) q
 
 pub both-there : (u k a g h : ℕ) → g ≡ ifNone (suc k) u → h ≡ least a g → h ≡ 0 → u ≡ 0 → ⊥
 both-there u k a g h e q z = link-there k u (sym e ∙ least-zero a g (sym q ∙ z) .1)
@@ -65,39 +65,39 @@ can-put (gap a) (suc i) x t e q = can-put a i x t e (bound (replaced a i t) (λ 
     bound none f h = refl
     bound (some c) f h = none-some (sym h)
 
-put-there : (T : List Arg) (b c : Ty stack) (i y : ℕ) (t : Ty value) (v : Bool) → itemAt b i ≡ linked T y → (y ≡ 0 → ⊥) → replaced b i t ≡ guarded v c → replaced b i t ≡ some c
+put-there : (T : Reading) (b c : Ty stack) (i x y : ℕ) (t : Ty value) (v : Bool) → itemAt b i ≡ linked T x y → (y ≡ 0 → ⊥) → replaced b i t ≡ guarded v c → replaced b i t ≡ some c
 unfolding linked
-put-there T b c i zero t v e n q = absurd (n refl)
-put-there T b c i (suc y) t true e n q = q
-put-there T b c i (suc y) t false e n q = absurd (can-put b i (typeAt value T y) t e q)
+put-there T b c i x zero t v e n q = absurd (n refl)
+put-there T b c i x (suc y) t true e n q = q
+put-there T b c i x (suc y) t false e n q = absurd (can-put b i (T .type x y) t e q)
 
-module _ (T : List Arg) (b : Ty stack) (i t y u f g h : ℕ) (eb : itemAt b i ≡ linked T y) (ef : f ≡ ifNone 11 y) (eg : g ≡ ifNone 9 u) (eh : h ≡ least f g) where
-  lack : h ≡ least (ifNone 11 y) (ifNone 9 u)
+module _ (T : Reading) (b : Ty stack) (i t x y : ℕ) (l : Link) (f g h : ℕ) (eb : itemAt b i ≡ linked T x y) (ef : f ≡ ifNone 11 y) (eg : g ≡ ifNone 9 (l .link)) (eh : h ≡ least f g) where
+  lack : h ≡ least (ifNone 11 y) (ifNone 9 (l .link))
   lack = eh ∙ ap₂ least ef eg
 
-  pub tail-none : (c : Ty stack) → (h ≡ 0 → ⊥) → (P : Program) (Δ : List Kind) (Γ : Context) (s : ℕ) → itemAt (Γ .regs) s ≡ linked T u → toldOf (newTail P Δ Γ b i s t) ≡ answer h c
-  tail-none c n P Δ Γ s e = tail-lacks P Δ Γ T b i s t y u c eb e (λ z. n (lack ∙ z)) ∙ ap (λ (k : ℕ). answer k c) (sym lack)
+  pub tail-none : (c : Ty stack) → (h ≡ 0 → ⊥) → (P : Program) (Δ : List Kind) (Γ : Context) (s : ℕ) → itemAt (Γ .regs) s ≡ linked T (l .env) (l .link) → toldOf (newTail P Δ Γ b i s t) ≡ answer h c
+  tail-none c n P Δ Γ s e = tail-lacks P Δ Γ T b i s t x y (l .env) (l .link) c eb e (λ z. n (lack ∙ z)) ∙ ap (λ (k : ℕ). answer k c) (sym lack)
 
-  module _ (c : Ty stack) (m : ℕ) (w : List ℕ) (v : Bool) (z : h ≡ 0) (eq : b ≡ spOf T w m) (put : replaced (spOf T w m) i (typeAt value T (u - 1)) ≡ guarded v c) where
-    made : replaced b i (typeAt value T (u - 1)) ≡ some c
-    made = put-there T b c i y (typeAt value T (u - 1)) v eb (λ e. link-there 10 y (least-zero (ifNone 11 y) (ifNone 9 u) (sym lack ∙ z) .0) e) (ap (λ (x : Ty stack). replaced x i (typeAt value T (u - 1))) eq ∙ put)
+  module _ (c : Ty stack) (m : ℕ) (w : List ℕ) (v : Bool) (z : h ≡ 0) (eq : b ≡ spOf T w m) (put : replaced (spOf T w m) i (T .type (l .env) (l .link - 1)) ≡ guarded v c) where
+    made : replaced b i (T .type (l .env) (l .link - 1)) ≡ some c
+    made = put-there T b c i x y (T .type (l .env) (l .link - 1)) v eb (λ e. link-there 10 y (least-zero (ifNone 11 y) (ifNone 9 (l .link)) (sym lack ∙ z) .0) e) (ap (λ (a : Ty stack). replaced a i (T .type (l .env) (l .link - 1))) eq ∙ put)
 
-    goes : (o : Bool) (r : ℕ) → o ≡ same (typeAt value T r) (pointer c) → (P : Program) (Δ : List Kind) (Γ : Context) (s : ℕ) → typeAt value T r ≡ typeOf P t → itemAt (Γ .regs) s ≡ linked T u → toldOf (newTail P Δ Γ b i s t) ≡ answer (cond o 0 10) c
-    goes o r eo P Δ Γ s er e = tail-goes P Δ Γ T b i s t y u c o eb e (sym lack ∙ z) made (eo ∙ ap (λ (x : Ty value). same x (pointer c)) er)
+    goes : (o : Bool) (ε r : ℕ) → o ≡ same (T .type ε r) (pointer c) → (P : Program) (Δ : List Kind) (Γ : Context) (s : ℕ) → T .type ε r ≡ typeOf P t → itemAt (Γ .regs) s ≡ linked T (l .env) (l .link) → toldOf (newTail P Δ Γ b i s t) ≡ answer (cond o 0 10) c
+    goes o ε r eo P Δ Γ s er e = tail-goes P Δ Γ T b i s t x y (l .env) (l .link) c o eb e (sym lack ∙ z) made (eo ∙ ap (λ (a : Ty value). same a (pointer c)) er)
 
-    makes : (o : Bool) (r : ℕ) → o ≡ same (typeAt value T r) (pointer c) → o ≡ true → Replaced T b i u r c
-    makes o r eo t = record { known = link-there 8 u (least-zero (ifNone 11 y) (ifNone 9 u) (sym lack ∙ z) .1); put = made; points = same-sound (typeAt value T r) (pointer c) (sym eo ∙ t) }
+    makes : (o : Bool) (ε r : ℕ) → o ≡ same (T .type ε r) (pointer c) → o ≡ true → Replaced T b i l ε r c
+    makes o ε r eo t = record { known = link-there 8 (l .link) (least-zero (ifNone 11 y) (ifNone 9 (l .link)) (sym lack ∙ z) .1); put = made; points = same-sound (T .type ε r) (pointer c) (sym eo ∙ t) }
 
   -- b written out in w, item i replaced in w′
-  module _ (w w′ : List ℕ) (m r : ℕ) (v o : Bool) (z : h ≡ 0) (flat : spOf T w (items b) ≡ b) (em : m ≡ items b) (put : replaced (spOf T w m) i (typeAt value T (u - 1)) ≡ guarded v (spOf T w′ m)) (eo : o ≡ same (typeAt value T r) (pointer (spOf T w′ m))) where
-    pub tail-told : (q : Bool) → o ≡ q → (P : Program) (Δ : List Kind) (Γ : Context) (s : ℕ) → typeAt value T r ≡ typeOf P t → itemAt (Γ .regs) s ≡ linked T u → toldOf (newTail P Δ Γ b i s t) ≡ answer (cond q 0 10) (spOf T w′ (items b))
-    tail-told q eq P Δ Γ s er e = goes (spOf T w′ (items b)) (items b) w v z (sym flat) (rw em at put) q r (sym eq ∙ (rw em at eo)) P Δ Γ s er e
+  module _ (w w′ : List ℕ) (m ε r : ℕ) (v o : Bool) (z : h ≡ 0) (flat : spOf T w (items b) ≡ b) (em : m ≡ items b) (put : replaced (spOf T w m) i (T .type (l .env) (l .link - 1)) ≡ guarded v (spOf T w′ m)) (eo : o ≡ same (T .type ε r) (pointer (spOf T w′ m))) where
+    pub tail-told : (q : Bool) → o ≡ q → (P : Program) (Δ : List Kind) (Γ : Context) (s : ℕ) → T .type ε r ≡ typeOf P t → itemAt (Γ .regs) s ≡ linked T (l .env) (l .link) → toldOf (newTail P Δ Γ b i s t) ≡ answer (cond q 0 10) (spOf T w′ (items b))
+    tail-told q eq P Δ Γ s er e = goes (spOf T w′ (items b)) (items b) w v z (sym flat) (rw em at put) q ε r (sym eq ∙ (rw em at eo)) P Δ Γ s er e
 
-    pub tail-made : (x : ℕ) → r ≡ x → o ≡ true → Replaced T b i u x (spOf T w′ (items b))
-    tail-made x er eq = makes (spOf T w′ (items b)) (items b) w v z (sym flat) (rw em at put) true x (sym eq ∙ (rw (em, er) at eo)) refl
+    pub tail-made : (a : ℕ) → r ≡ a → o ≡ true → Replaced T b i l ε a (spOf T w′ (items b))
+    tail-made a er eq = makes (spOf T w′ (items b)) (items b) w v z (sym flat) (rw em at put) true ε a (sym eq ∙ (rw (em, er) at eo)) refl
 
 -- ---- through the pointer
-module _ (T : List Arg) (sp : List ℕ) (dep i t u : ℕ) (b : Ty stack) where
+module _ (T : Reading) (sp : List ℕ) (dep i t u : ℕ) (b : Ty stack) where
   pub through-none : (P : Program) (Δ : List Kind) (regs : List ℕ) (d s f : ℕ) (y : Ty stack × Ty stack) → (f ≡ 0 → ⊥) → toldOf (pointerAt P Δ (regsOf T regs) d) ≡ answer f b → toldOf (through P Δ (contextOf T regs sp dep) d i s t) ≡ answer f y
   through-none P Δ regs d s f y n p = through-stops P Δ (contextOf T regs sp dep) d i s t f b y p n
 
@@ -120,28 +120,28 @@ guarded-some : {A : Type 0} (v : Bool) (x y : A) → guarded v x ≡ some y → 
 guarded-some true x y e = some-same e
 guarded-some false x y e = none-some e
 
-module _ (T : List Arg) (sp sp′ : List ℕ) (dep i u r m : ℕ) (b c : Ty stack) (v : Bool) (tl : IsTail T sp dep b) (rp : Replaced T b i u r c) (em : m ≡ items b)
-    (put : replaced (spOf T sp m) i (typeAt value T (u - 1)) ≡ guarded v (spOf T sp′ m)) (up : (k : ℕ) → spAbove T sp′ m k ≡ spAbove T sp m k) where
+module _ (T : Reading) (sp sp′ : List ℕ) (dep i : ℕ) (l : Link) (ε r m : ℕ) (b c : Ty stack) (v : Bool) (tl : IsTail T sp dep b) (rp : Replaced T b i l ε r c) (em : m ≡ items b)
+    (put : replaced (spOf T sp m) i (T .type (l .env) (l .link - 1)) ≡ guarded v (spOf T sp′ m)) (up : (k : ℕ) → spAbove T sp′ m k ≡ spAbove T sp m k) where
   low : spOf T sp′ m ≡ c
-  low = guarded-some v (spOf T sp′ m) c (sym put ∙ ap (λ (x : Ty stack). replaced x i (typeAt value T (u - 1))) (sym (tl .same ∙ ap (spOf T sp) (sym em))) ∙ rp .put)
+  low = guarded-some v (spOf T sp′ m) c (sym put ∙ ap (λ (x : Ty stack). replaced x i (T .type (l .env) (l .link - 1))) (sym (tl .same ∙ ap (spOf T sp) (sym em))) ∙ rp .put)
 
   pub written : join (spAbove T sp (items b) (dep - items b)) c ≡ spOf T sp′ dep
   written =
       let q : m + (dep - m) ≡ dep = omega (arith, tl .fits) in
       ap (λ (k : ℕ). join (spAbove T sp k (dep - k)) c) (sym em) ∙ ap₂ join (sym (up (dep - m))) (sym low) ∙ join-is T sp′ m (dep - m) ∙ ap (spOf T sp′) q
 
-module _ (P : Program) (Δ : List Kind) (T : List Arg) (regs sp : List ℕ) (dep d i s t u f k g h z : ℕ) (a c : Ty stack)
-    (p : toldOf (formed P Δ t) ≡ answer f tt) (e : itemAt (regsOf T regs) s ≡ linked T u) (r : toldOf (through P Δ (contextOf T regs sp dep) d i s t) ≡ answer h (a, c)) (ek : k ≡ ifNone 9 u) (eg : g ≡ least k h) (ez : z ≡ least f g) where
-  all : z ≡ least f (least (ifNone 9 u) h)
+module _ (P : Program) (Δ : List Kind) (T : Reading) (regs sp : List ℕ) (dep d i s t : ℕ) (l : Link) (f k g h z : ℕ) (a c : Ty stack)
+    (p : toldOf (formed P Δ t) ≡ answer f tt) (e : itemAt (regsOf T regs) s ≡ linked T (l .env) (l .link)) (r : toldOf (through P Δ (contextOf T regs sp dep) d i s t) ≡ answer h (a, c)) (ek : k ≡ ifNone 9 (l .link)) (eg : g ≡ least k h) (ez : z ≡ least f g) where
+  all : z ≡ least f (least (ifNone 9 (l .link)) h)
   all = ez ∙ ap (least f) (eg ∙ ap (λ (x : ℕ). least x h) ek)
 
   pub store-none : (Γ′ : Context) → (z ≡ 0 → ⊥) → toldOf (judge P Δ (contextOf T regs sp dep) (ssp d i s t)) ≡ answer z Γ′
   store-none Γ′ n =
-      ssp-stops P Δ (contextOf T regs sp dep) d i s t f (ifNone 9 u) h (typeAt value T (u - 1)) a c p (known-told P Δ T (regsOf T regs) s u e) r Γ′ (λ x. n (all ∙ x)) ∙ ap (λ (x : ℕ). answer x Γ′) (sym all)
+      ssp-stops P Δ (contextOf T regs sp dep) d i s t f (ifNone 9 (l .link)) h (T .type (l .env) (l .link - 1)) a c p (known-told P Δ T (regsOf T regs) s (l .env) (l .link) e) r Γ′ (λ x. n (all ∙ x)) ∙ ap (λ (x : ℕ). answer x Γ′) (sym all)
 
-  pub stored : (sp′ : List ℕ) (x j : ℕ) (Γ′ : Context) → z ≡ 0 → join a c ≡ spOf T sp′ dep → typeAt value T x ≡ pointer c → toldOf (assign P Δ (contextOf T regs sp′ dep) d (typeAt value T x)) ≡ answer j Γ′ → toldOf (judge P Δ (contextOf T regs sp dep) (ssp d i s t)) ≡ answer j Γ′
+  pub stored : (sp′ : List ℕ) (x : Ty value) (j : ℕ) (Γ′ : Context) → z ≡ 0 → join a c ≡ spOf T sp′ dep → x ≡ pointer c → toldOf (assign P Δ (contextOf T regs sp′ dep) d x) ≡ answer j Γ′ → toldOf (judge P Δ (contextOf T regs sp dep) (ssp d i s t)) ≡ answer j Γ′
   stored sp′ x j Γ′ n w q y =
-      ssp-goes P Δ (contextOf T regs sp dep) d i s t f (ifNone 9 u) h (typeAt value T (u - 1)) a c p (known-told P Δ T (regsOf T regs) s u e) r j Γ′ (sym all ∙ n)
+      ssp-goes P Δ (contextOf T regs sp dep) d i s t f (ifNone 9 (l .link)) h (T .type (l .env) (l .link - 1)) a c p (known-told P Δ T (regsOf T regs) s (l .env) (l .link) e) r j Γ′ (sym all ∙ n)
       (ap₂ (λ (v : Ty stack) (o : Ty value). toldOf (assign P Δ (withSp (contextOf T regs sp dep) v) d o)) w (sym q) ∙ y)
 
 pub last-zero : (f k h g z : ℕ) → g ≡ least k h → z ≡ least f g → z ≡ 0 → h ≡ 0

@@ -1,9 +1,10 @@
 -- What the ways through this crate's functions come to.
-use Prim.Native.Nat.{ℕ, suc, _+_, _-_, _<_}
+use Prim.Native.Nat.{ℕ, suc, _+_, _*_, _<_}
 use native.Mathlib.Omega.{arith}
 use mathlib.Core.Path.{_≡_, refl, ap, sym, _∙_}
 use mathlib.Core.Bool.{Bool, true, false, cond}
 use mathlib.Core.List.{List}
+use lib.ListN.{length}
 use Rattle.syntax.specs.Partial.{guarded}
 use Rattle.syntax.specs.Syntax.{Kind, value, stack, Operand, Arith, aop, malloc}
 use Rattle.syntax.specs.Fault.{fault}
@@ -19,17 +20,18 @@ use Rattle.types_rows.specs.Read.{tab, valueAt, valueWith, meanV, meanS, buildV
 use Rattle.types_rows.specs.declared.Val.the-variants.{ValVar, Int}
 use Rattle.types_rows.proofs.Laws.{value-is}
 use Rattle.types_rows.proofs.Bridge.{type-in}
+use Rattle.types_rows.proofs.Environments.{read-now}
 use Rattle.valid_context.specs.Told.{toldOf, answer}
-use Rattle.valid_typing.specs.Typing.{typesIn, Ready}
+use Rattle.valid_typing.specs.Typing.{typesIn, heldIn, Ready}
 use Rattle.valid_typing.proofs.Judging.{told-guarded, told-next, stops, aop-stops, aop-goes, malloc-stops, malloc-differs, malloc-goes}
 use Rattle.valid_typing.specs.plain_components.Makes.{Makes}
 use Rattle.types.proofs.Equal.{same-refl}
 
 -- ---- the integer type
-pub int-type : (rows parts : List ℕ) (n : ℕ) → Ready rows parts n → typeAt value (typesIn rows parts n) n ≡ int
-int-type rows parts n r =
+pub int-type : (rows parts E : List ℕ) (n : ℕ) → Ready rows parts n → heldIn rows parts n E .type (2 * length E) n ≡ int
+int-type rows parts E n r =
     let l : n < n + 2 = omega arith in
-    type-in (tab rows parts) value (n + 2) n l ∙ value-is (tab rows parts) (suc n) ∙ ap (buildV (meanV (tab rows parts)) (meanS (tab rows parts)) parts (suc n)) int-form
+    read-now E (typeAt value (typesIn rows parts n) n) ∙ type-in (tab rows parts) value (n + 2) n l ∙ value-is (tab rows parts) (suc n) ∙ ap (buildV (meanV (tab rows parts)) (meanS (tab rows parts)) parts (suc n)) int-form
   where
     int-form : valueAt rows ValVar (suc n) ≡ Int
     int-form = rw (r .int-row) (unfold valueWith in refl)

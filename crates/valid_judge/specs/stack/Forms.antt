@@ -8,13 +8,17 @@ use Rattle.tables.specs.Tables.{rowsIn}
 use Rattle.valid.specs.Program.{Program}
 use Rattle.valid.specs.PassThree.{judge}
 use Rattle.types_rows.specs.Read.{tab}
-use Rattle.valid_context.specs.Context.{contextOf}
+use Rattle.valid_context.specs.Context.{contextOf, HeldIn}
 use Rattle.valid_context.specs.Told.{toldOf, answer}
-use Rattle.valid_typing.specs.Typing.{typesIn}
+use Rattle.valid_typing.specs.Typing.{heldIn}
 
 -- instruction x with registers γ and the d lowest items of σ before it has the least fault k, 0 if none, and then registers γ′ and the
--- d′ lowest items of σ′ after it
-abbrev pub InStack : List ℕ → List ℕ → ℕ → List Kind → List ℕ → List ℕ → ℕ → List ℕ → List ℕ → ℕ → ℕ → Instr → Type 0
-InStack rows parts n Δ γ σ d γ′ σ′ d′ k x =
+-- d′ lowest items of σ′ after it; E are the environments of the packages opened so far
+abbrev pub InStack : List ℕ → List ℕ → ℕ → List ℕ → List Kind → List ℕ → List ℕ → ℕ → List ℕ → List ℕ → ℕ → ℕ → Instr → Type 0
+InStack rows parts n E Δ γ σ d γ′ σ′ d′ k x =
     (P : Program) → P .types ≡ typesOf (rowsIn (tab rows parts) n)
-    → toldOf (judge P Δ (contextOf (typesIn rows parts n) γ σ d) x) ≡ answer k (contextOf (typesIn rows parts n) γ′ σ′ d′)
+    → toldOf (judge P Δ (contextOf (heldIn rows parts n E) γ σ d) x) ≡ answer k (contextOf (heldIn rows parts n E) γ′ σ′ d′)
+
+-- the environments of the registers and of the items of sp still exist
+abbrev pub Kept : List ℕ → List ℕ → List ℕ → ℕ → List ℕ → List ℕ → ℕ → Type 0
+Kept E γ σ d γ′ σ′ d′ = HeldIn E γ σ d → HeldIn E γ′ σ′ d′

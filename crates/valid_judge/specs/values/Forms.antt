@@ -10,11 +10,12 @@ use Rattle.types_rows.specs.Read.{tab}
 use Rattle.valid_context.specs.Context.{regsOf}
 use Rattle.valid_context.specs.Told.{toldOf, answer}
 use Rattle.valid_context.specs.premises.Answers.{Holds}
-use Rattle.valid_typing.specs.Typing.{typesIn}
+use Rattle.valid_typing.specs.Typing.{heldIn}
 use Rattle.valid_judge.specs.heap.Forms.{held}
 
--- instruction x with registers γ before it has the least fault k, 0 if none, and then registers γ′ after it, whatever sp is
-abbrev pub InFile : List ℕ → List ℕ → ℕ → List ℕ → ℕ → List Kind → List ℕ → List ℕ → ℕ → Instr → Type 0
-InFile rows parts n blocks nb Δ γ γ′ k x =
+-- instruction x with registers γ before it has the least fault k, 0 if none, and then registers γ′ after it, whatever sp is; E are the
+-- environments of the packages opened so far
+abbrev pub InFile : List ℕ → List ℕ → ℕ → List ℕ → ℕ → List ℕ → List Kind → List ℕ → List ℕ → ℕ → Instr → Type 0
+InFile rows parts n blocks nb E Δ γ γ′ k x =
     (P : Program) (s : Ty stack) → Holds (tab rows parts) n blocks nb P
-    → toldOf (judge P Δ (held s (regsOf (typesIn rows parts n) γ)) x) ≡ answer k (held s (regsOf (typesIn rows parts n) γ′))
+    → toldOf (judge P Δ (held s (regsOf (heldIn rows parts n E) γ)) x) ≡ answer k (held s (regsOf (heldIn rows parts n E) γ′))

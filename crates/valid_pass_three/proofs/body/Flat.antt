@@ -29,7 +29,7 @@ module _ (rows parts : List ℕ) (n : ℕ) (int-row : cell 4 rows n 0 ≡ 0) (ju
   τ = tab rows parts
 
   -- a value row has no items
-  value-nil : (r : ℕ) → cell 4 rows r 0 < 6 → meanS τ (suc r) ≡ nil
+  value-nil : (r : ℕ) → cell 4 rows r 0 < 7 → meanS τ (suc r) ≡ nil
   value-nil r h = stack-is τ (suc r) ∙ ap (buildS (meanV τ) (meanS τ)) (kind-value τ (cell 4 rows r 0) (cell 4 rows r 1) (cell 4 rows r 2) (suc r) h)
 
   pub made-nil : (x : ℕ) → n < x → x ≤ n + 2 → meanS τ x ≡ nil
@@ -39,22 +39,22 @@ module _ (rows parts : List ℕ) (n : ℕ) (int-row : cell 4 rows n 0 ≡ 0) (ju
       go true e = ap (meanS τ) (eqb-true x (suc n) e) ∙ value-nil n (omega (arith, int-row))
       go false e = let q : x ≡ suc n → ⊥ = eqb-false x (suc n) e in let w : x ≡ suc (n + 1) = omega (arith, q) in ap (meanS τ) w ∙ value-nil (n + 1) (omega (arith, junk-row))
 
-  variable-row : (r : ℕ) → cell 4 rows r 0 ≡ 7 → rowAt τ r ≡ rowX (cell 4 rows r 1)
+  variable-row : (r : ℕ) → cell 4 rows r 0 ≡ 8 → rowAt τ r ≡ rowX (cell 4 rows r 1)
   unfolding rowAt rowFrom
   variable-row r k = rw k refl
 
   module _ (small : (r : ℕ) → r < n → SmallRow (rowAt τ r)) where
     form-small : (r : ℕ) → r < n → ((x : ℕ) → x < suc r → SmallVars (meanS τ x)) → SmallVars (buildS (meanV τ) (meanS τ) (stackAt rows StkVar (suc r)))
     unfolding stackWith
-    form-small r l h = go (ltb (cell 4 rows r 0) 7) (eqb (cell 4 rows r 0) 7) refl (eqb (cell 4 rows r 0) 8)
+    form-small r l h = go (ltb (cell 4 rows r 0) 8) (eqb (cell 4 rows r 0) 8) refl (eqb (cell 4 rows r 0) 9)
       where
-        var-small : eqb (cell 4 rows r 0) 7 ≡ true → cell 4 rows r 1 ≤ 60000
+        var-small : eqb (cell 4 rows r 0) 8 ≡ true → cell 4 rows r 1 ≤ 60000
         var-small e =
-            let k : cell 4 rows r 0 ≡ 7 = eqb-true (cell 4 rows r 0) 7 e in
+            let k : cell 4 rows r 0 ≡ 8 = eqb-true (cell 4 rows r 0) 8 e in
             let s : cell 4 rows r 1 < 64 = subst SmallRow (variable-row r k) (small r l) in
             omega arith
 
-        go : (b c : Bool) → eqb (cell 4 rows r 0) 7 ≡ c → (d : Bool) → SmallVars (buildS (meanV τ) (meanS τ)
+        go : (b c : Bool) → eqb (cell 4 rows r 0) 8 ≡ c → (d : Bool) → SmallVars (buildS (meanV τ) (meanS τ)
             (cond b Nil (cond c (StkVar (cell 4 rows r 1)) (cond d (Push (lower (suc r) (cell 4 rows r 1))
             (lower (suc r) (cell 4 rows r 2))) (Join (lower (suc r) (cell 4 rows r 1)) (lower (suc r) (cell 4 rows r 2)))))))
         go true c e d = tt

@@ -1,7 +1,7 @@
 -- The lowest line of a block's instructions, one after the other.
 use Prim.Native.Nat.{ℕ, zero, suc, _+_, _-_, _≤_, _<_}
 use native.Mathlib.Omega.{arith}
-use mathlib.Core.Path.{_≡_, refl, ap, sym, _∙_}
+use mathlib.Core.Path.{_≡_, refl, ap, ap₂, sym, _∙_}
 use mathlib.Core.Option.{Option, none, some}
 use mathlib.Core.List.{List, [], _∷_}
 use lib.ListN.{length}
@@ -11,7 +11,7 @@ use Rattle.syntax.proofs.Least.{leastOf, line-here}
 use Rattle.tables.specs.Tables.{OperandTable, instrAt, instrsFrom}
 use Rattle.tables.proofs.Steps.{instrs-step}
 use Rattle.valid.specs.Program.{Program}
-use Rattle.valid.specs.Rules.{Context}
+use Rattle.valid.specs.Rules.{Context, lettersAfter}
 use Rattle.valid.specs.PassThree.{Judged, holds, fails, faultsOf, judge, bodyFaults}
 use Rattle.valid_context.specs.Told.{Told, gives, lacks, toldOf, answer}
 use Rattle.valid_context.specs.premises.Answers.{Answered}
@@ -51,11 +51,11 @@ module _ {A : Type 0} where
   told-fails (fails f fs) (suc k) x e z = sym (ap lack-of e)
 
 module _ (P : Program) (Δ : List Kind) where
-  pub body-next : (n : ℕ) (Γ Γ′ : Context) (x : Instr) (xs : List Instr) (k item : ℕ) → Answered (judge P Δ Γ x) k Γ′ item → k ≡ 0 → lowestLine n (bodyFaults P Δ (holds Γ) (x ∷ xs)) ≡ lowestLine (suc n) (bodyFaults P Δ (holds Γ′) xs)
+  pub body-next : (n : ℕ) (Γ Γ′ : Context) (x : Instr) (xs : List Instr) (k item : ℕ) → Answered (judge P Δ Γ x) k Γ′ item → k ≡ 0 → lowestLine n (bodyFaults P Δ (holds Γ) (x ∷ xs)) ≡ lowestLine (suc n) (bodyFaults P (lettersAfter x Δ) (holds Γ′) xs)
   unfolding bodyFaults
   body-next n Γ Γ′ x xs k item a z =
       let e : judge P Δ Γ x ≡ holds Γ′ = told-holds (judge P Δ Γ x) k Γ′ (a .told) z in
-      ap (λ J. lowestLine n (faultsOf J ∷ bodyFaults P Δ J xs)) e ∙ (unfold faultsOf lowestLine in refl)
+      ap (λ J. lowestLine n (faultsOf J ∷ bodyFaults P (lettersAfter x Δ) J xs)) e ∙ (unfold faultsOf lowestLine in refl)
 
   pub body-found : (n : ℕ) (Γ Γ′ : Context) (x : Instr) (xs : List Instr) (k item : ℕ) → Answered (judge P Δ Γ x) k Γ′ item → (k ≡ 0 → ⊥)
       → refusalSaid (record { number = k; line = n; item = item }) ≡ lowestLine n (bodyFaults P Δ (holds Γ) (x ∷ xs))
@@ -66,36 +66,37 @@ module _ (P : Program) (Δ : List Kind) where
       says-some (record { number = k; line = n; item = item }) z
       ∙ ap (λ (i : Option ℕ). some (record { number = k; line = n; item = i })) (a .named)
       ∙ ap (λ (m : ℕ). some (refuse m n (faultsOf J))) q
-      ∙ sym (line-here n (faultsOf J) (bodyFaults P Δ J xs) (λ w. z (q ∙ w)))
+      ∙ sym (line-here n (faultsOf J) (bodyFaults P (lettersAfter x Δ) J xs) (λ w. z (q ∙ w)))
 
   pub body-end : (n : ℕ) (J : Judged Context) → none ≡ lowestLine n (bodyFaults P Δ J [])
   unfolding bodyFaults lowestLine
   body-end n J = refl
 
-  pub length-body : (J : Judged Context) (xs : List Instr) → length (bodyFaults P Δ J xs) ≡ length xs
-  unfolding bodyFaults
-  length-body J [] = refl
-  length-body (holds Γ) (x ∷ xs) = ap suc (length-body (judge P Δ Γ x) xs)
-  length-body (fails f fs) (x ∷ xs) = ap suc (length-body (fails f fs) xs)
+pub length-body : (P : Program) (Δ : List Kind) (J : Judged Context) (xs : List Instr) → length (bodyFaults P Δ J xs) ≡ length xs
+unfolding bodyFaults
+length-body P Δ J [] = refl
+length-body P Δ (holds Γ) (x ∷ xs) = ap suc (length-body P (lettersAfter x Δ) (judge P Δ Γ x) xs)
+length-body P Δ (fails f fs) (x ∷ xs) = ap suc (length-body P Δ (fails f fs) xs)
 
--- ---- a block's instructions from i on, in the tables
-module _ (P : Program) (Δ : List Kind) (ι : List ℕ) (ω : OperandTable) (e base : ℕ) where
-  unfoldable pub linesLeft : ℕ → Context → Option Refusal
-  linesLeft i Γ = lowestLine (base + i) (bodyFaults P Δ (holds Γ) (instrsFrom ι ω i (e - i)))
+-- ---- a block's instructions from i on, in the tables, under the letters Δ that are then in force
+module _ (P : Program) (ι : List ℕ) (ω : OperandTable) (e base : ℕ) where
+  unfoldable pub linesLeft : List Kind → ℕ → Context → Option Refusal
+  linesLeft Δ i Γ = lowestLine (base + i) (bodyFaults P Δ (holds Γ) (instrsFrom ι ω i (e - i)))
 
-  more : (i : ℕ) (Γ : Context) → i < e → linesLeft i Γ ≡ lowestLine (base + i) (bodyFaults P Δ (holds Γ) (instrAt ι ω i ∷ instrsFrom ι ω (i + 1) (e - (i + 1))))
+  more : (Δ : List Kind) (i : ℕ) (Γ : Context) → i < e → linesLeft Δ i Γ ≡ lowestLine (base + i) (bodyFaults P Δ (holds Γ) (instrAt ι ω i ∷ instrsFrom ι ω (i + 1) (e - (i + 1))))
   unfolding linesLeft
-  more i Γ h = ap (λ (xs : List Instr). lowestLine (base + i) (bodyFaults P Δ (holds Γ) xs)) (instrs-step ι ω i e h)
+  more Δ i Γ h = ap (λ (xs : List Instr). lowestLine (base + i) (bodyFaults P Δ (holds Γ) xs)) (instrs-step ι ω i e h)
 
-  pub instr-next : (i : ℕ) (Γ Γ′ : Context) (k item : ℕ) → i < e → Answered (judge P Δ Γ (instrAt ι ω i)) k Γ′ item → k ≡ 0 → linesLeft (i + 1) Γ′ ≡ linesLeft i Γ
+  pub instr-next : (Δ Δ′ : List Kind) (i : ℕ) (Γ Γ′ : Context) (k item : ℕ) → i < e → Answered (judge P Δ Γ (instrAt ι ω i)) k Γ′ item → k ≡ 0 → lettersAfter (instrAt ι ω i) Δ ≡ Δ′ → linesLeft Δ′ (i + 1) Γ′ ≡ linesLeft Δ i Γ
   unfolding linesLeft
-  instr-next i Γ Γ′ k item h a z =
+  instr-next Δ Δ′ i Γ Γ′ k item h a z l =
       let q : suc (base + i) ≡ base + (i + 1) = omega arith in
-      sym (more i Γ h ∙ body-next P Δ (base + i) Γ Γ′ (instrAt ι ω i) (instrsFrom ι ω (i + 1) (e - (i + 1))) k item a z ∙ ap (λ (n : ℕ). lowestLine n (bodyFaults P Δ (holds Γ′) (instrsFrom ι ω (i + 1) (e - (i + 1))))) q)
+      sym (more Δ i Γ h ∙ body-next P Δ (base + i) Γ Γ′ (instrAt ι ω i) (instrsFrom ι ω (i + 1) (e - (i + 1))) k item a z
+      ∙ ap₂ (λ (n : ℕ) (D : List Kind). lowestLine n (bodyFaults P D (holds Γ′) (instrsFrom ι ω (i + 1) (e - (i + 1))))) q l)
 
-  pub instr-found : (i : ℕ) (Γ Γ′ : Context) (k item : ℕ) → i < e → Answered (judge P Δ Γ (instrAt ι ω i)) k Γ′ item → (k ≡ 0 → ⊥) → refusalSaid (record { number = k; line = base + i; item = item }) ≡ linesLeft i Γ
-  instr-found i Γ Γ′ k item h a z = body-found P Δ (base + i) Γ Γ′ (instrAt ι ω i) (instrsFrom ι ω (i + 1) (e - (i + 1))) k item a z ∙ sym (more i Γ h)
+  pub instr-found : (Δ : List Kind) (i : ℕ) (Γ Γ′ : Context) (k item : ℕ) → i < e → Answered (judge P Δ Γ (instrAt ι ω i)) k Γ′ item → (k ≡ 0 → ⊥) → refusalSaid (record { number = k; line = base + i; item = item }) ≡ linesLeft Δ i Γ
+  instr-found Δ i Γ Γ′ k item h a z = body-found P Δ (base + i) Γ Γ′ (instrAt ι ω i) (instrsFrom ι ω (i + 1) (e - (i + 1))) k item a z ∙ sym (more Δ i Γ h)
 
-  pub instrs-end : (i : ℕ) (Γ : Context) → e ≤ i → none ≡ linesLeft i Γ
+  pub instrs-end : (Δ : List Kind) (i : ℕ) (Γ : Context) → e ≤ i → none ≡ linesLeft Δ i Γ
   unfolding linesLeft instrsFrom
-  instrs-end i Γ h = let q : e - i ≡ 0 = omega arith in rw q (body-end P Δ (base + i) (holds Γ))
+  instrs-end Δ i Γ h = let q : e - i ≡ 0 = omega arith in rw q (body-end P Δ (base + i) (holds Γ))

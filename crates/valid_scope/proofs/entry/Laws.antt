@@ -17,9 +17,9 @@ use Rattle.types.specs.Types.{Ty, int, junk, tuple, code, nil, push, svar, gap,
 use Rattle.types.specs.Equal.{same, sameLetters}
 use Rattle.types.specs.Rows.{typeAt, typesOf}
 use Rattle.tables.specs.Tables.{RowTable, cell, span, letterOf, lettersAt, rowsIn}
-use Rattle.types_rows.specs.Read.{tab, lower, valueWith, valueAt, placeV, OkV, OkSlot, isStackAt, slotAt, onSlot, buildV, meanV, meanS, partsOf, itemsAt, CountedTo, argOf}
+use Rattle.types_rows.specs.Read.{tab, lower, lift, valueWith, valueAt, placeV, OkV, OkSlot, isStackAt, slotAt, onSlot, buildV, meanV, meanS, partsOf, itemsAt, CountedTo, argOf}
 use Rattle.types_rows.specs.declared.Val.{Val}
-use Rattle.types_rows.specs.declared.Val.the-variants.{Int, Junk, ValVar, ValFill, Tuple, Pointer, Code}
+use Rattle.types_rows.specs.declared.Val.the-variants.{Int, Junk, ValVar, ValFill, Tuple, Pointer, Code, Hidden}
 use Rattle.types_rows.specs.declared.Slot.{Slot}
 use Rattle.types_rows.specs.declared.Slot.the-variants.{Known}
 use Rattle.types_rows.proofs.Val.{the-type}
@@ -29,6 +29,7 @@ use Rattle.valid.specs.Program.{Block, asCode, blockOf}
 use Rattle.valid.specs.Rules.{ints, entryRegs, declared}
 use Rattle.valid.specs.Tests.{isFormed, formedArg, isEntry}
 use Rattle.valid.specs.PassThree.{blockFaults}
+use Rattle.valid_scope.specs.Letters.{lettersOf}
 use Rattle.valid_scope.specs.declared.entry.Samples.{Samples}
 use Rattle.valid_scope.specs.entry.Entry.{gaps, Declares, blockAt}
 
@@ -42,10 +43,10 @@ not-no true e = refl
 not-no false e = sym e
 
 -- ---- value rows
-pub read-is : (rows parts : List ℕ) (h : ℕ) {v : Val} → v ≡ valueAt rows (placeV 0 0 0) h → meanV (tab rows parts) h ≡ buildV (meanV (tab rows parts)) (meanS (tab rows parts)) parts h v
+pub read-is : (rows parts : List ℕ) (h : ℕ) {v : Val} → v ≡ valueAt rows (placeV 0 (lift 0) 0) h → meanV (tab rows parts) h ≡ buildV (meanV (tab rows parts)) (meanS (tab rows parts)) parts h v
 read-is rows parts h e = value-is (tab rows parts) h ∙ ap (buildV (meanV (tab rows parts)) (meanS (tab rows parts)) parts h) (sym (e ∙ plain-value rows h))
 
-pub form-is : (rows parts : List ℕ) (h : ℕ) {v w : Val} → v ≡ valueAt rows (placeV 0 0 0) h → v ≡ w → buildV (meanV (tab rows parts)) (meanS (tab rows parts)) parts h w ≡ meanV (tab rows parts) h
+pub form-is : (rows parts : List ℕ) (h : ℕ) {v w : Val} → v ≡ valueAt rows (placeV 0 (lift 0) 0) h → v ≡ w → buildV (meanV (tab rows parts)) (meanS (tab rows parts)) parts h w ≡ meanV (tab rows parts) h
 form-is rows parts h e q = sym (read-is rows parts h e ∙ ap (buildV (meanV (tab rows parts)) (meanS (tab rows parts)) parts h) q)
 
 -- by the type that the form gives
@@ -223,7 +224,7 @@ module _ (rows parts : List ℕ) (h x p : ℕ) (xs : List Instr) where
       entry-is true true b (sym (eq-eqb k 0 z) ∙ binds k e) (sym (eq-eqb j 0 y) ∙ holds-none j f c) (ap (λ (a : Bool). a && b) (sym t) ∙ registers-fit s b d g)
 
 -- ---- the block of a row
-module _ (rows parts : List ℕ) (n c h : ℕ) {v : Val} (e : h ≡ lower (n + 1) c) (f : v ≡ valueAt rows (placeV 0 0 0) h) where
+module _ (rows parts : List ℕ) (n c h : ℕ) {v : Val} (e : h ≡ lower (n + 1) c) (f : v ≡ valueAt rows (placeV 0 (lift 0) 0) h) where
   row-type : {w : Val} → v ≡ w → typeAt value (typesOf (rowsIn (tab rows parts) n)) c ≡ buildV (meanV (tab rows parts)) (meanS (tab rows parts)) parts h w
   row-type q =
       let l : n + 1 ≡ suc n = omega arith in
@@ -233,7 +234,7 @@ module _ (rows parts : List ℕ) (n c h : ℕ) {v : Val} (e : h ≡ lower (n + 1
   unfolding blockOf asCode
   block-is xs q = ap (λ (t : Ty value). blockOf t xs) (row-type q)
 
-  no-block : (w : Val) (xs : List Instr) → OneOf (0 ∷ 1 ∷ 2 ∷ 3 ∷ 4 ∷ 5 ∷ []) (tagOf the-type w) → blockOf (buildV (meanV (tab rows parts)) (meanS (tab rows parts)) parts h w) xs ≡ record { letters = []; sp = nil; regs = nil; body = xs }
+  no-block : (w : Val) (xs : List Instr) → OneOf (0 ∷ 1 ∷ 2 ∷ 3 ∷ 4 ∷ 5 ∷ 7 ∷ []) (tagOf the-type w) → blockOf (buildV (meanV (tab rows parts)) (meanS (tab rows parts)) parts h w) xs ≡ record { letters = []; sp = nil; regs = nil; body = xs }
   unfolding blockOf asCode
   no-block Int xs k = refl
   no-block Junk xs k = refl
@@ -241,13 +242,14 @@ module _ (rows parts : List ℕ) (n c h : ℕ) {v : Val} (e : h ≡ lower (n + 1
   no-block (ValFill j) xs k = refl
   no-block (Tuple p o) xs k = refl
   no-block (Pointer y) xs k = refl
-  no-block (Code y p) xs k = absurd (miss (0 ∷ 1 ∷ 2 ∷ 3 ∷ 4 ∷ 5 ∷ []) 6 tt k)
+  no-block (Hidden y) xs k = refl
+  no-block (Code y p) xs k = absurd (miss (0 ∷ 1 ∷ 2 ∷ 3 ∷ 4 ∷ 5 ∷ 7 ∷ []) 6 tt k)
 
-  pub other-block : (xs : List Instr) → OneOf (0 ∷ 1 ∷ 2 ∷ 3 ∷ 4 ∷ 5 ∷ []) (tagOf the-type v) → blockOf (typeAt value (typesOf (rowsIn (tab rows parts) n)) c) xs ≡ record { letters = []; sp = nil; regs = nil; body = xs }
+  pub other-block : (xs : List Instr) → OneOf (0 ∷ 1 ∷ 2 ∷ 3 ∷ 4 ∷ 5 ∷ 7 ∷ []) (tagOf the-type v) → blockOf (typeAt value (typesOf (rowsIn (tab rows parts) n)) c) xs ≡ record { letters = []; sp = nil; regs = nil; body = xs }
   other-block xs k = ap (λ (t : Ty value). blockOf t xs) (row-type refl) ∙ no-block v xs k
 
   -- no code row: 7
-  pub other-fault : (first : Bool) (xs : List Instr) → OneOf (0 ∷ 1 ∷ 2 ∷ 3 ∷ 4 ∷ 5 ∷ []) (tagOf the-type v) → 7 ≡ leastOf (blockFaults first (blockOf (typeAt value (typesOf (rowsIn (tab rows parts) n)) c) xs))
+  pub other-fault : (first : Bool) (xs : List Instr) → OneOf (0 ∷ 1 ∷ 2 ∷ 3 ∷ 4 ∷ 5 ∷ 7 ∷ []) (tagOf the-type v) → 7 ≡ leastOf (blockFaults first (blockOf (typeAt value (typesOf (rowsIn (tab rows parts) n)) c) xs))
   unfolding blockFaults isFormed items leastOf given numberOf lowest isEntry sameLetters same entryRegs declared
   other-fault first xs k = go first ∙ ap (λ (B : Block). leastOf (blockFaults first B)) (sym (other-block xs k))
     where
@@ -255,7 +257,7 @@ module _ (rows parts : List ℕ) (n c h : ℕ) {v : Val} (e : h ≡ lower (n + 1
       go true = refl
       go false = refl
 
-  pub other-samples : (xs : List Instr) → OneOf (0 ∷ 1 ∷ 2 ∷ 3 ∷ 4 ∷ 5 ∷ []) (tagOf the-type v) → 0 ≡ declared (blockOf (typeAt value (typesOf (rowsIn (tab rows parts) n)) c) xs .regs)
+  pub other-samples : (xs : List Instr) → OneOf (0 ∷ 1 ∷ 2 ∷ 3 ∷ 4 ∷ 5 ∷ 7 ∷ []) (tagOf the-type v) → 0 ≡ declared (blockOf (typeAt value (typesOf (rowsIn (tab rows parts) n)) c) xs .regs)
   unfolding declared
   other-samples xs k = ap (λ (B : Block). declared (B .regs)) (sym (other-block xs k))
 
@@ -266,7 +268,7 @@ module _ (rows parts : List ℕ) (n c h : ℕ) {v : Val} (e : h ≡ lower (n + 1
   -- ---- well-formed
   code-kind : (k a b x p : ℕ) → valueWith ValVar h k a b ≡ Code x p → k ≡ 5
   unfolding valueWith
-  code-kind k a b x p q = go (eqb k 0) (eqb k 2) (eqb k 3) (eqb k 4) (eqb k 5) refl q
+  code-kind k a b x p q = go (eqb k 0) (eqb k 2) (eqb k 3) (eqb k 4) (eqb k 5) (eqb k 6) refl q
     where
       tag : Val → ℕ
       tag Int = 0
@@ -276,14 +278,16 @@ module _ (rows parts : List ℕ) (n c h : ℕ) {v : Val} (e : h ≡ lower (n + 1
       tag (Tuple y o) = 0
       tag (Pointer y) = 0
       tag (Code y o) = 1
+      tag (Hidden y) = 0
 
-      go : (i j l m o : Bool) → eqb k 5 ≡ o → cond i Int (cond j (ValVar a) (cond l (Tuple a b) (cond m (Pointer (lower h a)) (cond o (Code (lower h a) b) Junk)))) ≡ Code x p → k ≡ 5
-      go true j l m o r z = never (ap tag z)
-      go false true l m o r z = never (ap tag z)
-      go false false true m o r z = never (ap tag z)
-      go false false false true o r z = never (ap tag z)
-      go false false false false true r z = eqb-true k 5 r
-      go false false false false false r z = never (ap tag z)
+      go : (i j l m o n : Bool) → eqb k 5 ≡ o → cond i Int (cond j (ValVar a) (cond l (Tuple a b) (cond m (Pointer (lower h a)) (cond o (Code (lower h a) b) (cond n (Hidden (lower h a)) Junk))))) ≡ Code x p → k ≡ 5
+      go true j l m o n r z = never (ap tag z)
+      go false true l m o n r z = never (ap tag z)
+      go false false true m o n r z = never (ap tag z)
+      go false false false true o n r z = never (ap tag z)
+      go false false false false true n r z = eqb-true k 5 r
+      go false false false false false true r z = never (ap tag z)
+      go false false false false false false r z = never (ap tag z)
 
 -- ---- what a form names is small
 pub tuple-ok : (h : ℕ) {v : Val} {p c : ℕ} → v ≡ Tuple p c → OkV 0 h v → h ≤ 65536 → (h ≤ 65536) × (0 < h) × (p ≤ 65535) × (c ≤ 65535)
@@ -302,7 +306,7 @@ link-some : (b : Bool) (n c h : ℕ) → h ≡ cond b (suc c) 0 → ltb (suc c) 
 link-some true n c h e q l = let k = ltb-true (suc c) (n + 1) q in (omega arith, e)
 link-some false n c h e q l = absurd (omega arith)
 
-module _ (rows parts : List ℕ) (n c h : ℕ) {v : Val} {x p : ℕ} (e : h ≡ lower (n + 1) c) (f : v ≡ valueAt rows (placeV 0 0 0) h) (q : v ≡ Code x p) (o : OkV 0 h v) where
+module _ (rows parts : List ℕ) (n c h : ℕ) {v : Val} {x p : ℕ} (e : h ≡ lower (n + 1) c) (f : v ≡ valueAt rows (placeV 0 (lift 0) 0) h) (q : v ≡ Code x p) (o : OkV 0 h v) where
   pub code-low : (x < h) × (p ≤ 65535) × (0 < h)
   code-low = let k = code-ok h q o in (k .0, k .1, omega (arith, k .0))
 
@@ -317,14 +321,14 @@ module _ (rows parts : List ℕ) (n c h : ℕ) {v : Val} {x p : ℕ} (e : h ≡ 
   no-stack : isStackAt rows c ≡ false
   no-stack = rw kind-five refl
 
-  pub formed-is : (b : Bool) → b ≡ formedArg (map letterOf (span parts 0 0)) (getD (typesOf (rowsIn (tab rows parts) n)) c (arg value junk)) → b ≡ isFormed [] aStack (code (lettersAt parts p) (meanS (tab rows parts) x) (partsOf (meanV (tab rows parts)) parts true h p 8))
+  pub formed-is : (b : Bool) → b ≡ formedArg (lettersOf parts (record { hidden = 0; count = 0; start = 0 })) (getD (typesOf (rowsIn (tab rows parts) n)) c (arg value junk)) → b ≡ isFormed [] aStack (code (lettersAt parts p) (meanS (tab rows parts) x) (partsOf (meanV (tab rows parts)) parts true h p 8))
   unfolding formedArg span argOf
   formed-is b g =
       g
       ∙ ap (formedArg []) (arg-at (tab rows parts) n c (code-in .0) ∙ ap (λ (z : Bool). cond z (arg stack (meanS (tab rows parts) (suc c))) (arg value (meanV (tab rows parts) (suc c)))) no-stack)
       ∙ ap (λ (t : Ty value). isFormed [] aStack t) (ap (meanV (tab rows parts)) (sym (code-in .1)) ∙ sym (form-is rows parts h f q))
 
-  pub block-least : (first a b : Bool) (k out : ℕ) (xs : List Instr) → a ≡ formedArg (map letterOf (span parts 0 0))
+  pub block-least : (first a b : Bool) (k out : ℕ) (xs : List Instr) → a ≡ formedArg (lettersOf parts (record { hidden = 0; count = 0; start = 0 }))
       (getD (typesOf (rowsIn (tab rows parts) n)) c (arg value junk)) → not b ≡ first && not (isEntry (blockAt (tab rows parts) h x p xs))
       → k ≡ itemsAt rows x → CountedTo (tab rows parts) n → out ≡ leastOf (given (not a) 7 ++ given (not b) 8 ++ given (ltb 64 k) 13)
       → out ≡ leastOf (blockFaults first (blockOf (typeAt value (typesOf (rowsIn (tab rows parts) n)) c) xs))

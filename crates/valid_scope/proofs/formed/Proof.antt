@@ -2,10 +2,9 @@
 use borrow.Author.Needs.{needs}
 use mathlib.Core.Path.{_≡_}
 use mathlib.Core.Bool.{true}
-use mathlib.Core.List.{map}
 use Prim.Native.Nat.{_≤_, _-_}
 use native.Mathlib.Omega.{arith}
-use Rattle.tables.specs.Tables.{span, letterOf}
+use Rattle.valid_scope.specs.Letters.{lettersOf}
 use Rattle.valid_scope.specs.variables.Free.{fitTo}
 use Rattle.valid_scope.specs.variables.Uses.{useAt}
 use Rattle.valid_scope.proofs.variables.Laws.{fit-none, fit-more}
@@ -14,10 +13,10 @@ use Rattle.valid_scope.proofs.formed.Statement.{statement}
 use Rattle.valid_scope.proofs.formed.Tie as tie
 
 abbrev Inv-loop : tie.InvT-loop
-Inv-loop rows parts n uses tops r q l top k₀ k = (k ≤ top) × (fitTo (map letterOf (span parts l q)) (λ j. useAt uses j r) k ≡ true)
+Inv-loop rows parts n uses tops r w top k₀ k = (k ≤ top) × (fitTo (lettersOf parts w) (λ j. useAt uses j r) k ≡ true)
 
 abbrev μ-loop : tie.MeasureT-loop
-μ-loop rows parts n uses tops r q l top k₀ k = top - k
+μ-loop rows parts n uses tops r w top k₀ k = top - k
 
 returns : tie.Need-returns Inv-loop μ-loop
 returns c =
@@ -30,16 +29,16 @@ loop-holds c = (omega arith, fit-none _ (λ j. useAt _ j _))
 
 returns-2 : tie.Need-returns-2 Inv-loop μ-loop
 returns-2 c =
-    let i : tie.After-is-bound Inv-loop μ-loop = search in
+    let i : tie.After-in-block Inv-loop μ-loop = search in
     let u : tie.After-use-at Inv-loop μ-loop = search in
     let s : tie.Start Inv-loop μ-loop = search in
-    formed-unfit _ _ _ _ _ (s .pre .1) (search) _ _ (u .use-at .ensures) (i .is-bound .ensures) (search)
+    formed-unfit _ _ _ _ _ (s .pre .1) (search) _ _ (u .use-at .ensures) (i .in-block .ensures) (search)
 
 loop-again : tie.Need-loop-again Inv-loop μ-loop
 loop-again c =
-    let i : tie.After-is-bound Inv-loop μ-loop = search in
+    let i : tie.After-in-block Inv-loop μ-loop = search in
     let u : tie.After-use-at Inv-loop μ-loop = search in
-    (omega arith, fit-more _ (λ j. useAt _ j _) _ (search) (u .use-at .ensures) (i .is-bound .ensures) (search))
+    (omega arith, fit-more _ (λ j. useAt _ j _) _ (search) (u .use-at .ensures) (i .in-block .ensures) (search))
 
 returns-3 : tie.Need-returns-3 Inv-loop μ-loop
 returns-3 c =

@@ -6,13 +6,15 @@ use native.Mathlib.Omega.{arith}
 use mathlib.Core.Path.{_≡_, refl, ap, ap₂, sym, _∙_}
 use mathlib.Core.Bool.{Bool, true, false, _&&_, not, cond}
 use mathlib.Core.Option.{Option, none, some}
-use mathlib.Core.List.{List, _∷_, map, reverse-reverse}
+use mathlib.Core.List.{List, _∷_, _++_, map, reverse-reverse}
 use lib.Dec.{eqb}
-use lib.ListN.{length, getD, getElem?, length-map, length-reverse, List·getD-eq-default}
+use lib.ListN.{length, getD, getElem?, replicate, length-map, length-reverse, List·getD-eq-default}
 use borrow.Author.Tests.{ne-eqb, lt-ltb, le-ltb, eqb-true, eqb-false, not-true, not-false}
-use Rattle.syntax.specs.Syntax.{Kind, rowK, rowA}
+use Rattle.syntax.specs.Syntax.{Kind, value, Row, rowK, rowA}
 use Rattle.types.proofs.Equal.{none-true}
 use Rattle.tables.specs.Tables.{span, letterOf, knownOf, lettersAt, codeRowAt, rowFrom}
+use Rattle.valid_scope.specs.Letters.{lettersOf}
+use Rattle.valid_scope.specs.declared.BlockLetters.{BlockLetters}
 use Rattle.valid_scope.specs.variables.Free.{both, useOf, fits, fitTo}
 use Rattle.valid_scope.specs.variables.Uses.{partsAt, useAt, partUse, partsUse, codeUse, rowUse, respectedAt, partRespected, partsRespected, rowRespected}
 use Rattle.valid_scope.proofs.variables.WellFormed.{fits-unused, fit-each}
@@ -141,6 +143,28 @@ pub bound-in : (ps : List ℕ) (u k q l : ℕ) {m x : ℕ} → (u ≡ 0 → ⊥)
 unfolding fits
 bound-in ps u k q l n h e f = rw (letter-in ps l q k h, ne-eqb u 0 n, f, e)
 
+pub fits-value : (u : ℕ) → (u ≡ 0 → ⊥) → eqb u 1 ≡ fits u (some value)
+unfolding fits useOf
+fits-value u n = rw (ne-eqb u 0 n)
+
+-- the hidden variables, then the block's letters
+hidden-letter : (h k : ℕ) (Δ : List Kind) → k < h → getElem? (replicate h value ++ Δ) k ≡ some value
+hidden-letter zero k Δ l = absurd (not-suc-le-zero l)
+hidden-letter (suc h) zero Δ l = refl
+hidden-letter (suc h) (suc k) Δ l = hidden-letter h k Δ (le-of-suc-le-suc l)
+
+block-letter : (h k : ℕ) (Δ : List Kind) → h ≤ k → getElem? (replicate h value ++ Δ) k ≡ getElem? Δ (k - h)
+block-letter zero k Δ l = ap (getElem? Δ) (sym (sub-zero k))
+block-letter (suc h) zero Δ l = absurd (not-suc-le-zero l)
+block-letter (suc h) (suc k) Δ l = let e : k - h ≡ suc k - suc h = omega arith in block-letter h k Δ (le-of-suc-le-suc l) ∙ ap (getElem? Δ) e
+
+module _ (ps : List ℕ) (w : BlockLetters) (u k : ℕ) {x : Bool} where
+  pub in-hidden : k < w .hidden → x ≡ fits u (some value) → x ≡ fits u (getElem? (lettersOf ps w) k)
+  in-hidden l e = e ∙ ap (fits u) (sym (hidden-letter (w .hidden) k (map letterOf (span ps (w .start) (w .count))) l))
+
+  pub in-letters : w .hidden ≤ k → x ≡ fits u (getElem? (map letterOf (span ps (w .start) (w .count))) (k - w .hidden)) → x ≡ fits u (getElem? (lettersOf ps w) k)
+  in-letters l e = e ∙ ap (fits u) (sym (block-letter (w .hidden) k (map letterOf (span ps (w .start) (w .count))) l))
+
 -- the variables below n
 module _ (Δ : List Kind) (f : ℕ → ℕ) where
   pub fit-none : fitTo Δ f 0 ≡ true
@@ -178,12 +202,32 @@ unfolding lettersAt
 letters-length ps p = length-map (span ps (p + 9) (getD ps (p + 8) 0)) letterOf ∙ span-length ps (p + 9) (getD ps (p + 8) 0)
 
 -- ---- a row of kind c with the numbers a and b: how variable k is free in it
+-- what holds of K and of A rows holds of every kind past 8
+two-rows : (ps : List ℕ) (c a b : ℕ) → 8 < c → (P : Row → Type 0) → P (rowK a b) → P (rowA a b) → P (rowFrom ps c a b)
+unfolding rowFrom
+two-rows ps c a b h P p q =
+    rw (
+      ne-eqb c 0 (λ e. omega arith),
+      ne-eqb c 1 (λ e. omega arith),
+      ne-eqb c 2 (λ e. omega arith),
+      ne-eqb c 3 (λ e. omega arith),
+      ne-eqb c 4 (λ e. omega arith),
+      ne-eqb c 5 (λ e. omega arith),
+      ne-eqb c 6 (λ e. omega arith),
+      ne-eqb c 7 (λ e. omega arith),
+      ne-eqb c 8 (λ e. omega arith),
+    ) (go (eqb c 9))
+  where
+    go : (t : Bool) → P (cond t (rowK a b) (rowA a b))
+    go true = p
+    go false = q
+
 module _ (uses ps : List ℕ) (c a b k : ℕ) where
   pub use-value : {u : ℕ} → u ≡ cond (eqb a k) 1 0 → c ≡ 2 → u ≡ rowUse uses k (rowFrom ps c a b)
   unfolding rowUse rowFrom
   use-value h e = rw e h
 
-  pub use-stack : {u : ℕ} → u ≡ cond (eqb a k) 2 0 → c ≡ 7 → u ≡ rowUse uses k (rowFrom ps c a b)
+  pub use-stack : {u : ℕ} → u ≡ cond (eqb a k) 2 0 → c ≡ 8 → u ≡ rowUse uses k (rowFrom ps c a b)
   unfolding rowUse rowFrom
   use-stack h e = rw e h
 
@@ -199,31 +243,19 @@ module _ (uses ps : List ℕ) (c a b k : ℕ) where
   unfolding rowUse rowFrom codeRowAt
   use-code p h e = rw e (h ∙ rw (p, registers-at, length-reverse, letters-length))
 
-  pub use-two : {u v w : ℕ} → u ≡ both v w → v ≡ useAt uses k a → w ≡ useAt uses k b → 7 < c → u ≡ rowUse uses k (rowFrom ps c a b)
+  pub use-hidden : {u : ℕ} → u ≡ useAt uses (k + 1) a → c ≡ 6 → u ≡ rowUse uses k (rowFrom ps c a b)
   unfolding rowUse rowFrom
-  use-two p q e h =
-      p ∙ ap₂ both q e ∙ rw (
-        ne-eqb c 0 (λ e. omega arith),
-        ne-eqb c 1 (λ e. omega arith),
-        ne-eqb c 2 (λ e. omega arith),
-        ne-eqb c 3
-            (λ e. omega arith),
-        ne-eqb c 4 (λ e. omega arith),
-        ne-eqb c 5 (λ e. omega arith),
-        ne-eqb c 6 (λ e. omega arith),
-        ne-eqb c 7
-            (λ e. omega arith),
-      ) (go (eqb c 8))
-    where
-      go : (t : Bool) → both (useAt uses k a) (useAt uses k b) ≡ rowUse uses k (cond t (rowK a b) (rowA a b))
-      go true = refl
-      go false = refl
+  use-hidden h e = rw e (h ∙ ap (λ j. useAt uses j a) (add-one k))
 
-pub use-leaf : (uses ps : List ℕ) (c a b k : ℕ) → (c ≡ 2 → ⊥) → (c ≡ 7 → ⊥) → (c ≡ 3 → ⊥) → (c ≡ 4 → ⊥) → (c ≡ 5 → ⊥) → c ≤ 7 → 0 ≡ rowUse uses k (rowFrom ps c a b)
+  pub use-two : {u v w : ℕ} → u ≡ both v w → v ≡ useAt uses k a → w ≡ useAt uses k b → 8 < c → u ≡ rowUse uses k (rowFrom ps c a b)
+  unfolding rowUse
+  use-two p q e h = p ∙ ap₂ both q e ∙ two-rows ps c a b h (λ r. both (useAt uses k a) (useAt uses k b) ≡ rowUse uses k r) refl refl
+
+pub use-leaf : (uses ps : List ℕ) (c a b k : ℕ) → (c ≡ 2 → ⊥) → (c ≡ 8 → ⊥) → (c ≡ 3 → ⊥) → (c ≡ 4 → ⊥) → (c ≡ 5 → ⊥) → (c ≡ 6 → ⊥) → c ≤ 8 → 0 ≡ rowUse uses k (rowFrom ps c a b)
 unfolding rowUse rowFrom
-use-leaf uses ps zero a b k x₂ x₇ x₃ x₄ x₅ h = refl
-use-leaf uses ps (suc zero) a b k x₂ x₇ x₃ x₄ x₅ h = refl
-use-leaf uses ps (suc (suc c)) a b k x₂ x₇ x₃ x₄ x₅ h = let e : suc (suc c) ≡ 6 = omega arith in rw e
+use-leaf uses ps zero a b k x₂ x₈ x₃ x₄ x₅ x₆ h = refl
+use-leaf uses ps (suc zero) a b k x₂ x₈ x₃ x₄ x₅ x₆ h = refl
+use-leaf uses ps (suc (suc c)) a b k x₂ x₈ x₃ x₄ x₅ x₆ h = let e : suc (suc c) ≡ 7 = omega arith in rw e
 
 -- ---- and whether each variable that is bound inside it is of its letter
 module _ (uses tops ps : List ℕ) (s p : ℕ) where
@@ -241,11 +273,12 @@ module _ (uses tops ps : List ℕ) (s p : ℕ) where
   pub code-letters : {x y z : Bool} → x ≡ respectedAt tops s → not x ≡ false → y ≡ partsRespected tops (partsAt ps p 8 0) → not y ≡ false → z ≡ fitTo (lettersAt ps p) (codeUse uses s (partsAt ps p 8 0)) (getD ps (p + 8) 0) → z ≡ rowRespected uses tops (codeRowAt ps s p)
   code-letters e t f u g = g ∙ (rw (sym e ∙ not-false _ t, sym f ∙ not-false _ u) at code-row)
 
-module _ (tops : List ℕ) (a b : ℕ) {x : Bool} (e : x ≡ respectedAt tops a) where
-  pub two-first : not x ≡ true → false ≡ respectedAt tops a && respectedAt tops b
+-- one test, then another
+module _ {x p : Bool} (q : Bool) (e : x ≡ p) where
+  pub two-first : not x ≡ true → false ≡ p && q
   two-first t = rw (sym e ∙ not-true _ t)
 
-  pub two-second : {y : Bool} → not x ≡ false → y ≡ respectedAt tops b → y ≡ respectedAt tops a && respectedAt tops b
+  pub two-second : {y : Bool} → not x ≡ false → y ≡ q → y ≡ p && q
   two-second t f = rw (sym e ∙ not-false _ t) f
 
 module _ (uses tops ps : List ℕ) (c a b : ℕ) where
@@ -261,24 +294,24 @@ module _ (uses tops ps : List ℕ) (c a b : ℕ) where
   unfolding rowFrom
   respected-code h e = rw e h
 
-  pub respected-two : {x : Bool} → x ≡ respectedAt tops a && respectedAt tops b → 7 < c → x ≡ rowRespected uses tops (rowFrom ps c a b)
+  pub respected-hidden : {x : Bool} → x ≡ respectedAt tops a && fits (useAt uses 0 a) (some value) → c ≡ 6 → x ≡ rowRespected uses tops (rowFrom ps c a b)
   unfolding rowRespected rowFrom
-  respected-two p h = p ∙ rw (ne-eqb c 0 (λ e. omega arith), ne-eqb c 1 (λ e. omega arith), ne-eqb c 2 (λ e. omega arith), ne-eqb c 3 (λ e. omega arith), ne-eqb c 4 (λ e. omega arith), ne-eqb c 5 (λ e. omega arith), ne-eqb c 6 (λ e. omega arith), ne-eqb c 7 (λ e. omega arith)) (go (eqb c 8))
-    where
-      go : (t : Bool) → respectedAt tops a && respectedAt tops b ≡ rowRespected uses tops (cond t (rowK a b) (rowA a b))
-      go true = refl
-      go false = refl
+  respected-hidden h e = rw e h
 
-pub respected-leaf : (uses tops ps : List ℕ) (c a b : ℕ) → (c ≡ 3 → ⊥) → (c ≡ 4 → ⊥) → (c ≡ 5 → ⊥) → c ≤ 7 → true ≡ rowRespected uses tops (rowFrom ps c a b)
+  pub respected-two : {x : Bool} → x ≡ respectedAt tops a && respectedAt tops b → 8 < c → x ≡ rowRespected uses tops (rowFrom ps c a b)
+  unfolding rowRespected
+  respected-two p h = p ∙ two-rows ps c a b h (λ r. respectedAt tops a && respectedAt tops b ≡ rowRespected uses tops r) refl refl
+
+pub respected-leaf : (uses tops ps : List ℕ) (c a b : ℕ) → (c ≡ 3 → ⊥) → (c ≡ 4 → ⊥) → (c ≡ 5 → ⊥) → (c ≡ 6 → ⊥) → c ≤ 8 → true ≡ rowRespected uses tops (rowFrom ps c a b)
 unfolding rowRespected rowFrom
-respected-leaf uses tops ps zero a b x₃ x₄ x₅ h = refl
-respected-leaf uses tops ps (suc zero) a b x₃ x₄ x₅ h = refl
-respected-leaf uses tops ps (suc (suc zero)) a b x₃ x₄ x₅ h = refl
-respected-leaf uses tops ps (suc (suc (suc c))) a b x₃ x₄ x₅ h = go (eqb (suc (suc (suc c))) 6) refl
+respected-leaf uses tops ps zero a b x₃ x₄ x₅ x₆ h = refl
+respected-leaf uses tops ps (suc zero) a b x₃ x₄ x₅ x₆ h = refl
+respected-leaf uses tops ps (suc (suc zero)) a b x₃ x₄ x₅ x₆ h = refl
+respected-leaf uses tops ps (suc (suc (suc c))) a b x₃ x₄ x₅ x₆ h = go (eqb (suc (suc (suc c))) 7) refl
   where
-    go : (t : Bool) → eqb (suc (suc (suc c))) 6 ≡ t → true ≡ rowRespected uses tops (rowFrom ps (suc (suc (suc c))) a b)
-    go true e = rw (eqb-true (suc (suc (suc c))) 6 e)
+    go : (t : Bool) → eqb (suc (suc (suc c))) 7 ≡ t → true ≡ rowRespected uses tops (rowFrom ps (suc (suc (suc c))) a b)
+    go true e = rw (eqb-true (suc (suc (suc c))) 7 e)
     go false e =
-        let d = eqb-false (suc (suc (suc c))) 6 e in
-        let q : suc (suc (suc c)) ≡ 7 = omega arith in
+        let d = eqb-false (suc (suc (suc c))) 7 e in
+        let q : suc (suc (suc c)) ≡ 8 = omega arith in
         rw q

@@ -11,7 +11,7 @@ use lib.Dec.{eqb}
 use lib.ListN.{length, getElem?}
 use borrow.Author.Tests.{eqb-true, eqb-false, eq-eqb}
 use Rattle.syntax.specs.Syntax.{Kind, value, stack}
-use Rattle.types.specs.Types.{Ty, int, junk, var, tuple, pointer, code, nil, push, svar, gap, Use, aStack, aTuple, aFile}
+use Rattle.types.specs.Types.{Ty, int, junk, var, tuple, pointer, hidden, code, nil, push, svar, gap, Use, aStack, aTuple, aFile}
 use Rattle.types.proofs.Equal.{and-inv}
 use Rattle.types.proofs.Filling.{Side, lo, hi, side}
 use Rattle.valid.specs.Tests.{isKind, isStack, isFile, isFormed}
@@ -124,6 +124,11 @@ under q Δ f g e h k = go (side (length q) k)
     go (lo l) = rw (front q Δ k l) (parts q k (f k) (g k) (fit-each q (λ k. both (f k) (g k)) (length q) e k l))
     go (hi j p) = rw (p ∙ add-comm j (length q), past q Δ j) (parts Δ j (f (length q + j)) (g (length q + j)) (h j))
 
+-- under a package's variable
+inside : (Δ : List Kind) (f : ℕ → ℕ) → fits (f 0) (some value) ≡ true → ((k : ℕ) → fits (f (suc k)) (getElem? Δ k) ≡ true) → (k : ℕ) → fits (f k) (getElem? (value ∷ Δ) k) ≡ true
+inside Δ f e h zero = e
+inside Δ f e h (suc k) = h k
+
 -- ---- well-formed types
 pub formed-free : (Δ : List Kind) (u : Use) {κ : Kind} (t : Ty κ) → isFormed Δ u t ≡ true → (k : ℕ) → fits (freeAs k t) (getElem? Δ k) ≡ true
 unfolding isFormed freeAs
@@ -132,6 +137,7 @@ formed-free Δ u junk e k = fits-unused (getElem? Δ k)
 formed-free Δ u (var j) e k = used Δ 1 j k (value-fits (getElem? Δ j) ∙ e)
 formed-free Δ u (tuple a) e k = formed-free Δ aTuple a e k
 formed-free Δ u (pointer a) e k = formed-free Δ aStack a e k
+formed-free Δ u (hidden t) e k = formed-free (value ∷ Δ) aStack t e (suc k)
 formed-free Δ u (code q a r) e k =
     let h = and-inv _ _ e in
     let j = and-inv _ _ (h .1) in
@@ -152,6 +158,7 @@ formed-respected Δ u junk e = refl
 formed-respected Δ u (var j) e = refl
 formed-respected Δ u (tuple a) e = formed-respected Δ aTuple a e
 formed-respected Δ u (pointer a) e = formed-respected Δ aStack a e
+formed-respected Δ u (hidden t) e = rw (formed-respected (value ∷ Δ) aStack t e) (formed-free (value ∷ Δ) aStack t e 0)
 formed-respected Δ u (code q a r) e =
     let h = and-inv _ _ e in
     let j = and-inv _ _ (h .1) in
@@ -172,6 +179,7 @@ formed-made Δ u junk p e f = refl
 formed-made Δ u (var j) p e f = sym (value-fits (getElem? Δ j)) ∙ own Δ 1 j (f j)
 formed-made Δ u (tuple a) p e f = formed-made Δ aTuple a p e f
 formed-made Δ u (pointer a) p e f = formed-made Δ aStack a p e f
+formed-made Δ u (hidden t) p e f = let j = and-inv _ _ e in formed-made (value ∷ Δ) aStack t p (j .0) (inside Δ (λ k. freeAs k t) (j .1) f)
 formed-made Δ u (code q a r) p e f =
     let h = and-inv _ _ p in
     let i = and-inv _ _ (h .1) in

@@ -7,7 +7,7 @@ use mathlib.Core.List.{List}
 use lib.Dec.{eqb}
 use lib.ListN.{length, getElem?}
 use Rattle.syntax.specs.Syntax.{Kind, value, stack}
-use Rattle.types.specs.Types.{Ty, int, junk, var, tuple, pointer, code, nil, push, svar, gap, items, Arg, arg, Use, aStack, aTuple, aFile}
+use Rattle.types.specs.Types.{Ty, int, junk, var, tuple, pointer, hidden, code, nil, push, svar, gap, items, Arg, arg, Use, aStack, aTuple, aFile}
 use Rattle.valid.specs.Tests.{isStack, isFile}
 
 -- ---- how a variable is used: 0 not at all, 1 as a value variable, 2 as a stack variable, 3 as both
@@ -36,13 +36,14 @@ topOf f zero = 0
 topOf f (suc n) = cond (eqb (f n) 0) (topOf f n) (suc n)
 
 -- ---- types
--- how variable k is free in a type; inside a code type it is the variable k past the letters
+-- how variable k is free in a type; inside a code type it is the variable k past the letters, inside a package the next
 unfoldable pub freeAs : ℕ → {κ : Kind} → Ty κ → ℕ
 freeAs k int = 0
 freeAs k junk = 0
 freeAs k (var j) = cond (eqb j k) 1 0
 freeAs k (tuple a) = freeAs k a
 freeAs k (pointer a) = freeAs k a
+freeAs k (hidden t) = freeAs (suc k) t
 freeAs k (code q a r) = both (freeAs (length q + k) a) (freeAs (length q + k) r)
 freeAs k nil = 0
 freeAs k (push t a) = both (freeAs k t) (freeAs k a)
@@ -56,6 +57,7 @@ respected junk = true
 respected (var j) = true
 respected (tuple a) = respected a
 respected (pointer a) = respected a
+respected (hidden t) = respected t && fits (freeAs 0 t) (some value)
 respected (code q a r) = (respected a && respected r) && fitTo q (λ k. both (freeAs k a) (freeAs k r)) (length q)
 respected nil = true
 respected (push t a) = respected t && respected a
@@ -69,6 +71,7 @@ proper u junk = true
 proper u (var j) = true
 proper u (tuple a) = proper aTuple a
 proper u (pointer a) = proper aStack a
+proper u (hidden t) = proper aStack t
 proper u (code q a r) = proper aStack a && (proper aFile r && eqb (items r) 8)
 proper u nil = true
 proper u (push t a) = proper u t && proper u a

@@ -38,13 +38,13 @@ module _ (first : List ℕ) where
     unfolding newA
     a-value e = rw e refl
 
-    pub a-stack : k ≡ 7 → a ≡ newA first r k a
+    pub a-stack : k ≡ 8 → a ≡ newA first r k a
     unfolding newA
     a-stack e = rw e refl
 
-    pub a-row : (y : ℕ) → (k ≡ 3 → ⊥) → (k ≡ 2 → ⊥) → (k ≡ 7 → ⊥) → y ≡ firstOf first a → y ≡ newA first r k a
+    pub a-row : (y : ℕ) → (k ≡ 3 → ⊥) → (k ≡ 2 → ⊥) → (k ≡ 8 → ⊥) → y ≡ firstOf first a → y ≡ newA first r k a
     unfolding newA
-    a-row y n m o e = rw (ne-eqb k 3 n, ne-eqb k 2 m, ne-eqb k 7 o) e
+    a-row y n m o e = rw (ne-eqb k 3 n, ne-eqb k 2 m, ne-eqb k 8 o) e
 
     pub b-tuple : k ≡ 3 → a ≡ newB first r k a
     unfolding newB

@@ -16,7 +16,7 @@ firstOf first x = cond (leb (getD first x 0) x) (getD first x 0) x
 -- ---- the entries of row r of the kind k with the numbers a and b
 -- the first number of row r, of kind k
 unfoldable pub newA : List ℕ → ℕ → ℕ → ℕ → ℕ
-newA first r k a = cond (eqb k 3) (17 * r) (cond (eqb k 2) a (cond (eqb k 7) a (firstOf first a)))
+newA first r k a = cond (eqb k 3) (17 * r) (cond (eqb k 2) a (cond (eqb k 8) a (firstOf first a)))
 
 -- the second number
 unfoldable pub newB : List ℕ → ℕ → ℕ → ℕ → ℕ

@@ -8,20 +8,21 @@ use mathlib.Core.List.{List}
 use lib.ListN.{length, getD, getElem?, List·getD-eq-default}
 use borrow.Author.Tests.{lt-ltb, le-ltb}
 use Rattle.syntax.specs.Syntax.{Kind, value, stack, Base, reg, lit, lab}
-use Rattle.types.specs.Types.{Ty, int, Arg}
+use Rattle.types.specs.Types.{Ty, int}
 use Rattle.types.specs.Rows.{typeAt}
 use Rattle.tables.specs.Tables.{cell, baseOf}
 use Rattle.valid.specs.Program.{Program}
 use Rattle.valid.specs.Tests.{itemAt, labelType}
 use Rattle.valid.specs.PassThree.{base}
-use Rattle.types_rows.specs.Read.{tab, lower, meanV, valueAt, valueWith, placeV}
+use Rattle.types_rows.specs.Read.{tab, lower, lift, meanV, valueAt, valueWith, placeV}
 use Rattle.types_rows.specs.declared.Val.the-variants.{Int}
 use Rattle.types_rows.proofs.Laws.{link-in}
 use Rattle.types_rows.proofs.Bridge.{type-at}
-use Rattle.valid_context.specs.Context.{linked}
+use Rattle.types_rows.proofs.Environments.{read-now}
+use Rattle.valid_context.specs.Context.{Reading, linked}
 use Rattle.valid_context.specs.Told.{gives, toldOf, answer}
 use Rattle.valid_context.specs.premises.Answers.{Holds}
-use Rattle.valid_typing.specs.Typing.{typesIn, Ready, givenRow}
+use Rattle.valid_typing.specs.Typing.{typesIn, heldIn, Ready, givenRow}
 use Rattle.valid_typing.proofs.Judging.{ifNone, told-guarded}
 use Rattle.valid_typing.proofs.OperandFaults.{base-reg, base-lit}
 use Rattle.valid_typing.proofs.Forms.{read-is}
@@ -43,7 +44,7 @@ int-type rows parts n r =
     let q : suc n ≡ n + 1 = omega arith in
     read-is rows parts n n (suc n) (q ∙ link-in (n + 3) n l) (sym int-form)
   where
-    int-form : valueAt rows (placeV 0 0 0) (suc n) ≡ Int
+    int-form : valueAt rows (placeV 0 (lift 0) 0) (suc n) ≡ Int
     int-form = rw (r .int-row) (unfold valueWith in refl)
 
 -- ---- a base by its kind
@@ -69,32 +70,40 @@ module _ (P : Program) (Δ : List Kind) (g : Ty stack) where
   of-kind k m b f u e h = ap (λ (z : Base). toldOf (base P Δ g z)) e ∙ h
 
   -- ---- registers
-  pub reg-none : (T : List Arg) (r u : ℕ) (y : Ty value) → itemAt g r ≡ linked T u → u ≡ 0 → toldOf (base P Δ g (reg r)) ≡ answer 9 y
+  pub reg-none : (T : Reading) (r x u : ℕ) (y : Ty value) → itemAt g r ≡ linked T x u → u ≡ 0 → toldOf (base P Δ g (reg r)) ≡ answer 9 y
   unfolding answer ifNone
-  reg-none T r zero y e z = base-reg P Δ g T r 0 e
-  reg-none T r (suc u) y e z = absurd (omega arith)
+  reg-none T r x zero y e z = base-reg P Δ g T r x 0 e
+  reg-none T r x (suc u) y e z = absurd (omega arith)
 
-  pub reg-some : (T : List Arg) (r u w : ℕ) → itemAt g r ≡ linked T u → (u ≡ 0 → ⊥) → typeAt value T w ≡ typeAt value T (u - 1) → toldOf (base P Δ g (reg r)) ≡ answer 0 (typeAt value T w)
+  pub reg-some : (T : Reading) (r x u w : ℕ) → itemAt g r ≡ linked T x u → (u ≡ 0 → ⊥) → T .type x w ≡ T .type x (u - 1) → toldOf (base P Δ g (reg r)) ≡ answer 0 (T .type x w)
   unfolding answer ifNone
-  reg-some T r zero w e z h = absurd (z refl)
-  reg-some T r (suc u) w e z h = base-reg P Δ g T r (suc u) e ∙ ap gives (sym h)
+  reg-some T r x zero w e z h = absurd (z refl)
+  reg-some T r x (suc u) w e z h = base-reg P Δ g T r x (suc u) e ∙ ap gives (sym h)
 
-  -- ---- literals
-  pub lit-told : (rows parts : List ℕ) (n m : ℕ) → Ready rows parts n → toldOf (base P Δ g (lit m)) ≡ answer 0 (typeAt value (typesIn rows parts n) n)
-  unfolding answer
-  lit-told rows parts n m r = base-lit P Δ g m ∙ ap gives (sym (int-type rows parts n r))
+  module _ (rows parts : List ℕ) (n : ℕ) (E : List ℕ) where
+    -- what is read now has its row's type
+    abbrev here : ℕ → Ty value
+    here w = heldIn rows parts n E .type (2 * length E) w
 
-  -- ---- labels
-  module _ (rows parts : List ℕ) (n : ℕ) (β : List ℕ) (nb : ℕ) (h : Holds (tab rows parts) n β nb P) (l : ℕ) where
-    pub lab-none : (y : Ty value) → nb ≤ l → toldOf (base P Δ g (lab l)) ≡ answer 9 y
-    unfolding base
-    lab-none y k = told-guarded 8 (labelType (getElem? (P .blocks) l)) false y (h .labels l ∙ rw (le-ltb l nb k) refl)
+    here-is : (w : ℕ) → typeAt value (typesIn rows parts n) w ≡ here w
+    here-is w = sym (read-now E (typeAt value (typesIn rows parts n) w))
 
-    pub lab-some : (c w : ℕ) → Ready rows parts n → l < nb → c ≡ getD β (2 * l) 0 → w ≡ givenRow n c → toldOf (base P Δ g (lab l)) ≡ answer 0 (typeAt value (typesIn rows parts n) w)
-    unfolding base
-    lab-some c w r k e f =
-        let q : 2 * l + 0 ≡ 2 * l = omega arith in
-        let d : cell 2 β l 0 ≡ c = ap (λ (z : ℕ). getD β z 0) q ∙ sym e in
-        let t : typeAt value (P .types) (cell 2 β l 0) ≡ typeAt value (typesIn rows parts n) w
-        = ap (typeAt value (P .types)) d ∙ given-typed rows parts n P Δ c (h .types) (givenRow n c) (given-is rows parts n c r) ∙ ap (typeAt value (typesIn rows parts n)) (sym f) in
-        told-guarded 8 (labelType (getElem? (P .blocks) l)) true (typeAt value (typesIn rows parts n) w) (h .labels l ∙ rw (lt-ltb l nb k) (ap some t))
+    -- ---- literals
+    pub lit-told : (m : ℕ) → Ready rows parts n → toldOf (base P Δ g (lit m)) ≡ answer 0 (here n)
+    unfolding answer
+    lit-told m r = base-lit P Δ g m ∙ ap gives (sym (int-type rows parts n r) ∙ here-is n)
+
+    -- ---- labels
+    module _ (β : List ℕ) (nb : ℕ) (h : Holds (tab rows parts) n β nb P) (l : ℕ) where
+      pub lab-none : (y : Ty value) → nb ≤ l → toldOf (base P Δ g (lab l)) ≡ answer 9 y
+      unfolding base
+      lab-none y k = told-guarded 8 (labelType (getElem? (P .blocks) l)) false y (h .labels l ∙ rw (le-ltb l nb k) refl)
+
+      pub lab-some : (c w : ℕ) → Ready rows parts n → l < nb → c ≡ getD β (2 * l) 0 → w ≡ givenRow n c → toldOf (base P Δ g (lab l)) ≡ answer 0 (here w)
+      unfolding base
+      lab-some c w r k e f =
+          let q : 2 * l + 0 ≡ 2 * l = omega arith in
+          let d : cell 2 β l 0 ≡ c = ap (λ (z : ℕ). getD β z 0) q ∙ sym e in
+          let t : typeAt value (P .types) (cell 2 β l 0) ≡ here w
+          = ap (typeAt value (P .types)) d ∙ given-typed rows parts n P Δ c (h .types) (givenRow n c) (given-is rows parts n c r) ∙ ap (typeAt value (typesIn rows parts n)) (sym f) ∙ here-is w in
+          told-guarded 8 (labelType (getElem? (P .blocks) l)) true (here w) (h .labels l ∙ rw (lt-ltb l nb k) (ap some t))

@@ -14,7 +14,7 @@ returns : tie.Need-returns
 returns c =
     let r : tie.After-read-value = search in
     let l : tie.After-link = search in
-    (not-code _ _ _ _ _ (l .link .ensures) (r .read-value .ensures .0) (c .match .keys2), omega arith, omega arith, omega arith)
+    (λ E e. not-code _ _ _ _ _ (l .link .ensures) (r .read-value .ensures .0) E e (c .match .keys2), omega arith, omega arith, omega arith)
 
 returns-2 : tie.Need-returns-2
 returns-2 c =
@@ -24,7 +24,8 @@ returns-2 c =
     let q = v2 .v .given .1 in
     let h = link-fits _ _ _ (l2 .link .ensures) in
     let l = code-low _ q (r .read-value .ensures .1) in
-    (is-code _ _ _ _ _ (search) (search) q, h, omega arith, l .1)
+    (λ E e. is-code _ _ _ _ _ (search) (search) E e q, h, omega arith, l .1)
 
 pub code-spec : {M : Type 1} → statement M
-code-spec = tie.close (tie.spec (λ c. search needs) (λ c κs. search) read-value-requires (λ c. search) returns returns-2)
+code-spec =
+    tie.close (tie.spec (λ c. search needs) (λ c κs. search needs) read-value-requires (λ c. search needs) returns returns-2)

@@ -36,5 +36,5 @@ returns-3 c =
 
 pub entry-of-spec : {M : Type 1} → statement M
 entry-of-spec =
-    tie.close (tie.spec (λ c. search) (λ c. search) row-of-requires (λ c. search needs) (λ c. search) add-result cast-result-2 returns
-    returns-2 returns-3)
+    tie.close (tie.spec (λ c. search needs) (λ c. search needs) row-of-requires (λ c. search needs) (λ c. search needs) add-result
+    cast-result-2 returns returns-2 returns-3)

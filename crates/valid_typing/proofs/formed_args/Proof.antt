@@ -3,9 +3,8 @@ use borrow.Author.Needs.{needs}
 use Prim.Native.Nat.{ℕ, _-_, _≤_}
 use native.Mathlib.Omega.{arith}
 use mathlib.Core.Path.{ap, _∙_}
-use mathlib.Core.List.{map}
 use borrow.Author.Tests.{not-true, not-false}
-use Rattle.tables.specs.Tables.{span, letterOf}
+use Rattle.valid_scope.specs.Letters.{lettersOf}
 use Rattle.valid.specs.Tests.{formedArg}
 use Rattle.valid_typing.specs.Typing.{givenArg}
 use Rattle.valid_typing.proofs.Args.{RestFormed, rest-first, rest-next, rest-fails, rest-done}
@@ -14,10 +13,10 @@ use Rattle.valid_typing.proofs.formed_args.Statement.{statement}
 use Rattle.valid_typing.proofs.formed_args.Tie as tie
 
 abbrev Inv-loop : tie.InvT-loop
-Inv-loop image n a c from to top shared slots end args uses tops rows parts q l i₀ i = (i ≤ c) × RestFormed rows parts n (map letterOf (span parts l q)) args a c i
+Inv-loop image n a c from to top shared slots end args uses tops rows parts u i₀ i = (i ≤ c) × RestFormed rows parts n (lettersOf parts u) args a c i
 
 abbrev μ-loop : tie.MeasureT-loop
-μ-loop image n a c from to top shared slots end args uses tops rows parts q l i₀ i = c - i
+μ-loop image n a c from to top shared slots end args uses tops rows parts u i₀ i = c - i
 
 loop-holds : tie.Need-loop-holds Inv-loop μ-loop
 unfolding part
@@ -58,8 +57,8 @@ returns-2 c =
 
 pub formed-args-spec : {M : Type 1} → statement M
 formed-args-spec =
-    tie.close (tie.spec Inv-loop μ-loop (λ c. search needs) (λ c. search needs) (λ c. search needs) (λ c. search needs)
+    tie.close (tie.spec Inv-loop μ-loop (λ c. search needs) (λ c. search needs) (λ c. search needs) (λ c. search needs) (λ c. search needs)
     (λ c. search needs) (λ c. search needs) (λ c. search needs) (λ c. search needs) (λ c. search needs) (λ c. search needs)
     (λ c. search needs) (λ c. search needs) (λ c. search needs) (λ c. search needs) (λ c. search needs) (λ c. search needs)
-    (λ c. search needs) (λ c. search needs) (λ c. search needs) (λ c. search needs) loop-holds (λ c. search needs) (λ c κs. search needs)
-    formed-arg-requires returns (λ c. search needs) (λ c. search needs) loop-again returns-2)
+    (λ c. search needs) (λ c. search needs) (λ c. search needs) loop-holds (λ c. search needs) (λ c κs. search needs) formed-arg-requires
+    returns (λ c. search needs) (λ c. search needs) loop-again returns-2)

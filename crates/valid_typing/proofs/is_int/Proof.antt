@@ -14,13 +14,14 @@ returns : tie.Need-returns
 returns c =
     let r : tie.After-read-value = search in
     let l : tie.After-link = search in
-    is-int _ _ _ _ _ (l .link .ensures) (r .read-value .ensures .0) (search)
+    λ E e. is-int _ _ _ _ _ (l .link .ensures) (r .read-value .ensures .0) E e (search)
 
 returns-2 : tie.Need-returns-2
 returns-2 c =
     let r : tie.After-read-value = search in
     let l : tie.After-link = search in
-    not-int _ _ _ _ _ (l .link .ensures) (r .read-value .ensures .0) (c .match .keys2)
+    λ E e. not-int _ _ _ _ _ (l .link .ensures) (r .read-value .ensures .0) E e (c .match .keys2)
 
 pub is-int-spec : {M : Type 1} → statement M
-is-int-spec = tie.close (tie.spec (λ c. search needs) (λ c κs. search) read-value-requires (λ c. search) returns returns-2)
+is-int-spec =
+    tie.close (tie.spec (λ c. search needs) (λ c κs. search needs) read-value-requires (λ c. search needs) returns returns-2)

@@ -5,17 +5,19 @@ use mathlib.Core.Path.{_≡_, refl, ap, sym, subst, _∙_}
 use mathlib.Core.Bool.{Bool, true, false, _&&_, not, cond}
 use mathlib.Core.Option.{Option, none, some}
 use mathlib.Core.List.{List, [], map, reverse}
-use lib.Dec.{leb}
+use lib.Dec.{leb, ltb, eqb}
+use borrow.Author.Tests.{eqb-true, lt-ltb, le-ltb}
 use lib.ListN.{length, getD, take, drop}
 use Rattle.syntax.specs.Partial.{guarded}
-use Rattle.syntax.specs.Syntax.{Kind, value, stack, Base, Operand, plain, inst}
+use Rattle.syntax.specs.Syntax.{Kind, value, stack, Base, Operand, plain, inst, pack}
 use Rattle.syntax.specs.Fault.{Fault, numberOf, fault}
 use Rattle.syntax.proofs.Least.{least}
-use Rattle.types.specs.Types.{Ty, int, junk, var, tuple, pointer, code, Arg, arg, kindOf, ofKind, filled, aStack, Wf}
+use Rattle.types.specs.Types.{Ty, int, junk, var, tuple, pointer, hidden, code, Arg, arg, kindOf, ofKind, filled, aStack, Wf}
 use Rattle.types.specs.Rows.{typeAt, typesOf}
 use Rattle.types.specs.Equal.{sameLetters}
-use Rattle.types.proofs.Equal.{and-inv}
-use Rattle.tables.specs.Tables.{OperandTable, cell, span, letterOf, baseOf, operandOf, operandAt, rowsIn}
+use Rattle.types.proofs.Equal.{and-inv, none-true}
+use Rattle.tables.specs.Tables.{OperandTable, cell, span, baseOf, operandOf, operandFrom, operandAt, rowsIn}
+use Rattle.valid_scope.specs.Letters.{lettersOf}
 use Rattle.valid.specs.Program.{Program, typeOf, argsOf, CodeType, asCode}
 use Rattle.valid.specs.Tests.{formedArg, formedArgs, lettersLeft, isFilled}
 use Rattle.valid.specs.PassThree.{formed, base, applied, operand}
@@ -54,6 +56,7 @@ code-is junk c e = no-code e
 code-is (var k) c e = no-code e
 code-is (tuple a) c e = no-code e
 code-is (pointer a) c e = no-code e
+code-is (hidden t) c e = no-code e
 code-is (code q a r) c e = ap (λ (z : CodeType). code (z .letters) (z .sp) (z .regs)) (ap (theCode c) e)
 
 pub guarded-is : {A : Type 0} {o : Option A} (b v : Bool) (x : A) → o ≡ guarded b x → b ≡ v → o ≡ guarded v x
@@ -119,24 +122,51 @@ unfolding span
 length-span l i zero = refl
 length-span l i (suc n) = ap suc (length-span l (suc i) n)
 
-module _ (ω : OperandTable) (v : ℕ) where
-  pub plain-at : (k c m : ℕ) → k ≡ cell 4 (ω .operands) v 0 → c ≡ cell 4 (ω .operands) v 1 → m ≡ getD (ω .numbers) v 0 → c ≡ 0 → operandAt ω v ≡ plain (baseOf k m)
-  unfolding operandAt
-  plain-at k c m e f d z = rw (← e, ← f, ← d, z) (unfold span operandOf in refl)
+-- one that is not plain, and not packed, has arguments
+pub some-args : (k c : ℕ) {b : Bool} → b ≡ (ltb k 4 && eqb c 0) → b ≡ false → k < 4 → 0 < c
+some-args k zero {b} h z l = none-true (sym z ∙ h ∙ rw (lt-ltb k 4 l) refl)
+some-args k (suc c) h z l = omega arith
 
-  inst-of : (b : Base) (a c t : ℕ) → (c ≡ 0 → ⊥) → operandOf b (span (ω .args) a c) t ≡ inst b (span (ω .args) a c) t
+module _ (ω : OperandTable) (v : ℕ) where
+  -- operand v by its entries
+  from-at : (k c m t a : ℕ) → k ≡ cell 4 (ω .operands) v 0 → c ≡ cell 4 (ω .operands) v 1 → m ≡ getD (ω .numbers) v 0 → t ≡ cell 4 (ω .operands) v 2 → a ≡ cell 4 (ω .operands) v 3
+      → operandAt ω v ≡ operandFrom k m (span (ω .args) a c) (getD (ω .args) a 0) t
+  unfolding operandAt
+  from-at k c m t a e f d g h = rw (← e, ← f, ← d, ← g, ← h) refl
+
+  plain-from : (k c m t a : ℕ) → ltb k 4 ≡ true → c ≡ 0 → operandFrom k m (span (ω .args) a c) (getD (ω .args) a 0) t ≡ plain (baseOf k m)
+  unfolding operandFrom
+  plain-from k c m t a l z = rw (l, z) (unfold span operandOf in refl)
+
+  pub plain-at : (k c m : ℕ) {b : Bool} → k ≡ cell 4 (ω .operands) v 0 → c ≡ cell 4 (ω .operands) v 1 → m ≡ getD (ω .numbers) v 0 → b ≡ (ltb k 4 && eqb c 0) → b ≡ true → operandAt ω v ≡ plain (baseOf k m)
+  plain-at k c m e f d h z =
+      let l = and-inv (ltb k 4) (eqb c 0) (sym h ∙ z) in
+      from-at k c m (cell 4 (ω .operands) v 2) (cell 4 (ω .operands) v 3) e f d refl refl ∙ plain-from k c m (cell 4 (ω .operands) v 2) (cell 4 (ω .operands) v 3) (l .0) (eqb-true c 0 (l .1))
+
+  pub carried-at : (k c m t a : ℕ) → k ≡ cell 4 (ω .operands) v 0 → c ≡ cell 4 (ω .operands) v 1 → m ≡ getD (ω .numbers) v 0 → t ≡ cell 4 (ω .operands) v 2 → a ≡ cell 4 (ω .operands) v 3
+      → operandAt ω v ≡ operandFrom k m (span (ω .args) a c) (getD (ω .args) a 0) t
+  carried-at = from-at
+
+  -- a base that is not packed, with arguments
+  inst-of : (b : Base) (a c t : ℕ) → 0 < c → operandOf b (span (ω .args) a c) t ≡ inst b (span (ω .args) a c) t
   unfolding span operandOf
-  inst-of b a zero t z = absurd (z refl)
+  inst-of b a zero t z = absurd (omega arith)
   inst-of b a (suc c) t z = refl
 
-  pub inst-at : (k c m t a : ℕ) → k ≡ cell 4 (ω .operands) v 0 → c ≡ cell 4 (ω .operands) v 1 → m ≡ getD (ω .numbers) v 0 → t ≡ cell 4 (ω .operands) v 2 → a ≡ cell 4 (ω .operands) v 3 → (c ≡ 0 → ⊥) → operandAt ω v ≡ inst (baseOf k m) (span (ω .args) a c) t
-  unfolding operandAt
-  inst-at k c m t a e f d g h z = rw (← e, ← f, ← d, ← g, ← h) (inst-of (baseOf k m) a c t z)
+  pub inst-from : (k c m t a : ℕ) → k < 4 → 0 < c → operandFrom k m (span (ω .args) a c) (getD (ω .args) a 0) t ≡ inst (baseOf k m) (span (ω .args) a c) t
+  unfolding operandFrom
+  inst-from k c m t a l z = rw (lt-ltb k 4 l) (inst-of (baseOf k m) a c t z)
 
-  pub few-args : (k c m t : ℕ) → k ≡ cell 4 (ω .operands) v 0 → c ≡ cell 4 (ω .operands) v 1 → m ≡ getD (ω .numbers) v 0 → t ≡ cell 4 (ω .operands) v 2 → (c ≡ 0 → ⊥) → Short (operandAt ω v) → c ≤ 8
-  few-args k c m t e f d g z s =
+  pub pack-from : (k c m t a : ℕ) → 4 ≤ k → operandFrom k m (span (ω .args) a c) (getD (ω .args) a 0) t ≡ pack (getD (ω .args) a 0) (baseOf (k - 4) m) t
+  unfolding operandFrom
+  pack-from k c m t a l = rw (le-ltb k 4 l)
+
+  pub few-args : (k c : ℕ) → k ≡ cell 4 (ω .operands) v 0 → c ≡ cell 4 (ω .operands) v 1 → k < 4 → 0 < c → Short (operandAt ω v) → c ≤ 8
+  few-args k c e f l z s =
       let a : ℕ = cell 4 (ω .operands) v 3 in
-      let h : length (span (ω .args) a c) ≤ 8 = subst (λ (o : Operand). Short o) (inst-at k c m t a e f d g refl z) s in
+      let t : ℕ = cell 4 (ω .operands) v 2 in
+      let m : ℕ = getD (ω .numbers) v 0 in
+      let h : length (span (ω .args) a c) ≤ 8 = subst (λ (o : Operand). Short o) (from-at k c m t a e f refl refl refl ∙ inst-from k c m t a l z) s in
       let q = length-span (ω .args) a c in
       omega arith
 
@@ -154,7 +184,7 @@ of-formed (arg value t) e = formed-sound [] aStack t e
 of-formed (arg stack t) e = tt
 
 -- a row that is formed under no letters
-pub closed-row : (rows parts : List ℕ) (n t : ℕ) {b : Bool} → t < n → b ≡ formedArg (map letterOf (span parts 0 0)) (getD (typesOf (rowsIn (tab rows parts) n)) t (arg value junk)) → b ≡ true → Wf [] aStack (typeAt value (typesIn rows parts n) t)
+pub closed-row : (rows parts : List ℕ) (n t : ℕ) {b : Bool} → t < n → b ≡ formedArg (lettersOf parts (record { hidden = 0; count = 0; start = 0 })) (getD (typesOf (rowsIn (tab rows parts) n)) t (arg value junk)) → b ≡ true → Wf [] aStack (typeAt value (typesIn rows parts n) t)
 unfolding span
 closed-row rows parts n t h e f =
     subst (λ (z : Ty value). Wf [] aStack z) (arg-is (tab rows parts) value t ∙ sym (type-in (tab rows parts) value (n + 2) t (omega arith)))

@@ -3,7 +3,7 @@ use Prim.Native.Nat.{_-_, _≤_}
 use native.Mathlib.Omega.{arith}
 use mathlib.Core.Path.{_≡_, refl}
 use Rattle.types_rows.specs.Read.{tab, meanS}
-use Rattle.valid_typing.proofs.Stacks.{item-read, item-asks, item-low, RestItem, item-first, item-next, item-ends, item-last}
+use Rattle.valid_typing.proofs.Stacks.{item-read, item-asks, item-low, RestItem, item-first, item-next, item-ends, item-last, link-read}
 use Rattle.valid_typing.proofs.row_item.Statement.{statement}
 use Rattle.valid_typing.proofs.row_item.Tie as tie
 
@@ -37,7 +37,7 @@ returns c =
     let l : tie.At-loop Inv-loop μ-loop = search in
     let s : tie.Start Inv-loop μ-loop = search in
     let e = item-read (tab _ _) (s .args .x) (l .loop .j) (i2 .item-at .result) (i2 .item-at .ensures) in
-    (item-ends _ _ _ (s .args .x) _ _ _ (i2 .item-at .result) _ e (l2 .link-of .ensures .0) (l .loop .inv .1) (c .if1 .taken), omega arith)
+    (link-read _ _ _ _ _ _ (item-ends _ _ _ (s .args .x) _ _ _ (i2 .item-at .result) _ e (l2 .link-of .ensures .0) (l .loop .inv .1) (c .if1 .taken)), omega arith)
 
 loop-again : tie.Need-loop-again Inv-loop μ-loop
 loop-again c =
@@ -66,7 +66,7 @@ returns-2 c =
     let s : tie.Start Inv-loop μ-loop = search in
     let e = item-read (tab _ _) (s .args .x) (s .args .i) (i2 .item-at2 .result) (i2 .item-at2 .ensures) in
     let q : l .loop .j ≡ s .args .i = omega arith in
-    (item-last _ _ _ (s .args .x) _ _ _ (i2 .item-at2 .result) _ e (c .link-of2 .ensures .0) (rw q at (l .loop .inv .1)) (search) refl, search)
+    (link-read _ _ _ _ _ _ (item-last _ _ _ (s .args .x) _ _ _ (i2 .item-at2 .result) _ e (c .link-of2 .ensures .0) (rw q at (l .loop .inv .1)) (search) refl), search)
 
 pub row-item-spec : {M : Type 1} → statement M
 row-item-spec =

@@ -6,22 +6,23 @@ use mathlib.Core.Bool.{Bool, true, false, not, cond}
 use mathlib.Core.Option.{Option, none, some}
 use mathlib.Core.List.{List, [], _∷_, _++_, map}
 use lib.Dec.{ltb}
-use lib.ListN.{getD}
+use lib.ListN.{length, getD}
 use borrow.Author.Tests.{ltb-true}
 use Rattle.syntax.specs.Syntax.{Kind, value, stack}
 use Rattle.syntax.specs.Fault.{Fault, unfit, earlier, firstItem}
-use Rattle.types.specs.Types.{Ty, nil, push, svar, gap, Arg}
-use Rattle.types.specs.Rows.{typeAt}
+use Rattle.types.specs.Types.{Ty, nil, push, svar, gap, walk}
 use Rattle.types.specs.Equal.{same, sameLetters}
-use Rattle.tables.specs.Tables.{span, letterOf, lettersAt}
+use Rattle.tables.specs.Tables.{cell, span, letterOf, lettersAt}
 use Rattle.valid.specs.Program.{Program}
 use Rattle.valid.specs.PassThree.{unfits}
 use Rattle.types_rows.specs.declared.Slot.{Slot}
 use Rattle.types_rows.specs.declared.Slot.the-variants.{Gap, Known}
-use Rattle.types_rows.specs.Read.{lower, slotAt, onSlot, partsOf}
-use Rattle.valid_context.specs.Context.{onLink, regsFrom, regsOf}
+use Rattle.types_rows.specs.Read.{lower, slotAt, onSlot, partsOf, acting}
+use Rattle.valid_context.specs.Context.{Reading, onLink, regsFrom, regsOf}
 use Rattle.valid_context.specs.premises.Answers.{itemSaid}
 use Rattle.valid_context.proofs.Told.{said-some}
+use Rattle.types_rows.specs.Environments.{varIn, readIn}
+use Rattle.valid_typing.proofs.Reading.{read-parts}
 use Rattle.valid_typing.specs.target.Fits.{slotFits}
 
 -- ---- tests
@@ -43,19 +44,19 @@ lower-le h x = go (ltb (suc x) h) refl
     go true e = let l = ltb-true (suc x) h e in omega arith
     go false e = omega arith
 
-module _ (v : ℕ → Ty value) (T : List Arg) (h x u : ℕ) where
-  pub fits-none : x ≡ 0 → true ≡ slotFits v T (slotAt true h x) u
-  fits-none e = rw e (unfold slotFits in refl)
+module _ (v : ℕ → Ty value) (T : Reading) (h x e u : ℕ) where
+  pub fits-none : x ≡ 0 → true ≡ slotFits v T (slotAt true h x) e u
+  fits-none q = rw q (unfold slotFits in refl)
 
-  pub fits-unknown : (x ≡ 0 → ⊥) → u ≡ 0 → false ≡ slotFits v T (slotAt true h x) u
-  fits-unknown z e = let q : x ≡ suc (x - 1) = omega arith in rw (q, e) (unfold slotFits in refl)
+  pub fits-unknown : (x ≡ 0 → ⊥) → u ≡ 0 → false ≡ slotFits v T (slotAt true h x) e u
+  fits-unknown z g = let q : x ≡ suc (x - 1) = omega arith in rw (q, g) (unfold slotFits in refl)
 
-  pub fits-type : (r : ℕ) {b : Bool} → (x ≡ 0 → ⊥) → (u ≡ 0 → ⊥) → typeAt value T r ≡ v (lower h (x - 1)) → b ≡ same (typeAt value T r) (typeAt value T (u - 1)) → b ≡ slotFits v T (slotAt true h x) u
-  fits-type r {b} z w e f =
+  pub fits-type : (y : Ty value) {b : Bool} → (x ≡ 0 → ⊥) → (u ≡ 0 → ⊥) → y ≡ v (lower h (x - 1)) → b ≡ same y (T .type e (u - 1)) → b ≡ slotFits v T (slotAt true h x) e u
+  fits-type y {b} z w g f =
       let q : x ≡ suc (x - 1) = omega arith in
       let s : u ≡ suc (u - 1) = omega arith in
-      let g : slotFits v T (Known (lower h (x - 1))) (suc (u - 1)) ≡ same (v (lower h (x - 1))) (typeAt value T (u - 1)) = unfold slotFits in refl in
-      f ∙ ap (λ (y : Ty value). same y (typeAt value T (u - 1))) e ∙ sym g ∙ ap₂ (λ (y w : ℕ). slotFits v T (slotAt true h y) w) (sym q) (sym s)
+      let d : slotFits v T (Known (lower h (x - 1))) e (suc (u - 1)) ≡ same (v (lower h (x - 1))) (T .type e (u - 1)) = unfold slotFits in refl in
+      f ∙ ap (λ (t : Ty value). same t (T .type e (u - 1))) g ∙ sym d ∙ ap₂ (λ (y w : ℕ). slotFits v T (slotAt true h y) e w) (sym q) (sym s)
 
 -- ---- the items from one on
 -- no item, or none before the n-th
@@ -108,7 +109,7 @@ module _ (P : Program) (Δ : List Kind) where
   before-rest n r g = earlier-from n (firstItem (unfits P Δ (suc n) r g)) (unfits-from (suc n) r g)
 
 -- ---- eight registers
-module _ (v : ℕ → Ty value) (ps : List ℕ) (h p : ℕ) (T : List Arg) (regs : List ℕ) where
+module _ (v : ℕ → Ty value) (ps : List ℕ) (h p : ℕ) (T : Reading) (regs : List ℕ) where
   -- what is left to look at from register i on
   abbrev restFits : Program → List Kind → ℕ → Option ℕ
   restFits P Δ i = firstItem (unfits P Δ (suc i) (partsOf v ps true h (p + i) (8 - i)) (regsFrom T regs i (8 - i)))
@@ -120,31 +121,31 @@ module _ (v : ℕ → Ty value) (ps : List ℕ) (h p : ℕ) (T : List Arg) (regs
   rest-first P Δ = let q : p + 0 ≡ p = omega arith in rw q refl
 
   -- a register that fits, and one that does not
-  slot-fits : (P : Program) (Δ : List Kind) (n : ℕ) (s : Slot) (u : ℕ) (a g : Ty stack) → slotFits v T s u ≡ true → unfits P Δ n (onSlot v s a) (onLink T u g) ≡ unfits P Δ (suc n) a g
+  slot-fits : (P : Program) (Δ : List Kind) (n : ℕ) (s : Slot) (f u : ℕ) (a g : Ty stack) → slotFits v T s f u ≡ true → unfits P Δ n (onSlot v s a) (onLink T f u g) ≡ unfits P Δ (suc n) a g
   unfolding slotFits unfits
-  slot-fits P Δ n Gap zero a g e = refl
-  slot-fits P Δ n Gap (suc u) a g e = refl
-  slot-fits P Δ n (Known t) zero a g e = let z : _≡_ {A = ℕ} 0 1 = cc in absurd (omega arith)
-  slot-fits P Δ n (Known t) (suc u) a g e = rw e refl
+  slot-fits P Δ n Gap f zero a g e = refl
+  slot-fits P Δ n Gap f (suc u) a g e = refl
+  slot-fits P Δ n (Known t) f zero a g e = let z : _≡_ {A = ℕ} 0 1 = cc in absurd (omega arith)
+  slot-fits P Δ n (Known t) f (suc u) a g e = rw e refl
 
-  slot-differs : (P : Program) (Δ : List Kind) (n : ℕ) (s : Slot) (u : ℕ) (a g : Ty stack) → slotFits v T s u ≡ false → firstItem (unfits P Δ n (onSlot v s a) (onLink T u g)) ≡ some n
+  slot-differs : (P : Program) (Δ : List Kind) (n : ℕ) (s : Slot) (f u : ℕ) (a g : Ty stack) → slotFits v T s f u ≡ false → firstItem (unfits P Δ n (onSlot v s a) (onLink T f u g)) ≡ some n
   unfolding slotFits unfits
-  slot-differs P Δ n Gap zero a g e = let z : _≡_ {A = ℕ} 0 1 = cc in absurd (omega arith)
-  slot-differs P Δ n Gap (suc u) a g e = let z : _≡_ {A = ℕ} 0 1 = cc in absurd (omega arith)
-  slot-differs P Δ n (Known t) zero a g e = before-rest P Δ n a g
-  slot-differs P Δ n (Known t) (suc u) a g e = rw e (before-rest P Δ n a g)
+  slot-differs P Δ n Gap f zero a g e = let z : _≡_ {A = ℕ} 0 1 = cc in absurd (omega arith)
+  slot-differs P Δ n Gap f (suc u) a g e = let z : _≡_ {A = ℕ} 0 1 = cc in absurd (omega arith)
+  slot-differs P Δ n (Known t) f zero a g e = before-rest P Δ n a g
+  slot-differs P Δ n (Known t) f (suc u) a g e = rw e (before-rest P Δ n a g)
 
   cons-parts : (i m : ℕ) → partsOf v ps true h i (suc m) ≡ onSlot v (slotAt true h (getD ps i 0)) (partsOf v ps true h (suc i) m)
   unfolding partsOf
   cons-parts i m = refl
 
-  cons-regs : (i m : ℕ) → regsFrom T regs i (suc m) ≡ onLink T (getD regs i 0) (regsFrom T regs (suc i) m)
+  cons-regs : (i m : ℕ) → regsFrom T regs i (suc m) ≡ onLink T (cell 2 regs i 1) (cell 2 regs i 0) (regsFrom T regs (suc i) m)
   unfolding regsFrom
   cons-regs i m = refl
 
-  module _ (i x u : ℕ) {b : Bool} (k : i < 8) (r : RestFits i) (e : x ≡ getD ps (p + i) 0) (f : u ≡ getD regs i 0) (g : b ≡ slotFits v T (slotAt true h x) u) where
-    one-fits : slotFits v T (slotAt true h (getD ps (p + i) 0)) (getD regs i 0) ≡ b
-    one-fits = sym (g ∙ ap₂ (λ (y w : ℕ). slotFits v T (slotAt true h y) w) e f)
+  module _ (i x f u : ℕ) {b : Bool} (k : i < 8) (r : RestFits i) (e : x ≡ getD ps (p + i) 0) (q : u ≡ cell 2 regs i 0) (d : f ≡ cell 2 regs i 1) (g : b ≡ slotFits v T (slotAt true h x) f u) where
+    one-fits : slotFits v T (slotAt true h (getD ps (p + i) 0)) (cell 2 regs i 1) (cell 2 regs i 0) ≡ b
+    one-fits = rw (← e, ← q, ← d) (sym g)
 
     pub rest-next : b ≡ true → RestFits (i + 1)
     rest-next s P Δ =
@@ -152,7 +153,7 @@ module _ (v : ℕ → Ty value) (ps : List ℕ) (h p : ℕ) (T : List Arg) (regs
         let q : suc (p + i) ≡ p + (i + 1) = omega arith in
         let o : suc i ≡ i + 1 = omega arith in
         r P Δ ∙ ap₂ (λ (a c : Ty stack). firstItem (unfits P Δ (suc i) a c)) (ap (partsOf v ps true h (p + i)) d ∙ cons-parts (p + i) (8 - (i + 1))) (ap (regsFrom T regs i) d ∙ cons-regs i (8 - (i + 1)))
-        ∙ ap firstItem (slot-fits P Δ (suc i) (slotAt true h (getD ps (p + i) 0)) (getD regs i 0) (partsOf v ps true h (suc (p + i)) (8 - (i + 1))) (regsFrom T regs (suc i) (8 - (i + 1))) (one-fits ∙ s))
+        ∙ ap firstItem (slot-fits P Δ (suc i) (slotAt true h (getD ps (p + i) 0)) (cell 2 regs i 1) (cell 2 regs i 0) (partsOf v ps true h (suc (p + i)) (8 - (i + 1))) (regsFrom T regs (suc i) (8 - (i + 1))) (one-fits ∙ s))
         ∙ ap₂ (λ (y w : ℕ). firstItem (unfits P Δ (suc w) (partsOf v ps true h y (8 - (i + 1))) (regsFrom T regs w (8 - (i + 1))))) q o
 
     pub rest-fails : b ≡ false → (P : Program) (Δ : List Kind) → itemSaid (i + 1) ≡ firstItem (unfits P Δ 1 (partsOf v ps true h p 8) (regsOf T regs))
@@ -160,11 +161,16 @@ module _ (v : ℕ → Ty value) (ps : List ℕ) (h p : ℕ) (T : List Arg) (regs
         let d : 8 - i ≡ suc (8 - (i + 1)) = omega arith in
         let o : suc i ≡ i + 1 = omega arith in
         sym (r P Δ ∙ ap₂ (λ (a c : Ty stack). firstItem (unfits P Δ (suc i) a c)) (ap (partsOf v ps true h (p + i)) d ∙ cons-parts (p + i) (8 - (i + 1))) (ap (regsFrom T regs i) d ∙ cons-regs i (8 - (i + 1)))
-        ∙ slot-differs P Δ (suc i) (slotAt true h (getD ps (p + i) 0)) (getD regs i 0) (partsOf v ps true h (suc (p + i)) (8 - (i + 1))) (regsFrom T regs (suc i) (8 - (i + 1))) (one-fits ∙ s)
+        ∙ slot-differs P Δ (suc i) (slotAt true h (getD ps (p + i) 0)) (cell 2 regs i 1) (cell 2 regs i 0) (partsOf v ps true h (suc (p + i)) (8 - (i + 1))) (regsFrom T regs (suc i) (8 - (i + 1))) (one-fits ∙ s)
         ∙ ap some o ∙ sym (said-some (i + 1) (λ q. omega arith)))
 
   pub rest-done : (i : ℕ) → 8 ≤ i → RestFits i → (P : Program) (Δ : List Kind) → itemSaid 100 ≡ firstItem (unfits P Δ 1 (partsOf v ps true h p 8) (regsOf T regs))
   rest-done i k r P Δ = let d : 8 - i ≡ 0 = omega arith in sym (r P Δ ∙ rw d (unfold partsOf regsFrom unfits firstItem itemSaid in refl))
+
+-- the registers of a row that was read in an environment
+pub all-read : (E : List ℕ) (e : ℕ) (v : ℕ → Ty value) (ps : List ℕ) (h p : ℕ) (T : Reading) (regs : List ℕ) (P : Program) (Δ : List Kind)
+    → firstItem (unfits P Δ 1 (partsOf (λ (t : ℕ). readIn E e (v t)) ps true h p 8) (regsOf T regs)) ≡ firstItem (unfits P Δ 1 (readIn E e (partsOf v ps true h p 8)) (regsOf T regs))
+all-read E e v ps h p T regs P Δ = ap (λ (a : Ty stack). firstItem (unfits P Δ 1 a (regsOf T regs))) (sym (read-parts E e v ps true h p 8))
 
 -- ---- letters
 none-span : (ps : List ℕ) (i c : ℕ) → c ≡ 0 → sameLetters (map letterOf (span ps i c)) [] ≡ true
@@ -184,3 +190,19 @@ none-left ps p c e z = none-span ps (p + 9) (getD ps (p + 8) 0) (sym e ∙ z)
 pub some-left : (ps : List ℕ) (p c : ℕ) → c ≡ getD ps (p + 8) 0 → (c ≡ 0 → ⊥) → sameLetters (lettersAt ps p) [] ≡ false
 unfolding lettersAt
 some-left ps p c e z = some-span ps (p + 9) (getD ps (p + 8) 0) (λ q. z (e ∙ q))
+
+-- what stands in a code row with no letters is read as it stands
+no-letters : (ps : List ℕ) (p c : ℕ) → c ≡ getD ps (p + 8) 0 → c ≡ 0 → length (lettersAt ps p) ≡ 0
+unfolding lettersAt
+no-letters ps p c q z = rw (← q, z) (unfold span in refl)
+
+module _ (E : List ℕ) (e : ℕ) (ps : List ℕ) (p c : ℕ) (q : c ≡ getD ps (p + 8) 0) (z : c ≡ 0) where
+  at-top : (a : Ty stack) → readIn E e a ≡ walk (acting [] (varIn E e)) (length (lettersAt ps p)) a
+  unfolding readIn
+  at-top a = ap (λ (d : ℕ). walk (acting [] (varIn E e)) d a) (sym (no-letters ps p c q z))
+
+  pub same-there : (a b : Ty stack) {o : Bool} → o ≡ same (readIn E e a) b → o ≡ same (walk (acting [] (varIn E e)) (length (lettersAt ps p)) a) b
+  same-there a b h = h ∙ ap (λ (x : Ty stack). same x b) (at-top a)
+
+  pub fits-there : (P : Program) (Δ : List Kind) (a b : Ty stack) {o : Option ℕ} → o ≡ firstItem (unfits P Δ 1 (readIn E e a) b) → o ≡ firstItem (unfits P Δ 1 (walk (acting [] (varIn E e)) (length (lettersAt ps p)) a) b)
+  fits-there P Δ a b h = h ∙ ap (λ (x : Ty stack). firstItem (unfits P Δ 1 x b)) (at-top a)

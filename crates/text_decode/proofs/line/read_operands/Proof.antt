@@ -1,4 +1,4 @@
-use mathlib.Core.Path.{refl}
+use mathlib.Core.Path.{_≡_, refl}
 use Prim.Native.Nat.{_+_, _-_, _<_}
 use native.Mathlib.Omega.{arith}
 use lib.ListN.{length}
@@ -80,7 +80,7 @@ add-m : tie.Need-add-m Inv-loop μ-loop
 unfolding part
 add-m c =
     let t : After-operand-at = search in
-    let k : t .operand-at .result .read .kind < 3 = search in
+    let k : t .operand-at .result .read .kind ≡ 3 → ⊥ = search in
     let g = loop-of t in
     let e = t .operand-at .ensures .ends k in
     let here = operand-here _ _ _ e _ _ _ _ (t .operand-at .ensures .read) in

@@ -1,7 +1,7 @@
 use native.Mathlib.Omega.{arith}
 use borrow.Author.Needs.{needs}
 use Rattle.image.specs.Sections.{part}
-use Rattle.text_decode.proofs.store.PutLaws.{row-in, block-in, inside-in, last-in}
+use Rattle.text_decode.proofs.store.PutLaws.{row-in, block-in, instr-in, line-inside, line-last, line-behind}
 use Rattle.text_decode.proofs.store.put_line.Statement.{statement}
 use Rattle.text_decode.proofs.store.put_line.Tie as tie
 
@@ -36,14 +36,21 @@ unfolding part
 returns-3 c =
     let s : tie.Start = search in
     let t : tie.After-put-instr = search in
-    inside-in _ _ (s .pre .0 .ordered) _ _ _ _ (search) (search) (t .put-instr .kept .0) (t .put-instr .ensures) (search)
+    instr-in _ _ (s .pre .0 .ordered) (s .args .code) _ _ _ (search) (search) (t .put-instr .kept .0) (t .put-instr .ensures) _ (line-inside (s .args .code) (search) (search) _ _ (search))
 
 returns-4 : tie.Need-returns-4
 unfolding part
 returns-4 c =
     let s : tie.Start = search in
     let t : tie.After-put-instr = search in
-    last-in _ _ (s .pre .0 .ordered) _ _ _ _ (search) (search) (t .put-instr .kept .0) (t .put-instr .ensures) (search)
+    instr-in _ _ (s .pre .0 .ordered) (s .args .code) _ _ _ (search) (search) (t .put-instr .kept .0) (t .put-instr .ensures) _ (line-last (s .args .code) (search) (search) _ _ (search) (search))
+
+returns-5 : tie.Need-returns-5
+unfolding part
+returns-5 c =
+    let s : tie.Start = search in
+    let t : tie.After-put-instr = search in
+    instr-in _ _ (s .pre .0 .ordered) (s .args .code) _ _ _ (search) (search) (t .put-instr .kept .0) (t .put-instr .ensures) _ (line-behind (s .args .code) (search) (search) _ _ (search) (search))
 
 pub put-line-spec : {M : Type 1} → statement M
 put-line-spec =
@@ -51,4 +58,4 @@ put-line-spec =
     put-row-requires (λ c. search needs) returns (λ c. search needs) (λ c. search needs) (λ c. search needs) (λ c. search needs)
     (λ c. search needs) put-block-requires (λ c. search needs) returns-2 (λ c. search needs) (λ c. search needs) (λ c. search needs)
     (λ c. search needs) (λ c. search needs) (λ c. search needs) (λ c. search needs) put-instr-requires (λ c. search needs)
-    (λ c. search needs) (λ c. search needs) returns-3 (λ c. search needs) (λ c. search needs) (λ c. search needs) returns-4)
+    (λ c. search needs) (λ c. search needs) returns-3 (λ c. search needs) (λ c. search needs) (λ c. search needs) returns-4 (λ c. search needs) (λ c. search needs) (λ c. search needs) returns-5)

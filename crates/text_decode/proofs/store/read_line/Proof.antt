@@ -30,7 +30,7 @@ end-of n = search
 abbrev name-of : tie.After-read-rest → tie.After-name-code
 name-of r = search
 
-code-of : (r : tie.After-read-rest) → name-of r .name-code .result < 34
+code-of : (r : tie.After-read-rest) → name-of r .name-code .result < 36
 code-of r = search
 
 -- the line's fields, by the form of its name
@@ -51,7 +51,7 @@ returns : tie.Need-returns
 returns c =
     let n : tie.After-name-code = search in
     let o : tie.After-no-line = search in
-    let h : 34 ≤ n .name-code .result = search in
+    let h : 36 ≤ n .name-code .result = search in
     let q = no-line-is _ _ _ _ _ _ (o .no-line .ensures) (line-unnamed _ _ _ _ _ (fields-are n) h) in
     (q .0, q .1, nothing _ _ _)
 

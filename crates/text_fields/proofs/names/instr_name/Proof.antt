@@ -98,10 +98,14 @@ unfolding keyPlace
 returns-23 c = at-key _ instrKeys _ 6248227176 instrs-are (c .match .keys23)
 
 returns-24 : tie.Need-returns-24
-returns-24 c = no-key _ instrKeys _ instrs-are (c .match .rest)
+unfolding keyPlace
+returns-24 c = at-key _ instrKeys _ 399549557403253 instrs-are (c .match .keys24)
+
+returns-25 : tie.Need-returns-25
+returns-25 c = no-key _ instrKeys _ instrs-are (c .match .rest)
 
 pub instr-name-spec : {M : Type 1} → statement M
 instr-name-spec =
     tie.close (tie.spec returns returns-2 returns-3 returns-4 returns-5 returns-6 returns-7 returns-8 returns-9 returns-10 returns-11
     returns-12 returns-13 returns-14 returns-15 returns-16 returns-17 returns-18 returns-19 returns-20 returns-21 returns-22 returns-23
-    returns-24)
+    returns-24 returns-25)

@@ -9,7 +9,7 @@ use Rattle.types_equal.proofs.filling.is_kept.Tie as tie
 returns-3 : tie.Need-returns-3
 returns-3 c =
     let s : tie.Start = search in
-    λ t b. stack-kept _ _ _ _ _ _ b _ (search) (search) (s .pre .formed (not-false _ (search))) (search) (c .all-themselves .ensures t)
+    λ t ρ b. stack-kept _ _ ρ _ _ _ _ b _ (search) (search) (s .pre .formed (not-false _ (search))) (search) (c .all-themselves .ensures t)
 
 pub is-kept-spec : {M : Type 1} → statement M
 is-kept-spec =

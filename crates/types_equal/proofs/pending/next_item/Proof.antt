@@ -5,6 +5,7 @@ use mathlib.Core.Path.{_≡_, refl, _∙_}
 use Prim.Native.Nat.{ℕ, _-_}
 use lib.ListN.{length, getD}
 use Rattle.types_rows.specs.Read.{tab, argsOf}
+use Rattle.types_rows.specs.Environments.{shifted}
 use Rattle.types_equal.specs.declared.pending.Form.{Form}
 use Rattle.types_equal.specs.declared.pending.Form.the-variants.{Skip, One, Two, OwnTop, GivenTop, VarTop, Misfit}
 use Rattle.types_equal.specs.pending.Pending.{side, mass, FormOf}
@@ -15,12 +16,12 @@ use Rattle.types_equal.proofs.pending.next_item.Statement.{statement}
 use Rattle.types_equal.proofs.pending.next_item.Tie as tie
 
 abbrev Inv-loop : tie.InvT-loop
-Inv-loop rows args m by d pending₀ right top n₀ pending n =
-    Kept m (side right pending₀) top (side right pending) n × ((ps : List ℕ) → Means (tab rows ps) (argsOf (tab rows ps) args m) by d (side right pending₀) top (side right pending) n)
+Inv-loop rows args envs c pending₀ right top n₀ pending n =
+    Kept (c .m) (side right pending₀) top (side right pending) n × ((ps : List ℕ) → Means (tab rows ps) (argsOf (tab rows ps) args (c .m)) (shifted envs (c .env) (c .by)) (c .d) (side right pending₀) top (side right pending) n)
     × (side (not right) pending ≡ side (not right) pending₀) × (length pending ≡ length pending₀)
 
 abbrev μ-loop : tie.MeasureT-loop
-μ-loop rows args m by d pending₀ right top n₀ pending n = mass (side right pending) n
+μ-loop rows args envs c pending₀ right top n₀ pending n = mass (side right pending) n
 
 abbrev Start : Type 0
 Start = tie.Start Inv-loop μ-loop
@@ -44,14 +45,14 @@ abbrev in-of : After-form-of → In-loop
 in-of c = search
 
 -- where the last entry stands
-spot-of : (c : In-loop) → Spot (start-of c .args .right) (start-of c .args .m) (start-of c .args .pending .now) (start-of c .args .top) (loop-of c .loop .pending) (loop-of c .loop .n)
+spot-of : (c : In-loop) → Spot (start-of c .args .right) (start-of c .args .c .m) (start-of c .args .pending .now) (start-of c .args .top) (loop-of c .loop .pending) (loop-of c .loop .n)
 spot-of c = let s = start-of c in let h = loop-of c in spot _ _ _ _ _ _ (c .loop-test .taken) (h .loop .inv .0) (s .pre .1 .enough) (s .pre .1 .short) (s .pre .2)
 
 -- its form
 form-in : (c : After-form-of) (ps : List ℕ) (k : Form) → c .form-of .result ≡ k
     → FormOf (tab (start-of (in-of c) .args .rows .now) ps) (argsOf (tab (start-of (in-of c) .args .rows .now) ps)
-    (start-of (in-of c) .args .args .now) (start-of (in-of c) .args .m)) (start-of (in-of c) .args .by) (start-of (in-of c) .args .d)
-    (start-of (in-of c) .args .m) (getD (side (start-of (in-of c) .args .right) (loop-of (in-of c) .loop .pending))
+    (start-of (in-of c) .args .args .now) (start-of (in-of c) .args .c .m)) (shifted (start-of (in-of c) .args .envs .now) (start-of (in-of c) .args .c .env) (start-of (in-of c) .args .c .by)) (start-of (in-of c) .args .c .d)
+    (start-of (in-of c) .args .c .m) (getD (side (start-of (in-of c) .args .right) (loop-of (in-of c) .loop .pending))
     (loop-of (in-of c) .loop .n - 1) 0) k
 form-in c ps k e =
     let t : tie.After-entry Inv-loop μ-loop = search in
@@ -87,7 +88,7 @@ loop-again c =
     let s = start-of i in
     let h = loop-of i in
     let p = spot-of i in
-    (kept-skip _ _ _ _ _ _ (p .last) (p .kept), (λ ps. means-skip (tab _ ps) (argsOf (tab _ ps) _ _) _ _ (s .args .m) _ _ _ _ _ (p .last) (h .loop .inv .1 ps) (form-in w ps Skip (search))), search, search)
+    (kept-skip _ _ _ _ _ _ (p .last) (p .kept), (λ ps. means-skip (tab _ ps) (argsOf (tab _ ps) _ _) _ _ (s .args .c .m) _ _ _ _ _ (p .last) (h .loop .inv .1 ps) (form-in w ps Skip (search))), search, search)
 
 store-requires : tie.Need-store-requires Inv-loop μ-loop
 store-requires c κs =
@@ -293,7 +294,7 @@ returns-5 : tie.Need-returns-5 Inv-loop μ-loop
 returns-5 c =
     let s : Start = search in
     let h : At-loop = search in
-    ((λ ps. next-end (tab _ ps) (argsOf (tab _ ps) _ _) _ _ (s .args .m) _ _ _ _ (none-left _ (search)) (h .loop .inv .1 ps)), search)
+    ((λ ps. next-end (tab _ ps) (argsOf (tab _ ps) _ _) _ _ (s .args .c .m) _ _ _ _ (none-left _ (search)) (h .loop .inv .1 ps)), search)
 
 pub next-item-spec : {M : Type 1} → statement M
 next-item-spec =

@@ -34,8 +34,14 @@ returns-7 c =
     let n : tie.After-n5 = search in
     c .with-code .ensures ∙ ap (λ (z : Val). pairOf z (s .args .w)) (sym (n .n5 .given .1))
 
+returns-8 : tie.Need-returns-8
+returns-8 c =
+    let s : tie.Start = search in
+    let n : tie.After-n6 = search in
+    c .with-hidden .ensures ∙ ap (λ (z : Val). pairOf z (s .args .w)) (sym (n .n6 .given .1))
+
 pub pair-up-spec : {M : Type 1} → statement M
 pair-up-spec =
     tie.close (tie.spec (λ c. search) (λ c κs. search) (λ c. search) (λ c κs. search) (λ c. search) (λ c κs. search) (λ c. search)
-    (λ c. search) (λ c κs. search) (λ c. search) (λ c κs. search) (λ c. search) (λ c κs. search) (λ c. search) (λ c. search) returns-3
-    returns-4 returns-5 returns-6 returns-7)
+    (λ c. search) (λ c κs. search) (λ c. search) (λ c κs. search) (λ c. search) (λ c κs. search) (λ c. search) (λ c κs. search)
+    (λ c. search) (λ c. search) returns-3 returns-4 returns-5 returns-6 returns-7 returns-8)

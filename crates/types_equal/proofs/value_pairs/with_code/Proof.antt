@@ -11,4 +11,4 @@ returns-7 c =
 pub with-code-spec : {M : Type 1} → statement M
 with-code-spec =
     tie.close (tie.spec (λ c. search) (λ c. search) (λ c. search) (λ c. search) (λ c. search) (λ c. search) (λ c. search) (λ c. search)
-    (λ c. search) (λ c. search) (λ c. search) (λ c. search) (λ c. search) returns-7)
+    (λ c. search) (λ c. search) (λ c. search) (λ c. search) (λ c. search) (λ c. search) returns-7 (λ c. search))

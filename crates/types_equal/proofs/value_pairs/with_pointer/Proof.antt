@@ -11,4 +11,4 @@ returns-6 c =
 pub with-pointer-spec : {M : Type 1} → statement M
 with-pointer-spec =
     tie.close (tie.spec (λ c. search) (λ c. search) (λ c. search) (λ c. search) (λ c. search) (λ c. search) (λ c. search) (λ c. search)
-    (λ c. search) (λ c. search) (λ c. search) (λ c. search) returns-6 (λ c. search))
+    (λ c. search) (λ c. search) (λ c. search) (λ c. search) (λ c. search) returns-6 (λ c. search) (λ c. search))

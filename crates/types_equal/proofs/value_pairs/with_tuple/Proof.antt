@@ -11,4 +11,4 @@ returns-5 c =
 pub with-tuple-spec : {M : Type 1} → statement M
 with-tuple-spec =
     tie.close (tie.spec (λ c. search) (λ c. search) (λ c. search) (λ c. search) (λ c. search) (λ c κs. search) (λ c. search) (λ c. search)
-    (λ c. search) (λ c. search) (λ c. search) (λ c. search) returns-5 (λ c. search) (λ c. search))
+    (λ c. search) (λ c. search) (λ c. search) (λ c. search) (λ c. search) returns-5 (λ c. search) (λ c. search) (λ c. search))

@@ -11,4 +11,4 @@ returns-3 c =
 pub with-var-spec : {M : Type 1} → statement M
 with-var-spec =
     tie.close (tie.spec (λ c. search) (λ c. search) (λ c. search) (λ c κs. search) (λ c. search) (λ c. search) (λ c. search) (λ c. search)
-    (λ c. search) (λ c. search) returns-3 (λ c. search) (λ c. search) (λ c. search) (λ c. search))
+    (λ c. search) (λ c. search) (λ c. search) returns-3 (λ c. search) (λ c. search) (λ c. search) (λ c. search) (λ c. search))

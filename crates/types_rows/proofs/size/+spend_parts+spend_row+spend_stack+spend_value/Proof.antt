@@ -257,6 +257,16 @@ spend-value-spend-parts-requires-2 t c κs =
     let o1 = ok .1 in
     (omega arith, (record { named = omega arith; low = t1; few = omega arith; within = omega arith }, search))
 
+spend-value-spend-row-requires-3 : (t : ℕ) → spend-value-lts.Need-spend-row-requires-3 (spend-value-claims t) (spend-value-at t) spend-value.Post
+spend-value-spend-row-requires-3 t c κs =
+    let n : spend-value-lts.After-n4 (spend-value-claims t) (spend-value-at t) spend-value.Post = search in
+    let r : spend-value-lts.After-read-value (spend-value-claims t) (spend-value-at t) spend-value.Post = search in
+    let s : spend-value-lts.Start (spend-value-claims t) (spend-value-at t) spend-value.Post = search in
+    let ok = ok-v 0 _ (r .read-value .ensures .1) (n .n4 .given .1) in
+    let t0 = s .pre .0 in
+    let t1 = s .pre .1 .0 in
+    (omega arith, (omega arith, search))
+
 spend-value-returns : (t : ℕ) → spend-value-lts.Need-returns (spend-value-claims t) (spend-value-at t) spend-value.Post
 spend-value-returns t c =
     let r : spend-value-lts.After-read-value (spend-value-claims t) (spend-value-at t) spend-value.Post = search in
@@ -312,6 +322,15 @@ spend-value-returns-7 t c =
     let q = under-value (tab (s .args .rows .now) (s .args .parts .now)) (s .args .h) (r .read-value .ensures .0) (n .n3 .given .1) in
     let e = s2 .spend-row2 .ensures in
     let g = c .spend-parts2 .ensures in
+    omega arith
+
+spend-value-returns-8 : (t : ℕ) → spend-value-lts.Need-returns-8 (spend-value-claims t) (spend-value-at t) spend-value.Post
+spend-value-returns-8 t c =
+    let n : spend-value-lts.After-n4 (spend-value-claims t) (spend-value-at t) spend-value.Post = search in
+    let r : spend-value-lts.After-read-value (spend-value-claims t) (spend-value-at t) spend-value.Post = search in
+    let s : spend-value-lts.Start (spend-value-claims t) (spend-value-at t) spend-value.Post = search in
+    let q = under-value (tab (s .args .rows .now) (s .args .parts .now)) (s .args .h) (r .read-value .ensures .0) (n .n4 .given .1) in
+    let e = c .spend-row3 .ensures in
     omega arith
 
 pub +spend-parts+spend-row+spend-stack+spend-value-spec : {M : Type 1} → statement M
@@ -379,6 +398,8 @@ pub +spend-parts+spend-row+spend-stack+spend-value-spec : {M : Type 1} → state
     (λ c. search)
     (spend-value-spend-row-requires-2 t)
     (spend-value-spend-parts-requires-2 t)
+    (λ c. search)
+    (spend-value-spend-row-requires-3 t)
     (spend-value-returns t)
     (spend-value-returns-2 t)
     (spend-value-returns-3 t)
@@ -386,3 +407,4 @@ pub +spend-parts+spend-row+spend-stack+spend-value-spec : {M : Type 1} → state
     (spend-value-returns-5 t)
     (spend-value-returns-6 t)
     (spend-value-returns-7 t)
+    (spend-value-returns-8 t)

@@ -1,3 +1,4 @@
+use native.Mathlib.Omega.{arith}
 use Prim.Native.Nat.{ℕ}
 use mathlib.Core.Path.{_∙_, ap, sym}
 use mathlib.Core.Bool.{true, false}
@@ -8,7 +9,7 @@ use Rattle.valid_typing.proofs.Judging.{known-told, halt-stops, halt-goes}
 use Rattle.valid_judge.specs.heap.Forms.{held}
 use Rattle.valid_judge.proofs.heap.Laws.{least-known, given-same}
 use Rattle.image.specs.Sections.{part}
-use Rattle.valid_typing.specs.Image.{typesAt}
+use Rattle.valid_typing.specs.Image.{readAt}
 use borrow.Author.Needs.{needs}
 use Rattle.valid_judge.proofs.heap.stop.Statement.{statement}
 use Rattle.valid_judge.proofs.heap.stop.Tie as tie
@@ -34,14 +35,17 @@ returns c =
     let t-link-at : tie.After-link-at = search in
     let i1 : tie.Then1 = search in
     let t-if-none : tie.After-if-none = search in
-    λ P b e. halt-stops P _ (held b _) _ _ _ _ (t-formed-row .formed-row .ensures P e) (known-told P _ _ _ 0 _
-    (t-link-at .link-at .ensures .0 _ _ (search))) (λ z. i1 .if1 .taken ((least-known _ 9 _ (t-if-none .if-none .ensures) (search)) ∙ z))
-    ∙ ap (λ (k : ℕ). answer k (held b (regsOf (typesAt (a .p) l (a .n)) (a .regs .now))))
+    λ P b e. halt-stops P _ (held b _) _ _ _ _ (t-formed-row .formed-row .ensures P e) (known-told P _ _ _ 0 _ _
+    (t-link-at .link-at .ensures .0 _ _ _ (search))) (λ z. i1 .if1 .taken ((least-known _ 9 _ (t-if-none .if-none .ensures) (search)) ∙ z))
+    ∙ ap (λ (k : ℕ). answer k (held b (regsOf (readAt (a .p) l (a .n) (a .envs .now)) (a .regs .now))))
     (sym (least-known _ 9 _ (t-if-none .if-none .ensures) (search)))
 
 same-link-requires : tie.Need-same-link-requires
 unfolding part
-same-link-requires c κs = (search, search)
+same-link-requires c κs =
+    let s : tie.Start = search in
+    let u : tie.After-link-at = search in
+    (record { ready = s .pre .0 .ready; few = s .pre .1; room = s .pre .0 .room }, u .link-at .ensures .2, omega (arith, s .pre .1))
 
 returns-2 : tie.Need-returns-2
 unfolding part
@@ -55,10 +59,10 @@ returns-2 c =
     let t-formed-row = formed-row-of t-least in
     let t-link-at = link-at-of t-least in
     let t-if-none = if-none-of t-least in
-    λ P b e. halt-goes P _ (held b _) _ _ _ _ true (t-formed-row .formed-row .ensures P e) (known-told P _ _ _ 0 _
-    (t-link-at .link-at .ensures .0 _ _ (search))) (sym (least-known _ 9 _ (t-if-none .if-none .ensures) (search)) ∙ i1 .if1 .left)
-    (sym (i2 .if2 .taken) ∙ t-same-link .same-link .ensures ∙ ap (same _) (given-same _ _ _ P _ (t-given-row .given-row .ensures .0) e
-    (s .pre .ready)))
+    λ P b e. halt-goes P _ (held b _) _ _ _ _ true (t-formed-row .formed-row .ensures P e) (known-told P _ _ _ 0 _ _
+    (t-link-at .link-at .ensures .0 _ _ _ (search))) (sym (least-known _ 9 _ (t-if-none .if-none .ensures) (search)) ∙ i1 .if1 .left)
+    (sym (i2 .if2 .taken) ∙ t-same-link .same-link .ensures ∙ ap (same _) (given-same _ _ _ _ P _ (t-given-row .given-row .ensures .0) e
+    (s .pre .0 .ready)))
 
 returns-3 : tie.Need-returns-3
 unfolding part
@@ -72,13 +76,14 @@ returns-3 c =
     let t-formed-row = formed-row-of t-least in
     let t-link-at = link-at-of t-least in
     let t-if-none = if-none-of t-least in
-    λ P b e. halt-goes P _ (held b _) _ _ _ _ false (t-formed-row .formed-row .ensures P e) (known-told P _ _ _ 0 _
-    (t-link-at .link-at .ensures .0 _ _ (search))) (sym (least-known _ 9 _ (t-if-none .if-none .ensures) (search)) ∙ i1 .if1 .left)
-    (sym (i2 .if2 .left) ∙ t-same-link .same-link .ensures ∙ ap (same _) (given-same _ _ _ P _ (t-given-row .given-row .ensures .0) e
-    (s .pre .ready)))
+    λ P b e. halt-goes P _ (held b _) _ _ _ _ false (t-formed-row .formed-row .ensures P e) (known-told P _ _ _ 0 _ _
+    (t-link-at .link-at .ensures .0 _ _ _ (search))) (sym (least-known _ 9 _ (t-if-none .if-none .ensures) (search)) ∙ i1 .if1 .left)
+    (sym (i2 .if2 .left) ∙ t-same-link .same-link .ensures ∙ ap (same _) (given-same _ _ _ _ P _ (t-given-row .given-row .ensures .0) e
+    (s .pre .0 .ready)))
 
 pub stop-spec : {M : Type 1} → statement M
 stop-spec =
-    tie.close (tie.spec (λ c κs. search) (λ c κs. search) (λ c κs. search needs) (λ c κs. search needs) returns (λ c κs. search)
-    (λ c. search needs) (λ c. search needs) (λ c. search needs) (λ c. search needs) (λ c. search needs) (λ c. search needs)
-    (λ c. search needs) (λ c. search needs) same-link-requires (λ c. search needs) returns-2 (λ c. search needs) returns-3)
+    tie.close (tie.spec (λ c κs. search needs) (λ c κs. search needs) (λ c κs. search needs) (λ c κs. search needs) returns
+    (λ c κs. search needs) (λ c. search needs) (λ c. search needs) (λ c. search needs) (λ c. search needs) (λ c. search needs)
+    (λ c. search needs) (λ c. search needs) (λ c. search needs) (λ c. search needs) same-link-requires (λ c. search needs) returns-2
+    (λ c. search needs) returns-3)

@@ -9,7 +9,7 @@ jump-requires : tie.Need-jump-requires
 unfolding part
 jump-requires c κs =
     let s : tie.Start = search in
-    (search, short-jmp _ _ _ _ (s .pre .1) (s .pre .2 .code) (search) (search), omega arith)
+    (search, short-jmp _ _ _ _ (s .pre .1) (s .pre .2 .code) (search) (search), omega arith, search)
 
 returns : tie.Need-returns
 unfolding part
@@ -22,7 +22,7 @@ branch-requires : tie.Need-branch-requires
 unfolding part
 branch-requires c κs =
     let s : tie.Start = search in
-    (search, short-bop _ _ _ _ (s .pre .1) (s .pre .2 .code) (search) (search) (not-jump _ (search) (search)), omega arith)
+    (search, short-bop _ _ _ _ (s .pre .1) (s .pre .2 .code) (search) (search) (not-jump _ (search) (search)), omega arith, search)
 
 returns-2 : tie.Need-returns-2
 unfolding part

@@ -7,7 +7,7 @@ use Rattle.valid_context.specs.Told.{toldOf}
 use Rattle.valid_judge.specs.heap.Forms.{held}
 use Rattle.valid_judge.proofs.codes.Laws.{told-aop, is-mov, is-malloc, short-aop, short-mov, short-malloc}
 use Rattle.image.specs.Sections.{part, instrSection}
-use Rattle.valid_typing.specs.Image.{typesAt, operandsIn, lettersIn}
+use Rattle.valid_typing.specs.Image.{readAt, operandsIn, lettersIn}
 use borrow.Author.Needs.{needs}
 use Rattle.valid_judge.proofs.operand_forms.value_form.Statement.{statement}
 use Rattle.valid_judge.proofs.operand_forms.value_form.Tie as tie
@@ -42,7 +42,7 @@ returns c =
     let t-compute : tie.After-compute = search in
     let t-entry3 : tie.After-entry3 = search in
     let s = start-of t-entry3 in
-    λ P b h. told-aop _ _ _ _ (s .pre .3 .code) (search) (search) P _ (held b _) _ _ (search) (search) (λ o. t-compute .compute .ensures o P b h)
+    (λ P b h. told-aop _ _ _ _ (s .pre .3 .code) (search) (search) P _ (held b _) _ _ (search) (search) (λ o. t-compute .compute .ensures .0 o P b h), t-compute .compute .ensures .1)
 
 move-to-requires : tie.Need-move-to-requires
 unfolding part
@@ -58,10 +58,12 @@ returns-2 c =
     let s = start-of t-entry3 in
     let a = s .args in
     let l = a .image .now in
-    let t-entry = entry-of t-entry3 in
-    λ P b h. ap (λ (x : Instr). toldOf (judge P (lettersIn (a .p) l (a .w)) (held b (regsOf (typesAt (a .p) l (a .c .rows))
-    (a .regs .now))) x)) (is-mov (instrSection (a .p) l) (operandsIn (a .p) l (a .literals .now)) (a .x .at) _ (s .pre .3 .code)
-    (t-entry3 .entry3 .ensures .0) (t-entry .entry .ensures .0) (search)) ∙ t-move-to .move-to .ensures P b h
+    let t-entry = entry-of t-entry3 in (
+      λ P b h. ap (λ (x : Instr). toldOf (judge P (lettersIn (a .p) l (a .w)) (held b (regsOf (readAt (a .p) l (a .c .rows) (a .envs .now))
+          (a .regs .now))) x)) (is-mov (instrSection (a .p) l) (operandsIn (a .p) l (a .literals .now)) (a .x .at) _ (s .pre .3 .code)
+          (t-entry3 .entry3 .ensures .0) (t-entry .entry .ensures .0) (search)) ∙ t-move-to .move-to .ensures .0 P b h,
+      t-move-to .move-to .ensures .1,
+    )
 
 make-tuple-requires : tie.Need-make-tuple-requires
 unfolding part
@@ -84,11 +86,13 @@ returns-3 c =
     let l = a .image .now in
     let t-entry = entry-of t-entry3 in
     let t-entry2 = entry2-of t-entry3 in
-    let i2 = else2-of t-entry4 in
-    λ P b h. ap (λ (x : Instr). toldOf (judge P (lettersIn (a .p) l (a .w)) (held b (regsOf (typesAt (a .p) l (a .c .rows))
-    (a .regs .now))) x)) (is-malloc (instrSection (a .p) l) (operandsIn (a .p) l (a .literals .now)) (a .x .at) _ (s .pre .3 .code)
-    (t-entry3 .entry3 .ensures .0) (t-entry .entry .ensures .0) (t-entry2 .entry2 .ensures .0) (t-entry4 .entry4 .ensures .0)
-    (s .pre .3 .malloc (omega (arith, s .pre .3 .no-branch (omega arith), i2 .if2 .left)))) ∙ t-make-tuple .make-tuple .ensures P b h
+    let i2 = else2-of t-entry4 in (
+      λ P b h. ap (λ (x : Instr). toldOf (judge P (lettersIn (a .p) l (a .w)) (held b (regsOf (readAt (a .p) l (a .c .rows) (a .envs .now))
+          (a .regs .now))) x)) (is-malloc (instrSection (a .p) l) (operandsIn (a .p) l (a .literals .now)) (a .x .at) _ (s .pre .3 .code)
+          (t-entry3 .entry3 .ensures .0) (t-entry .entry .ensures .0) (t-entry2 .entry2 .ensures .0) (t-entry4 .entry4 .ensures .0)
+          (s .pre .3 .malloc (omega (arith, s .pre .3 .no-branch (omega arith), i2 .if2 .left)))) ∙ t-make-tuple .make-tuple .ensures .0 P b h,
+      t-make-tuple .make-tuple .ensures .1,
+    )
 
 pub value-form-spec : {M : Type 1} → statement M
 value-form-spec =

@@ -2,6 +2,7 @@ use native.Mathlib.Omega.{arith}
 use mathlib.Core.Path.{sym, _∙_}
 use Rattle.valid_context.proofs.Sp.{values-fit}
 use Rattle.valid_judge.proofs.stack.Laws.{freed, kept}
+use borrow.Author.Needs.{needs}
 use Rattle.valid_judge.proofs.stack.free.Statement.{statement}
 use Rattle.valid_judge.proofs.stack.free.Tie as tie
 
@@ -21,4 +22,4 @@ returns-2 c =
     (λ T regs P Δ. kept P Δ T regs _ _ _ _ _ (v .values .ensures .1 T) (c .if1 .left), omega arith)
 
 pub free-spec : {M : Type 1} → statement M
-free-spec = tie.close (tie.spec (λ c κs. search) sub-t5 returns returns-2)
+free-spec = tie.close (tie.spec (λ c κs. search needs) sub-t5 returns returns-2)

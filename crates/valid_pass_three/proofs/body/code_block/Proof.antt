@@ -1,6 +1,8 @@
 use native.Mathlib.Omega.{arith}
-use mathlib.Core.Path.{_≡_, _∙_}
-use Prim.Native.Nat.{_+_}
+use mathlib.Core.Path.{_≡_, refl, sym, subst, _∙_}
+use mathlib.Core.List.{[]}
+use Rattle.valid_context.specs.Context.{EnvsIn}
+use Prim.Native.Nat.{ℕ, _+_}
 use Rattle.types.specs.Types.{items}
 use Rattle.image.specs.Sections.{part, sharedSection, slotSection}
 use Rattle.types_rows.specs.Read.{meanS}
@@ -49,6 +51,7 @@ flatten-requires c κs =
         vars = small-vars (sharedSection (s .args .p) (s .args .image .now)) (slotSection (s .args .p) (s .args .image .now)) (s .args .c .rows)
             (t .ready .int-row) (t .ready .junk-row) (t .small) (s .args .x .stack) (omega (arith, q .3 .row, q .3 .below));
       },
+      omega arith,
     )
 
 item-count-requires : tie.Need-item-count-requires
@@ -59,6 +62,7 @@ item-count-requires c κs =
     omega (arith, q .3 .row, q .3 .below)
 
 body-requires : tie.Need-body-requires
+unfolding part
 body-requires c κs =
     let t : tie.After-item-count = search in
     let f = flat-of t in
@@ -74,7 +78,12 @@ body-requires c κs =
         work = q .2 .work;
         pending = q .2 .pending;
       },
-      omega (arith, count-is t, q .3 .few),
+      record {
+        hidden = refl;
+        depth = omega (arith, count-is t, q .3 .few);
+        regs-in = e .enter .ensures .1;
+        sp-in = subst (λ (k : ℕ). EnvsIn 0 (f .flatten .last .1 .1 .1 .0) k) (sym (count-is t)) (f .flatten .ensures .1);
+      },
     )
 
 same-length : tie.Need-same-length
@@ -94,7 +103,7 @@ returns c =
     let a = start-of t .args in
     λ P g. entered P (sharedSection (a .p) (a .image .now)) (slotSection (a .p) (a .image .now)) (e .enter .last .1 .1 .1 .1 .1 .0)
     (f .flatten .last .1 .1 .1 .0) (a .c .rows) (a .x .link) (a .x .stack) (a .x .start) (t .item-count .result) (n .letter-count .result)
-    _ _ (b .body .result) (b .body .ensures P g) (n .letter-count .ensures .0) (e .enter .ensures) (f .flatten .ensures) (count-is t)
+    _ _ (b .body .result) (b .body .ensures P g) (n .letter-count .ensures .0) (e .enter .ensures .0) (f .flatten .ensures .0 []) (count-is t)
 
 pub code-block-spec : {M : Type 1} → statement M
 code-block-spec =

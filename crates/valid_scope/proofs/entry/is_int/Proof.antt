@@ -48,7 +48,13 @@ returns-7 c =
     let r : tie.After-read-value = search in
     λ parts. int-by false (form-is _ parts _ (r .read-value .ensures .0) (c .enum-told7 .given .1)) refl
 
+returns-8 : tie.Need-returns-8
+unfolding same
+returns-8 c =
+    let r : tie.After-read-value = search in
+    λ parts. int-by false (form-is _ parts _ (r .read-value .ensures .0) (c .enum-told8 .given .1)) refl
+
 pub is-int-spec : {M : Type 1} → statement M
 is-int-spec =
     tie.close (tie.spec (λ c κs. search needs) (λ c. search) (λ c. search) (λ c. search) (λ c. search) (λ c. search) (λ c. search)
-    (λ c. search) returns returns-2 returns-3 returns-4 returns-5 returns-6 returns-7)
+    (λ c. search) (λ c. search) returns returns-2 returns-3 returns-4 returns-5 returns-6 returns-7 returns-8)

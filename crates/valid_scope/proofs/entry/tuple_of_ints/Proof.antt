@@ -60,8 +60,15 @@ returns-7 c =
     let r : tie.After-read-value = search in
     declares-as (ap push (form-is _ _ _ (r .read-value .ensures .0) (e .enum-told6 .given .1))) (declares-none _ _ (search) (λ g. refl) refl)
 
+returns-8 : tie.Need-returns-8
+unfolding declared same
+returns-8 c =
+    let e : tie.After-enum-told7 = search in
+    let r : tie.After-read-value = search in
+    declares-as (ap push (form-is _ _ _ (r .read-value .ensures .0) (e .enum-told7 .given .1))) (declares-none _ _ (search) (λ g. refl) refl)
+
 pub tuple-of-ints-spec : {M : Type 1} → statement M
 tuple-of-ints-spec =
     tie.close (tie.spec (λ c κs. search needs) (λ c. search) (λ c κs. search) (λ c. search) (λ c κs. search) (λ c. search)
     (λ c κs. search) (λ c. search) (λ c κs. search) (λ c. search) all-ints-requires (λ c. search) (λ c κs. search) (λ c. search)
-    (λ c κs. search) returns returns-2 returns-3 returns-4 returns-5 returns-6 returns-7)
+    (λ c κs. search) (λ c. search) (λ c κs. search) returns returns-2 returns-3 returns-4 returns-5 returns-6 returns-7 returns-8)

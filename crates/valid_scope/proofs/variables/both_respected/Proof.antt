@@ -6,12 +6,12 @@ use Rattle.valid_scope.proofs.variables.both_respected.Tie as tie
 returns : tie.Need-returns
 returns c =
     let r : tie.After-respected-at = search in
-    two-first _ _ _ (r .respected-at .ensures) (search)
+    two-first _ (r .respected-at .ensures) (search)
 
 returns-2 : tie.Need-returns-2
 returns-2 c =
     let r : tie.After-respected-at = search in
-    two-second _ _ _ (r .respected-at .ensures) (search) (search)
+    two-second _ (r .respected-at .ensures) (search) (search)
 
 pub both-respected-spec : {M : Type 1} → statement M
 both-respected-spec = tie.close (tie.spec (λ c κs. search) returns (λ c κs. search) returns-2)

@@ -1,5 +1,5 @@
 -- `valid_scope::form_respected` meets its contract.
-use Rattle.valid_scope.proofs.variables.Laws.{respected-tuple, respected-pointer, respected-code, respected-two, respected-leaf}
+use Rattle.valid_scope.proofs.variables.Laws.{respected-tuple, respected-pointer, respected-code, respected-hidden, respected-two, respected-leaf}
 use borrow.Author.Needs.{needs}
 use Rattle.valid_scope.proofs.variables.form_respected.Statement.{statement}
 use Rattle.valid_scope.proofs.variables.form_respected.Tie as tie
@@ -14,12 +14,15 @@ returns-3 : tie.Need-returns-3
 returns-3 c = respected-code _ _ _ _ _ _ (search) (search)
 
 returns-4 : tie.Need-returns-4
-returns-4 c = respected-two _ _ _ _ _ _ (search) (search)
+returns-4 c = respected-hidden _ _ _ _ _ _ (search) (search)
 
 returns-5 : tie.Need-returns-5
-returns-5 c = respected-leaf _ _ _ _ _ _ (search) (search) (search) (search)
+returns-5 c = respected-two _ _ _ _ _ _ (search) (search)
+
+returns-6 : tie.Need-returns-6
+returns-6 c = respected-leaf _ _ _ _ _ _ (search) (search) (search) (search) (search)
 
 pub form-respected-spec : {M : Type 1} → statement M
 form-respected-spec =
     tie.close (tie.spec (λ c κs. search needs) returns (λ c κs. search) returns-2 (λ c κs. search) returns-3 (λ c κs. search) returns-4
-    returns-5)
+    (λ c κs. search) returns-5 returns-6)

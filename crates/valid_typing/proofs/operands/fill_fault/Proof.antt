@@ -4,7 +4,7 @@ use mathlib.Core.Bool.{true, false}
 use mathlib.Core.List.{List, map}
 use lib.ListN.{getD}
 use Rattle.types.specs.Types.{Arg}
-use Rattle.valid_typing.specs.Typing.{codeIn, lettersLess}
+use Rattle.valid_typing.specs.Typing.{codeIn, codeRead, lettersLess}
 use Rattle.valid_typing.proofs.OperandFaults.{applied-stops, applied-plain, applied-letters}
 use Rattle.valid_typing.proofs.operands.Filling.{not-yes, not-no, guarded-is, filled-told}
 use Rattle.image.specs.Sections.{part}
@@ -38,7 +38,12 @@ returns c =
 
 code-requires : tie.Need-code-requires
 unfolding part
-code-requires c κs = (search, omega arith)
+code-requires c κs =
+    let t-base-type : tie.After-base-type = search in
+    let f = t-base-type .base-type .ensures .1 .row-in in
+    let s : tie.Start = search in
+    let g = s .pre .0 .ready .few in
+    (search, omega arith)
 
 returns-2 : tie.Need-returns-2
 unfolding part
@@ -51,7 +56,7 @@ returns-2 c =
     let l = a .image .now in
     let T : List Arg = typesAt (a .p) l (a .c .rows) in
     let k = t-code .code .result in
-    λ P Δ f h e. applied-plain P Δ _ f _ (map (λ (x : ℕ). getD T x _) (a .args .now)) (a .o .row) _ _ (t-base-type .base-type .ensures .0 P Δ h) (search) (guarded-is (k .is) false (codeIn _ _ _ _ _) (t-code .code .ensures .0) (not-yes (i2 .if2 .taken)))
+    λ P Δ f h e. applied-plain P Δ _ f _ (map (λ (x : ℕ). getD T x _) (a .args .now)) (a .o .row) _ _ (t-base-type .base-type .ensures .0 P Δ h) (search) (guarded-is (k .is) false (codeRead _ _ (codeIn _ _ _ _ _)) (t-code .code .ensures .0 _ _) (not-yes (i2 .if2 .taken)))
 
 returns-3 : tie.Need-returns-3
 unfolding part
@@ -66,10 +71,16 @@ returns-3 c =
     let l = a .image .now in
     let T : List Arg = typesAt (a .p) l (a .c .rows) in
     let k = t-code .code .result in
-    λ P Δ f h e. applied-letters P Δ _ f _ (map (λ (x : ℕ). getD T x _) (a .args .now)) (a .o .row) _ _ (codeIn _ _ _ _ _)
-    (t-base-type .base-type .ensures .0 P Δ h) (search) (guarded-is (k .is) true _ (t-code .code .ensures .0) (not-no (i2 .if2 .left)))
+    λ P Δ f h e. applied-letters P Δ _ f _ (map (λ (x : ℕ). getD T x _) (a .args .now)) (a .o .row) _ _ (codeRead _ _ (codeIn _ _ _ _ _))
+    (t-base-type .base-type .ensures .0 P Δ h) (search) (guarded-is (k .is) true _ (t-code .code .ensures .0 _ _) (not-no (i2 .if2 .left)))
     (guarded-is (t-letters-fit .letters-fit .result) false (lettersLess _ _ _) (t-letters-fit .letters-fit .ensures)
     (not-yes (i3 .if3 .taken)))
+
+is-closed-requires : tie.Need-is-closed-requires
+is-closed-requires c κs =
+    let t-letters-fit : tie.After-letters-fit = search in
+    let s = start-of t-letters-fit in
+    (s .pre .0 .ordered, s .pre .0 .scoped)
 
 given-row-requires : tie.Need-given-row-requires
 given-row-requires c κs =
@@ -88,7 +99,8 @@ unfolding part
 filled-requires c κs =
     let t-letters-fit : tie.After-letters-fit = search in
     let s = start-of t-letters-fit in
-    (let f = s .pre .0 .ready .few in omega arith, search, search, search)
+    let t-base-type = base-type-of t-letters-fit in
+    (record { few = s .pre .3; env = t-base-type .base-type .ensures .1 .small; rows = let f = s .pre .0 .ready .few in omega arith }, search, search, search)
 
 returns-4 : tie.Need-returns-4
 unfolding part
@@ -108,8 +120,8 @@ returns-4 c =
     let T : List Arg = typesAt (a .p) l (a .c .rows) in
     let k = t-code .code .result in
     λ P Δ f h e. filled-told P Δ _ _ _ (s .pre .0 .ready) (h .types) _ f _ (map (λ (x : ℕ). getD T x _) (a .args .now)) _ _
-    (t-given-row .given-row .result) _ (codeIn _ _ _ _ _) (lettersLess _ _ _) true e (t-base-type .base-type .ensures .0 P Δ h)
-    (i1 .if1 .left) (guarded-is (k .is) true _ (t-code .code .ensures .0) (not-no (i2 .if2 .left)))
+    (t-given-row .given-row .result) _ (codeRead _ _ (codeIn _ _ _ _ _)) (lettersLess _ _ _) true e (t-base-type .base-type .ensures .0 P Δ h)
+    (i1 .if1 .left) (guarded-is (k .is) true _ (t-code .code .ensures .0 _ _) (not-no (i2 .if2 .left)))
     (guarded-is (t-letters-fit .letters-fit .result) true _ (t-letters-fit .letters-fit .ensures) (not-no (i3 .if3 .left)))
     (t-given-row .given-row .ensures .0) (t-filled .filled .ensures) (i4 .if4 .taken)
 
@@ -131,13 +143,14 @@ returns-5 c =
     let T : List Arg = typesAt (a .p) l (a .c .rows) in
     let k = t-code .code .result in
     λ P Δ f h e. filled-told P Δ _ _ _ (s .pre .0 .ready) (h .types) _ f _ (map (λ (x : ℕ). getD T x _) (a .args .now)) _ _
-    (t-given-row .given-row .result) _ (codeIn _ _ _ _ _) (lettersLess _ _ _) false e (t-base-type .base-type .ensures .0 P Δ h)
-    (i1 .if1 .left) (guarded-is (k .is) true _ (t-code .code .ensures .0) (not-no (i2 .if2 .left)))
+    (t-given-row .given-row .result) _ (codeRead _ _ (codeIn _ _ _ _ _)) (lettersLess _ _ _) false e (t-base-type .base-type .ensures .0 P Δ h)
+    (i1 .if1 .left) (guarded-is (k .is) true _ (t-code .code .ensures .0 _ _) (not-no (i2 .if2 .left)))
     (guarded-is (t-letters-fit .letters-fit .result) true _ (t-letters-fit .letters-fit .ensures) (not-no (i3 .if3 .left)))
     (t-given-row .given-row .ensures .0) (t-filled .filled .ensures) (i4 .if4 .left)
 
 pub fill-fault-spec : {M : Type 1} → statement M
 fill-fault-spec =
     tie.close (tie.spec (λ c. search needs) (λ c. search needs) (λ c. search needs) (λ c. search needs) (λ c. search needs)
-    (λ c. search needs) (λ c. search needs) (λ c. search needs) (λ c κs. search) returns code-requires returns-2 (λ c κs. search)
-    returns-3 (λ c κs. search) given-row-requires add-filled filled-requires (λ c. search needs) returns-4 (λ c. search needs) returns-5)
+    (λ c. search needs) (λ c. search needs) (λ c. search needs) (λ c κs. search needs) returns code-requires returns-2
+    (λ c κs. search needs) returns-3 is-closed-requires given-row-requires add-filled filled-requires (λ c. search needs) returns-4
+    (λ c. search needs) returns-5)

@@ -29,7 +29,15 @@ fill-fault-requires : tie.Need-fill-fault-requires
 unfolding part
 fill-fault-requires c κs =
     let t-reversed : tie.After-reversed = search in
-    (search, search, back-below _ (span _ _ _) (t-reversed .reversed .ensures))
+    (search, search, back-below _ (span _ _ _) (t-reversed .reversed .ensures), search)
+
+formed-args-requires : tie.Need-formed-args-requires
+formed-args-requires c κs =
+    let t-fill-fault : tie.After-fill-fault = search in
+    let s = start-of t-fill-fault in
+    let f = s .pre .1 .first in
+    let k = s .pre .2 in
+    (s .pre .0 .ordered, s .pre .0 .scoped, omega arith)
 
 returns : tie.Need-returns
 unfolding part
@@ -55,5 +63,5 @@ returns-2 c =
 pub instance-spec : {M : Type 1} → statement M
 instance-spec =
     tie.close (tie.spec (λ c. search needs) (λ c. search needs) (λ c. search needs) (λ c. search needs) (λ c. search needs)
-    (λ c κs. search needs) (λ c. search needs) slice-aggregate-fill-fault fill-fault-requires (λ c κs. search) (λ c κs. search needs)
+    (λ c κs. search needs) (λ c. search needs) slice-aggregate-fill-fault fill-fault-requires (λ c κs. search needs) formed-args-requires
     (λ c κs. search needs) (λ c. search needs) returns (λ c κs. search needs) (λ c κs. search needs) (λ c. search needs) returns-2)

@@ -13,9 +13,11 @@ returns : tie.Need-returns
 unfolding part
 returns c = closed-row _ _ _ _ (search) (search)
 
+returns-2 : tie.Need-returns-2
+returns-2 c = λ z. none-true z
+
 pub is-closed-spec : {M : Type 1} → statement M
 is-closed-spec =
     tie.close (tie.spec (λ c. search needs) (λ c. search needs) (λ c. search needs) (λ c. search needs) (λ c. search needs)
     (λ c. search needs) (λ c. search needs) (λ c. search needs) (λ c. search needs) (λ c. search needs) (λ c. search needs)
-    (λ c. search needs) (λ c. search needs) (λ c. search needs) (λ c. search needs) (λ c. search needs) formed-requires returns
-    (λ c. none-true))
+    (λ c. search needs) (λ c. search needs) (λ c. search needs) (λ c. search needs) (λ c. search needs) formed-requires returns returns-2)

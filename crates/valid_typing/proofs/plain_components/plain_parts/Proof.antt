@@ -1,4 +1,4 @@
-use Rattle.valid_typing.specs.Image.{rowTable, typesAt, HoldsAt}
+use Rattle.valid_typing.specs.Image.{rowTable, readAt, HoldsAt}
 use borrow.Author.Needs.{needs}
 use native.Mathlib.Omega.{arith}
 use mathlib.Core.Path.{_≡_, _∙_, ap}
@@ -22,14 +22,14 @@ use Rattle.valid_typing.proofs.plain_components.plain_parts.Statement.{
 use Rattle.valid_typing.proofs.plain_components.plain_parts.Tie as tie
 
 abbrev Inv-loop : tie.InvT-loop
-Inv-loop image literals regs h at q k slots end parts v i₀ i =
+Inv-loop image literals envs regs h at q k slots end parts v i₀ i =
     (i ≤ i₀)
-    × ((P : Program) (Δ : List Kind) (args : List ℕ) → HoldsAt q image k P → toldOf (components P Δ (regsOf (typesAt q image (k .rows))
+    × ((P : Program) (Δ : List Kind) (args : List ℕ) → HoldsAt q image k P → toldOf (components P Δ (regsOf (readAt q image (k .rows) envs)
     regs) (operandsAt (operandTable (operandSection q image) literals args) (v + i) (i₀ - i))) ≡ answer 0
     (partsOf (meanV (rowTable q image)) (slotSection q image) false h (at + i) (i₀ - i)))
 
 abbrev μ-loop : tie.MeasureT-loop
-μ-loop image literals regs h at q k slots end parts v i₀ i = i
+μ-loop image literals envs regs h at q k slots end parts v i₀ i = i
 
 loop-holds : tie.Need-loop-holds Inv-loop μ-loop
 loop-holds c = (omega arith, λ P Δ args h. plain-none P Δ _ (operandTable _ _ args) _ _ _ _ _ _)
@@ -39,11 +39,14 @@ row-of-requires c κs =
     let s : tie.Start Inv-loop μ-loop = search in
     let t-at : tie.After-at Inv-loop μ-loop = search in
     let t-link : tie.After-link Inv-loop μ-loop = search in
-    let k = lower-low (s .args .h) (t-at .at .result) (s .pre .2 .some) in
-    (s .pre .1 .few, omega (arith, t-link .link .ensures, s .pre .2 .row))
+    let k = lower-low (s .args .h) (t-at .at .result) (s .pre .1 .some) in
+    (s .pre .0 .ready .few, omega (arith, t-link .link .ensures, s .pre .1 .row))
 
 plain-fits-requires : tie.Need-plain-fits-requires Inv-loop μ-loop
-plain-fits-requires c κs = (search, search, omega arith, search)
+plain-fits-requires c κs =
+    let s : tie.Start Inv-loop μ-loop = search in
+    let l = s .pre .2 .last in
+    (s .pre .0, omega arith, search)
 
 loop-again : tie.Need-loop-again Inv-loop μ-loop
 unfolding part
@@ -57,9 +60,12 @@ loop-again c =
     let t-at : tie.After-at Inv-loop μ-loop = search in (
       omega arith,
       λ P Δ args h. plain-next P Δ _ (operandTable _ _ args) _ _ _ _ _ _ _ _ (search) (search)
-          (t-plain-fits .plain-fits .ensures (not-no (search)) P Δ args h) (t-row-of .row-of .ensures .0 _ _ (s .pre .1) ∙ ap (meanV _)
+          (t-plain-fits .plain-fits .ensures (not-no (search)) P Δ args h) (t-row-of .row-of .ensures .0 _ _ (s .pre .0 .ready) ∙ ap (meanV _)
           (t-link .link .ensures ∙ ap (λ (y : ℕ). lower (a .h) y) (t-at .at .ensures .0))) (g .loop .inv .1 P Δ args h),
     )
+
+returns : tie.Need-returns Inv-loop μ-loop
+returns c = λ z. none-true z
 
 returns-2 : tie.Need-returns-2 Inv-loop μ-loop
 returns-2 c =
@@ -69,5 +75,5 @@ returns-2 c =
 pub plain-parts-spec : {M : Type 1} → statement M
 plain-parts-spec =
     tie.close (tie.spec Inv-loop μ-loop (λ c. search needs) (λ c. search needs) (λ c. search needs) (λ c. search needs) loop-holds
-    (λ c. search needs) (λ c. search needs) (λ c κs. search needs) (λ c κs. search) row-of-requires (λ c. search needs)
-    (λ c. search needs) plain-fits-requires (λ c. λ z. none-true z) (λ c. search) (λ c. search needs) loop-again returns-2)
+    (λ c. search needs) (λ c. search needs) (λ c κs. search needs) (λ c κs. search needs) row-of-requires (λ c. search needs)
+    (λ c. search needs) plain-fits-requires returns (λ c. search needs) (λ c. search needs) loop-again returns-2)

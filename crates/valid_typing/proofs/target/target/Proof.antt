@@ -20,7 +20,14 @@ returns-2 c =
 
 aimed-requires : tie.Need-aimed-requires
 unfolding part
-aimed-requires c κs = (search, search, omega arith)
+aimed-requires c κs =
+    let t-operand : tie.After-operand = search in
+    let s = start-of t-operand in (
+      record { ready = s .pre .0 .ready; few = s .pre .2 .few; room = omega (arith, s .pre .0 .room, t-operand .operand .kept .1 .1 .1 .1 .1 .1 .1 .1 .0) },
+      t-operand .operand .ensures .1 .row-in,
+      t-operand .operand .ensures .1 .small,
+      s .pre .2 .depth,
+    )
 
 returns-3 : tie.Need-returns-3
 unfolding part
@@ -31,6 +38,6 @@ returns-3 c =
 
 pub target-spec : {M : Type 1} → statement M
 target-spec =
-    tie.close (tie.spec (λ c κs. search) (λ c. search needs) returns (λ c. search needs) returns-2 (λ c. search needs) (λ c. search needs)
-    (λ c. search needs) (λ c. search needs) (λ c. search needs) (λ c. search needs) (λ c. search needs) (λ c. search needs) aimed-requires
-    (λ c. search needs) returns-3)
+    tie.close (tie.spec (λ c κs. search needs) (λ c. search needs) returns (λ c. search needs) returns-2 (λ c. search needs)
+    (λ c. search needs) (λ c. search needs) (λ c. search needs) (λ c. search needs) (λ c. search needs) (λ c. search needs)
+    (λ c. search needs) aimed-requires (λ c. search needs) returns-3)
