@@ -7,9 +7,9 @@ use native.Mathlib.Nat.{not-suc-le-zero}
 use lib.ListN.{length, getD, take}
 use lib.Seq.{length-take-le}
 use Rattle.tables.specs.Tables.{RowTable}
-use Rattle.types_rows.specs.Environments.{SettingIn}
+use Rattle.types_rows.specs.Environments.{EnvironmentIn}
 use Rattle.types_equal.specs.pending.Pending.{room, Givens}
-use Rattle.types_equal.specs.Bounds.{Tabled, Rooms, leftOf, rightOf, Spare}
+use Rattle.types_equal.specs.Bounds.{Tabled, Rooms, Spare}
 use Rattle.types_equal.specs.declared.stack_pairs.Context.{Context}
 
 pub room-of : (j m : ℕ) → j < m → room m ≡ 514
@@ -20,12 +20,12 @@ pub room-most : (m : ℕ) → room m ≤ 514
 room-most zero = omega arith
 room-most (suc m) = omega arith
 
--- the settings of the two sides
-pub left-in : {E : List ℕ} {k : Context} {l r : ℕ} → Rooms E k l r → SettingIn E (leftOf k)
-left-in h = let a = h .envs in let b = h .left in record { few = omega arith; small = h .env; sum = omega arith }
+-- the environments of the two sides
+pub left-in : {E : List ℕ} {k : Context} {l r : ℕ} → Rooms E k l r → EnvironmentIn E (k .env)
+left-in h = let a = h .envs in record { few = omega arith; small = h .env }
 
-pub right-in : {E : List ℕ} {k : Context} {l r : ℕ} → Rooms E k l r → SettingIn E (rightOf k)
-right-in h = let a = h .envs in let b = h .right in record { few = omega arith; small = h .env2; sum = omega arith }
+pub right-in : {E : List ℕ} {k : Context} {l r : ℕ} → Rooms E k l r → EnvironmentIn E (k .env2)
+right-in h = let a = h .envs in record { few = omega arith; small = h .env2 }
 
 module _ (τ : RowTable) (args : List ℕ) where
   pub tabled-low : {m l r : ℕ} (x y : ℕ) → Tabled τ args m l r → x ≤ l → y ≤ r → Tabled τ args m x y

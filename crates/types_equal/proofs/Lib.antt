@@ -1,5 +1,6 @@
 pub mod Laws
 pub mod Items
 pub mod Values
+pub mod Deeper
 pub mod Stacks
 pub mod Plain

@@ -2,7 +2,7 @@
 use mathlib.Core.Path.{_≡_, refl, ap, ap₂, sym, _∙_, subst}
 use mathlib.Core.Bool.{Bool, true, false, _&&_, not}
 use mathlib.Core.List.{List, []}
-use Prim.Native.Nat.{ℕ, _+_, _-_, _*_, _<_, _≤_}
+use Prim.Native.Nat.{ℕ, _+_, _-_, _<_, _≤_}
 use native.Mathlib.Omega.{arith}
 use lib.ListN.{length, getD, set, take, drop, length-drop}
 use lib.Seq.{getD-set-same, length-take-le}
@@ -10,11 +10,9 @@ use Rattle.types.specs.Types.{nil, join, Arg, meets}
 use Rattle.types.specs.Equal.{same}
 use Rattle.types.proofs.Filling.{join-nil}
 use Rattle.tables.specs.Tables.{RowTable}
-use Rattle.types_rows.specs.Read.{meanS, lift, stackUnder, argsOf}
-use Rattle.types_rows.specs.Environments.{shifted}
-use Rattle.types_rows.proofs.Environments.{shifted-now}
+use Rattle.types_rows.specs.Read.{meanS, lift, stackUnder}
 use Rattle.types_equal.specs.pending.Pending.{side, entryType, pendingType, entryMeets, pendingMeets, Low, Pends, mass}
-use Rattle.types_equal.proofs.pending.Meets.{and-true, no-args}
+use Rattle.types_equal.proofs.pending.Meets.{and-true}
 use Rattle.types_equal.proofs.pending.Entries.{own-type, own-meets}
 use Rattle.types_equal.proofs.pending.Sides.{length-side}
 use Rattle.types_equal.proofs.pending.Lists.{Agree, mass-agree, pends-agree, type-agree, meets-agree}
@@ -148,7 +146,3 @@ not-false {b} e = go b e
     go : (b : Bool) → not b ≡ true → b ≡ false
     go true e = sym e
     go false e = refl
-
--- a row of an argument, read now
-pub plain-args : (τ : RowTable) (args E : List ℕ) (e d t : ℕ) (ρ₂ : ℕ → ℕ) (d₂ u : ℕ) → e ≡ 2 * length E → fitValues τ (argsOf τ args 0) (shifted E e d) 0 t ρ₂ d₂ u ≡ fitValues τ [] (lift d) 0 t ρ₂ d₂ u
-plain-args τ args E e d t ρ₂ d₂ u h = ap₂ (λ z (f : ℕ → ℕ). fitValues τ z f 0 t ρ₂ d₂ u) (no-args τ args 0 refl) (ap (λ x. shifted E x d) h ∙ shifted-now E d)

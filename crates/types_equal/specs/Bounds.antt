@@ -1,11 +1,12 @@
 -- What the comparison relies on: few rows, small sums, room for what is pending.
 use Prim.Native.Nat.{ℕ, zero, suc, _+_, _*_, _≤_, _<_}
+use mathlib.Core.Bool.{Bool, true, false}
 use mathlib.Core.List.{List}
 use lib.ListN.{length, getD}
 use Rattle.tables.specs.Tables.{RowTable}
 use Rattle.types_rows.specs.declared.Held.{Held}
-use Rattle.types_rows.specs.declared.Setting.{Setting}
 use Rattle.types_equal.specs.pending.Pending.{room}
+use Rattle.types_equal.specs.declared.pending.Setting.{Setting}
 use Rattle.types_equal.specs.declared.stack_pairs.Context.{Context}
 use Rattle.types_equal.specs.declared.value_pairs.Bodies.{Bodies}
 use Rattle.types_equal.specs.declared.value_pairs.Span.{Span}
@@ -33,7 +34,29 @@ leftOf k = record { m = k .m; by = k .by; d = k .d; env = k .env }
 
 -- that of the right one
 abbrev pub rightOf : Context → Setting
-rightOf k = record { m = 0; by = k .by2; d = k .d2; env = k .env2 }
+rightOf k = record { m = 0; by = 0; d = k .d2; env = k .env2 }
+
+-- the context k with a row of an argument on the left: read now, raised by the depth
+abbrev pub givenOf : List ℕ → Context → Context
+givenOf E k = record { m = 0; by = k .d; d = 0; env = 2 * length E; d2 = k .d2; env2 = k .env2 }
+
+-- the context k under a more binders on the left and b more on the right
+abbrev pub deeperOf : Context → ℕ → ℕ → Context
+deeperOf k a b = record { m = k .m; by = k .by; d = a + k .d; env = k .env; d2 = b + k .d2; env2 = k .env2 }
+
+-- the context k under the letters of two code rows, whose registers start at p and at q
+abbrev pub underOf : List ℕ → Context → ℕ → ℕ → Context
+underOf ps k p q = deeperOf k (getD ps (p + 8) 0) (getD ps (q + 8) 0)
+
+-- that of an argument's row and another, or of the insides of two packages
+abbrev pub insideOf : List ℕ → Context → Bool → Context
+insideOf E k true = givenOf E k
+insideOf E k false = deeperOf k 1 1
+
+-- the depths of a context are small enough to grow
+pub record Depths (k : Context) : Type 0 where
+  pub left : k .d ≤ 2147483648
+  pub right : k .d2 ≤ 2147483648
 
 -- small environments of two rows
 abbrev pub BothSmall : Held → Held → Type 0
@@ -42,7 +65,7 @@ BothSmall l r = (l .env ≤ 65535) × (r .env ≤ 65535)
 -- room for the sums of both sides, at rows l and r; few environments or names, and small numbers of environments
 pub record Rooms (E : List ℕ) (k : Context) (l r : ℕ) : Type 0 where
   pub left : Room (k .m) (k .by) (k .d) l
-  pub right : Room 0 (k .by2) (k .d2) r
+  pub right : Room 0 0 (k .d2) r
   pub envs : length E ≤ 256
   pub env : k .env ≤ 131072
   pub env2 : k .env2 ≤ 131072
@@ -50,7 +73,7 @@ pub record Rooms (E : List ℕ) (k : Context) (l r : ℕ) : Type 0 where
 -- the same for the parts of rows l and r, under the letters of these rows
 pub record PartRooms (E : List ℕ) (k : Context) (l r : ℕ) : Type 0 where
   pub left : k .by + k .d + 65536 * l + big (k .m) ≤ 2147549184
-  pub right : k .by2 + k .d2 + 65536 * r ≤ 2147549184
+  pub right : k .d2 + 65536 * r ≤ 2147549184
   pub left-row : 0 < l
   pub right-row : 0 < r
   pub envs : length E ≤ 256

@@ -5,7 +5,6 @@
 // it fills. Asked: that there are at most 514 rows and 64 environments, that a row called closed is, and 1,543 words for what is pending.
 use crate::stack_pairs::Context;
 use crate::value_pairs::Bodies;
-use crate::value_pairs::Span;
 use types_rows::Held;
 use types_rows::Val;
 ghost use mathlib.Core.Path.{_≡_};
@@ -114,7 +113,6 @@ fn eq_filled(
         by: 0,
         d: (a - m) as u32,
         env: e as u32,
-        by2: 0,
         d2: b as u32,
         env2: crate::stack_pairs::current(envs),
     };
@@ -149,16 +147,10 @@ fn fill_code(
                 by: 0,
                 d: (a - m) as u32,
                 env: l.env as u32,
-                by2: 0,
                 d2: b as u32,
                 env2: crate::stack_pairs::current(envs),
             };
-            let s = Span {
-                file: true,
-                p: c.p as u32,
-                q: c.q as u32,
-                n: 8,
-            };
+            let s = crate::value_pairs::registers(c.p, c.q);
             return crate::eq_parts(rows, parts, args, envs, k, l.row, r, s, pending);
         }
         return false;
@@ -260,7 +252,6 @@ pub fn packs(
         by: 0,
         d: 0,
         env: crate::stack_pairs::current(envs),
-        by2: 0,
         d2: 0,
         env2: x.env as u32,
     };

@@ -3,9 +3,9 @@
 // value rows, filling the filled types). The left row stands in a context: some of its variables are filled by argument rows, the others
 // are those of an environment (crate types_rows; module names makes tables of environments), raised. The right row has no arguments. Value
 // rows and stack rows are compared by rules that call each other; the row number falls. The same row in the same context is seen at once to
-// be equal. Promised: the test `same` of crate types of the two types, and that no argument is of the wrong kind where it fills. Asked: that
-// there are at most 514 rows, which bounds what is pending, at most 64 environments, and 1,543 words for what is pending, whatever they
-// hold. Row numbers are links, as in crate types_rows.
+// be equal. Promised: the test `same` of crate types of the two types, and that no argument is of the wrong kind where it fills. Asked:
+// that there are at most 514 rows, which bounds what is pending, at most 64 environments, and 1,543 words for what is pending, whatever
+// they hold. Row numbers are links, as in crate types_rows.
 pub mod filling;
 pub mod names;
 pub mod pending;
@@ -14,7 +14,6 @@ pub mod value_pairs;
 
 use crate::stack_pairs::Context;
 use crate::stack_pairs::Duo;
-use crate::value_pairs::Bodies;
 use crate::value_pairs::Heads;
 use crate::value_pairs::Pair;
 use crate::value_pairs::Span;
@@ -28,8 +27,8 @@ ghost use Rattle.types.specs.Rows.{typeAt, typesOf};
 ghost use Rattle.tables.specs.Tables.{rowsIn};
 ghost use Rattle.types_rows.specs.Read.{tab, lower, argsOf};
 ghost use Rattle.types_rows.specs.Environments.{readIn, shifted};
-ghost use Rattle.types_equal.specs.Bounds.{BothSmall, Rooms, PartRooms, BodiesIn, SpanIn, Spare, Tabled};
-ghost use Rattle.types_equal.specs.stack_pairs.Fit.{fitValues, fitCodes, fitParts, sameStacks};
+ghost use Rattle.types_equal.specs.Bounds.{BothSmall, Rooms, PartRooms, SpanIn, Spare, Tabled};
+ghost use Rattle.types_equal.specs.stack_pairs.Fit.{fitValues, fitParts, sameStacks};
 
 // Value row l in its context equals value row r in its own.
 pub(crate) fn eq_value(
@@ -43,101 +42,37 @@ pub(crate) fn eq_value(
     pending: &mut [u32],
 ) -> bool
     requires { ⌜ Tabled (tab (now rows) (now parts)) (now args) (k .m) l r × Rooms (now envs) k l r × Spare (k .m) l r (length (now pending)) ⌝ }
-    ensures { λ out. ⌜ out ≡ fitValues (tab (now (rows .entry)) (now (parts .entry))) (argsOf (tab (now (rows .entry)) (now (parts .entry))) (now (args .entry)) (k .m)) (shifted (now (envs .entry)) (k .env) (k .by)) (k .d) l (shifted (now (envs .entry)) (k .env2) (k .by2)) (k .d2) r ⌝ }
+    ensures { λ out. ⌜ out ≡ fitValues (tab (now (rows .entry)) (now (parts .entry))) (argsOf (tab (now (rows .entry)) (now (parts .entry))) (now (args .entry)) (k .m)) (shifted (now (envs .entry)) (k .env) (k .by)) (k .d) l (shifted (now (envs .entry)) (k .env2) 0) (k .d2) r ⌝ }
 {
     if crate::stack_pairs::same_place(k, l, r) {
         return true;
     }
-    let v = crate::value_pairs::left_value(rows, envs, k, l);
-    let w = crate::value_pairs::right_value(rows, envs, k, r);
-    let p = crate::value_pairs::pair_up(v, w);
+    let v = types_rows::value_in(rows, envs, l, k.m, k.by, k.d, k.env);
+    let w = types_rows::value_in(rows, envs, r, 0, 0, k.d2, k.env2);
+    let p = crate::value_pairs::pair_up(rows, parts, args, v, w, r);
+    // The context of what is left; one, since comparisons nest and each level keeps it.
+    let mut t = k;
     match p {
         Pair::Same => true,
         Pair::Differ => false,
-        Pair::Filled(j) => {
-            let a = types_rows::at(args, j);
-            if types_rows::is_stack(rows, a) {
+        Pair::Tuples(p, q, n) => {
+            let s = crate::value_pairs::components(p, q, n);
+            eq_parts(rows, parts, args, envs, t, l, r, s, pending)
+        }
+        Pair::Pointers(x, y) => eq_stack(rows, parts, args, envs, t, x, y, pending),
+        Pair::Codes(x, p, y, q) => {
+            t = crate::stack_pairs::under(parts, k, p, q);
+            if !eq_stack(rows, parts, args, envs, t, x, y, pending) {
                 return false;
             }
-            let g = Context {
-                m: 0,
-                by: k.d,
-                d: 0,
-                env: crate::stack_pairs::current(envs),
-                by2: k.by2,
-                d2: k.d2,
-                env2: k.env2,
-            };
-            eq_value(rows, parts, args, envs, g, a + 1, r, pending)
+            let s = crate::value_pairs::registers(p, q);
+            eq_parts(rows, parts, args, envs, t, l, r, s, pending)
         }
-        Pair::Tuples(p, q, n) => {
-            let s = Span {
-                file: false,
-                p: p as u32,
-                q: q as u32,
-                n: n as u32,
-            };
-            eq_parts(rows, parts, args, envs, k, l, r, s, pending)
-        }
-        Pair::Pointers(x, y) => eq_stack(rows, parts, args, envs, k, x, y, pending),
-        Pair::Codes(x, p, y, q) => {
-            let c = Bodies { x, p, y, q };
-            eq_code(rows, parts, args, envs, k, l, r, c, pending)
-        }
-        Pair::Hiddens(x, y) => {
-            let t = Context {
-                m: k.m,
-                by: k.by,
-                d: k.d + 1,
-                env: k.env,
-                by2: k.by2,
-                d2: k.d2 + 1,
-                env2: k.env2,
-            };
+        Pair::Inside(filled, x, y) => {
+            t = crate::stack_pairs::inside(envs, k, filled);
             eq_value(rows, parts, args, envs, t, x, y, pending)
         }
     }
-}
-
-// The code type of row l equals that of row r, of the given bodies.
-fn eq_code(
-    rows: &[u16],
-    parts: &[u16],
-    args: &[u16],
-    envs: &[u16],
-    k: Context,
-    l: usize,
-    r: usize,
-    c: Bodies,
-    pending: &mut [u32],
-) -> bool
-    requires { ⌜ Tabled (tab (now rows) (now parts)) (now args) (k .m) l r × Rooms (now envs) k l r × BodiesIn c l r × Spare (k .m) l r (length (now pending)) ⌝ }
-    ensures { λ out. ⌜ out ≡ fitCodes (tab (now (rows .entry)) (now (parts .entry))) (argsOf (tab (now (rows .entry)) (now (parts .entry))) (now (args .entry)) (k .m)) (shifted (now (envs .entry)) (k .env) (k .by)) (k .d) l (c .x) (c .p) (shifted (now (envs .entry)) (k .env2) (k .by2)) (k .d2) r (c .y) (c .q) ⌝ }
-{
-    let a = types_rows::letter_count(parts, c.p);
-    let b = types_rows::letter_count(parts, c.q);
-    if crate::value_pairs::same_letters(parts, c.p + 9, a, c.q + 9, b) {
-        let t = Context {
-            m: k.m,
-            by: k.by,
-            d: (a + k.d as usize) as u32,
-            env: k.env,
-            by2: k.by2,
-            d2: (b + k.d2 as usize) as u32,
-            env2: k.env2,
-        };
-        if eq_stack(rows, parts, args, envs, t, c.x, c.y, pending) {
-            let s = Span {
-                file: true,
-                p: c.p as u32,
-                q: c.q as u32,
-                n: 8,
-            };
-            return eq_parts(rows, parts, args, envs, t, l, r, s, pending);
-        }
-        return false;
-    }
-    false
 }
 
 // The parts of row l equal those of row r, of the given span.
@@ -153,7 +88,7 @@ pub(crate) fn eq_parts(
     pending: &mut [u32],
 ) -> bool
     requires { ⌜ Tabled (tab (now rows) (now parts)) (now args) (k .m) l r × PartRooms (now envs) k l r × SpanIn s × Spare (k .m) l r (length (now pending)) ⌝ }
-    ensures { λ out. ⌜ out ≡ fitParts (tab (now (rows .entry)) (now (parts .entry))) (argsOf (tab (now (rows .entry)) (now (parts .entry))) (now (args .entry)) (k .m)) (shifted (now (envs .entry)) (k .env) (k .by)) (k .d) (s .file) l (s .p) (shifted (now (envs .entry)) (k .env2) (k .by2)) (k .d2) r (s .q) (s .n) ⌝ }
+    ensures { λ out. ⌜ out ≡ fitParts (tab (now (rows .entry)) (now (parts .entry))) (argsOf (tab (now (rows .entry)) (now (parts .entry))) (now (args .entry)) (k .m)) (shifted (now (envs .entry)) (k .env) (k .by)) (k .d) (s .file) l (s .p) (shifted (now (envs .entry)) (k .env2) 0) (k .d2) r (s .q) (s .n) ⌝ }
 {
     // The loop's invariant speaks of locals, and of no parameter that is a struct.
     let file = s.file;
@@ -194,7 +129,7 @@ pub(crate) fn eq_stack(
     pending: &mut [u32],
 ) -> bool
     requires { ⌜ Tabled (tab (now rows) (now parts)) (now args) (k .m) l r × Rooms (now envs) k l r × Spare (k .m) l r (length (now pending)) ⌝ }
-    ensures { λ out. ⌜ out ≡ sameStacks (tab (now (rows .entry)) (now (parts .entry))) (argsOf (tab (now (rows .entry)) (now (parts .entry))) (now (args .entry)) (k .m)) (shifted (now (envs .entry)) (k .env) (k .by)) (k .d) l (shifted (now (envs .entry)) (k .env2) (k .by2)) (k .d2) r ⌝ }
+    ensures { λ out. ⌜ out ≡ sameStacks (tab (now (rows .entry)) (now (parts .entry))) (argsOf (tab (now (rows .entry)) (now (parts .entry))) (now (args .entry)) (k .m)) (shifted (now (envs .entry)) (k .env) (k .by)) (k .d) l (shifted (now (envs .entry)) (k .env2) 0) (k .d2) r ⌝ }
 {
     if crate::stack_pairs::same_stack(rows, args, envs, k, l, r) {
         return true;
@@ -228,15 +163,7 @@ pub(crate) fn eq_stack(
             }
             Duo::GivenTwo(t, a, u, b) => {
                 let e = crate::stack_pairs::greater(a, b);
-                let g = Context {
-                    m: 0,
-                    by: k.d,
-                    d: 0,
-                    env: crate::stack_pairs::current(envs),
-                    by2: k.by2,
-                    d2: k.d2,
-                    env2: k.env2,
-                };
+                let g = crate::stack_pairs::given(envs, k);
                 if !eq_value(rows, parts, args, envs, g, t, u, &mut pending[e..]) {
                     return false;
                 }
@@ -278,7 +205,6 @@ pub fn equal_values(
         by: 0,
         d: 0,
         env: 0,
-        by2: 0,
         d2: 0,
         env2: 0,
     };
@@ -306,7 +232,6 @@ pub fn equal_held(
         by: 0,
         d: 0,
         env: l.env as u32,
-        by2: 0,
         d2: 0,
         env2: r.env as u32,
     };
@@ -332,7 +257,6 @@ pub fn equal_stacks(
         by: 0,
         d: 0,
         env: 0,
-        by2: 0,
         d2: 0,
         env2: 0,
     };

@@ -60,7 +60,7 @@ fn eq_tabled(
     pending: &mut [u32],
 ) -> bool
     requires { ⌜ Tabled (tab (now rows) (now parts)) (now args) (k .m) l r × Rooms (now envs) k l r × EnvsIn (now envs) (k .env) (k .env2) × Spare (k .m) l r (length (now pending)) ⌝ }
-    ensures { λ out. ⌜ out ≡ fitValues (tab (now (rows .entry)) (now (parts .entry))) (argsOf (tab (now (rows .entry)) (now (parts .entry))) (now (args .entry)) (k .m)) (shifted (now (envs .entry)) (k .env) (k .by)) (k .d) l (shifted (now (envs .entry)) (k .env2) (k .by2)) (k .d2) r ⌝ }
+    ensures { λ out. ⌜ out ≡ fitValues (tab (now (rows .entry)) (now (parts .entry))) (argsOf (tab (now (rows .entry)) (now (parts .entry))) (now (args .entry)) (k .m)) (shifted (now (envs .entry)) (k .env) (k .by)) (k .d) l (shifted (now (envs .entry)) (k .env2) 0) (k .d2) r ⌝ }
 {
     let mut names = [0u16; 130];
     let s = look_up(envs, k.env as usize, k.env2 as usize, &mut names);
@@ -72,7 +72,6 @@ fn eq_tabled(
         by: k.by,
         d: k.d,
         env: s.left as u32,
-        by2: k.by2,
         d2: k.d2,
         env2: s.right as u32,
     };
@@ -91,7 +90,7 @@ pub(crate) fn eq_named(
     pending: &mut [u32],
 ) -> bool
     requires { ⌜ Tabled (tab (now rows) (now parts)) (now args) (k .m) l r × Rooms (now envs) k l r × EnvsIn (now envs) (k .env) (k .env2) × Spare (k .m) l r (length (now pending)) ⌝ }
-    ensures { λ out. ⌜ out ≡ fitValues (tab (now (rows .entry)) (now (parts .entry))) (argsOf (tab (now (rows .entry)) (now (parts .entry))) (now (args .entry)) (k .m)) (shifted (now (envs .entry)) (k .env) (k .by)) (k .d) l (shifted (now (envs .entry)) (k .env2) (k .by2)) (k .d2) r ⌝ }
+    ensures { λ out. ⌜ out ≡ fitValues (tab (now (rows .entry)) (now (parts .entry))) (argsOf (tab (now (rows .entry)) (now (parts .entry))) (now (args .entry)) (k .m)) (shifted (now (envs .entry)) (k .env) (k .by)) (k .d) l (shifted (now (envs .entry)) (k .env2) 0) (k .d2) r ⌝ }
 {
     if k.env % 2 != 0 {
         return eq_tabled(rows, parts, args, envs, k, l, r, pending);

@@ -3,7 +3,6 @@
 // two such lists, the left one in the low 16 bits of its words, the right one in the high 16 bits. Rows fall, so one entry more than the
 // link of the first row is enough, and 514 more if there are arguments. Promised: what is pending is the next item and what is pending then
 // (`NextIs`), and the other list stays as it is. Asked: that the array is as long as said.
-use types_rows::Setting;
 use types_rows::Stk;
 ghost use mathlib.Core.Path.{_≡_};
 ghost use mathlib.Core.Bool.{not};
@@ -11,11 +10,20 @@ ghost use mathlib.Core.List.{List};
 ghost use Prim.Native.Nat.{ℕ, suc, _+_, _-_, _≤_, _<_};
 ghost use lib.ListN.{length, getD, set};
 ghost use Rattle.types_rows.specs.Read.{tab, argsOf};
-ghost use Rattle.types_rows.specs.Environments.{shifted, SettingIn};
+ghost use Rattle.types_rows.specs.Environments.{shifted, EnvironmentIn};
 ghost use Rattle.types_equal.specs.pending.Pending.{half, side, room, Pends, Givens, Lent, argForm, FormOf, NextIs};
 
 // Entries from here on are rows of an argument.
 const GIVEN: usize = 32768;
+
+// What the rows of a side are read in: past d binders the first m variables are filled by arguments, later ones are variables of
+// environment env, raised by `by`.
+pub struct Setting {
+    pub m: u32,
+    pub by: u32,
+    pub d: u32,
+    pub env: u32,
+}
 
 // What an entry leads to: no items; another entry; two; a value row on top of an entry, in the context or of an argument; a variable.
 // `Misfit`: an argument of the wrong kind would fill a variable.
@@ -66,10 +74,10 @@ fn given_form(rows: &[u16], d: usize, h: usize) -> Form
 
 // Stack row h in its setting.
 fn own_form(rows: &[u16], args: &[u16], envs: &[u16], c: Setting, h: usize) -> Form
-    requires { ⌜ (h ≤ 32767) × SettingIn (now envs) c × Givens (now args) (c .m) ⌝ }
+    requires { ⌜ (h ≤ 32767) × EnvironmentIn (now envs) (c .env) × Givens (now args) (c .m) ⌝ }
     ensures { λ out. ⌜ ((ps : List ℕ) → FormOf (tab (now (rows .entry)) ps) (argsOf (tab (now (rows .entry)) ps) (now (args .entry)) (c .m)) (shifted (now (envs .entry)) (c .env) (c .by)) (c .d) (c .m) h out) ⌝ }
 {
-    let s = types_rows::stack_in(rows, envs, c, h);
+    let s = types_rows::stack_in(rows, envs, h, c.m, c.by, c.d, c.env);
     match s {
         Stk::Nil => Form::Skip,
         Stk::StkVar(k) => Form::VarTop(k),
@@ -84,13 +92,13 @@ fn own_form(rows: &[u16], args: &[u16], envs: &[u16], c: Setting, h: usize) -> F
 
 // Entry e.
 fn form_of(rows: &[u16], args: &[u16], envs: &[u16], c: Setting, e: usize) -> Form
-    requires { ⌜ (e ≤ 33282) × SettingIn (now envs) c × Givens (now args) (c .m) ⌝ }
+    requires { ⌜ (e ≤ 33282) × EnvironmentIn (now envs) (c .env) × Givens (now args) (c .m) ⌝ }
     ensures { λ out. ⌜ ((ps : List ℕ) → FormOf (tab (now (rows .entry)) ps) (argsOf (tab (now (rows .entry)) ps) (now (args .entry)) (c .m)) (shifted (now (envs .entry)) (c .env) (c .by)) (c .d) (c .m) e out) ⌝ }
 {
     if e < GIVEN {
         return own_form(rows, args, envs, c, e);
     }
-    given_form(rows, c.d, e - GIVEN)
+    given_form(rows, c.d as usize, e - GIVEN)
 }
 
 // The left half of word w, or the right one.
@@ -141,7 +149,7 @@ pub(crate) fn next_item(
     right: bool,
     top: usize,
 ) -> Next
-    requires { ⌜ SettingIn (now envs) c × Lent (now args) (c .m) (length (now pending)) × Pends (c .m) (length (now pending) - suc (room (c .m))) (side right (now pending)) top ⌝ }
+    requires { ⌜ EnvironmentIn (now envs) (c .env) × Lent (now args) (c .m) (length (now pending)) × Pends (c .m) (length (now pending) - suc (room (c .m))) (side right (now pending)) top ⌝ }
     ensures { λ out. ⌜ ((ps : List ℕ) → NextIs (tab (now (rows .entry)) ps) (argsOf (tab (now (rows .entry)) ps) (now (args .entry)) (c .m)) (shifted (now (envs .entry)) (c .env) (c .by)) (c .d) (c .m) (side right (now (pending .entry))) top (side right (now (pending .exit))) out) × (side (not right) (now (pending .exit)) ≡ side (not right) (now (pending .entry))) ⌝ }
 {
     let mut n = top;

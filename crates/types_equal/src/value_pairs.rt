@@ -2,31 +2,28 @@
 // whether two code rows have the same letters. The crate's own file goes on with what is left. Promised: each answer is that of
 // specs/value_pairs/Pairs.antt, and of `sameLetters` of crate types, on every input. Asked: that the places of letters are small enough to
 // be added up.
-use crate::stack_pairs::Context;
 use types_rows::Slot;
 use types_rows::Val;
 ghost use mathlib.Core.Path.{_≡_};
-ghost use mathlib.Core.Bool.{cond};
+ghost use mathlib.Core.Bool.{true, false, cond};
 ghost use mathlib.Core.List.{[], _∷_};
 ghost use Prim.Native.Nat.{_+_, _≤_};
 ghost use lib.Dec.{eqb};
 ghost use Rattle.types.specs.Equal.{sameLetters};
-ghost use Rattle.tables.specs.Tables.{letterOf};
-ghost use Rattle.types_rows.specs.Read.{valueAt, placeV, OkV};
-ghost use Rattle.types_rows.specs.Environments.{shifted, SettingIn};
-ghost use Rattle.types_equal.specs.Bounds.{leftOf, rightOf};
-ghost use Rattle.types_equal.specs.declared.value_pairs.Pair.the-variants.{Same, Differ, Tuples};
-ghost use Rattle.types_equal.specs.value_pairs.Pairs.{pairInt, pairJunk, pairValVar, pairTuple, pairPointer, pairCode, pairHidden, pairOf, gapWith, rowWith, slotsOf, lettersFrom};
+ghost use Rattle.tables.specs.Tables.{letterOf, lettersAt};
+ghost use Rattle.types_rows.specs.Read.{tab};
+ghost use Rattle.types_equal.specs.declared.value_pairs.Pair.the-variants.{Same, Differ, Tuples, Codes};
+ghost use Rattle.types_equal.specs.value_pairs.Pairs.{pairInt, pairJunk, pairValVar, pairTuple, pairPointer, pairCode, pairHidden, pairFill, pairOf, spanOf, Placed, gapWith, rowWith, slotsOf, lettersFrom};
 
-// What is left to compare of two value rows.
+// What is left to compare of two value rows: nothing, they are equal; nothing, they are not; components; stacks; the stacks and registers
+// of code with the same letters; value rows, the left one that of an argument that fills the left row, or both inside packages.
 pub enum Pair {
     Same,
     Differ,
-    Filled(usize),
     Tuples(usize, usize, usize),
     Pointers(usize, usize),
     Codes(usize, usize, usize, usize),
-    Hiddens(usize, usize),
+    Inside(bool, usize, usize),
 }
 
 // Two code types: the stack x and where the registers start, p, of the left one, y and q of the right one.
@@ -40,31 +37,15 @@ pub struct Bodies {
 // n parts from p on the left and from q on the right: registers if `file`, else components.
 pub struct Span {
     pub file: bool,
-    pub p: u32,
-    pub q: u32,
-    pub n: u32,
+    pub p: u16,
+    pub q: u16,
+    pub n: u16,
 }
 
 // What is left to compare of two parts: no row and no row for two gaps.
 pub enum Heads {
     Apart,
     Both(usize, usize),
-}
-
-// Value row l of the left side.
-pub(crate) fn left_value(rows: &[u16], envs: &[u16], k: Context, l: usize) -> Val
-    requires { ⌜ (l ≤ 65536) × SettingIn (now envs) (leftOf k) ⌝ }
-    ensures { λ out. ⌜ (out ≡ valueAt (now (rows .entry)) (placeV (k .m) (shifted (now (envs .entry)) (k .env) (k .by)) (k .d)) l) × OkV (k .m) l out ⌝ }
-{
-    types_rows::value_in(rows, envs, crate::stack_pairs::left(k), l)
-}
-
-// Value row r of the right side.
-pub(crate) fn right_value(rows: &[u16], envs: &[u16], k: Context, r: usize) -> Val
-    requires { ⌜ (r ≤ 65536) × SettingIn (now envs) (rightOf k) ⌝ }
-    ensures { λ out. ⌜ (out ≡ valueAt (now (rows .entry)) (placeV 0 (shifted (now (envs .entry)) (k .env2) (k .by2)) (k .d2)) r) × OkV 0 r out ⌝ }
-{
-    types_rows::value_in(rows, envs, crate::stack_pairs::right(k), r)
 }
 
 fn with_int(w: Val) -> Pair
@@ -142,8 +123,22 @@ fn with_pointer(x: usize, w: Val) -> Pair
     }
 }
 
-fn with_code(x: usize, p: usize, w: Val) -> Pair
-    ensures { λ out. ⌜ out ≡ pairCode x p w ⌝ }
+// Code rows with the stacks x and y, whose registers start at p and at q.
+fn if_letters(parts: &[u16], x: usize, p: usize, y: usize, q: usize) -> Pair
+    requires { ⌜ (p ≤ 65535) × (q ≤ 65535) ⌝ }
+    ensures { λ out. ⌜ out ≡ cond (sameLetters (lettersAt (now (parts .entry)) p) (lettersAt (now (parts .entry)) q)) (Codes x p y q) Differ ⌝ }
+{
+    let a = types_rows::letter_count(parts, p);
+    let b = types_rows::letter_count(parts, q);
+    if same_letters(parts, p + 9, a, q + 9, b) {
+        return Pair::Codes(x, p, y, q);
+    }
+    Pair::Differ
+}
+
+fn with_code(parts: &[u16], x: usize, p: usize, w: Val) -> Pair
+    requires { ⌜ (p ≤ 65535) × Placed w ⌝ }
+    ensures { λ out. ⌜ out ≡ pairCode (now (parts .entry)) x p w ⌝ }
 {
     match w {
         Val::Int => Pair::Differ,
@@ -152,7 +147,7 @@ fn with_code(x: usize, p: usize, w: Val) -> Pair
         Val::ValFill(_) => Pair::Differ,
         Val::Tuple(_, _) => Pair::Differ,
         Val::Pointer(_) => Pair::Differ,
-        Val::Code(y, q) => Pair::Codes(x, p, y, q),
+        Val::Code(y, q) => if_letters(parts, x, p, y, q),
         Val::Hidden(_) => Pair::Differ,
     }
 }
@@ -168,7 +163,7 @@ fn with_hidden(x: usize, w: Val) -> Pair
         Val::Tuple(_, _) => Pair::Differ,
         Val::Pointer(_) => Pair::Differ,
         Val::Code(_, _) => Pair::Differ,
-        Val::Hidden(y) => Pair::Hiddens(x, y),
+        Val::Hidden(y) => Pair::Inside(false, x, y),
     }
 }
 
@@ -190,19 +185,57 @@ fn if_long(p: usize, q: usize, n: usize, m: usize) -> Pair
     Pair::Differ
 }
 
-// What is left to compare of the forms n and w.
-pub(crate) fn pair_up(n: Val, w: Val) -> Pair
-    ensures { λ out. ⌜ out ≡ pairOf n w ⌝ }
+// A row that is filled by row a, beside row r.
+fn with_fill(rows: &[u16], a: usize, r: usize) -> Pair
+    requires { ⌜ a ≤ 65535 ⌝ }
+    ensures { λ out. ⌜ out ≡ pairFill (now (rows .entry)) a r ⌝ }
+{
+    if types_rows::is_stack(rows, a) {
+        return Pair::Differ;
+    }
+    Pair::Inside(true, a + 1, r)
+}
+
+// What is left to compare of the forms n and w, that of row r.
+pub(crate) fn pair_up(rows: &[u16], parts: &[u16], args: &[u16], n: Val, w: Val, r: usize) -> Pair
+    requires { ⌜ Placed n × Placed w ⌝ }
+    ensures { λ out. ⌜ out ≡ pairOf (tab (now (rows .entry)) (now (parts .entry))) (now (args .entry)) r n w ⌝ }
 {
     match n {
         Val::Int => with_int(w),
         Val::Junk => with_junk(w),
         Val::ValVar(k) => with_var(k, w),
-        Val::ValFill(j) => Pair::Filled(j),
+        Val::ValFill(j) => with_fill(rows, types_rows::at(args, j), r),
         Val::Tuple(p, c) => with_tuple(p, c, w),
         Val::Pointer(x) => with_pointer(x, w),
-        Val::Code(x, p) => with_code(x, p, w),
+        Val::Code(x, p) => with_code(parts, x, p, w),
         Val::Hidden(x) => with_hidden(x, w),
+    }
+}
+
+// n components from p and from q on.
+pub(crate) fn components(p: usize, q: usize, n: usize) -> Span
+    requires { ⌜ (p ≤ 65535) × (q ≤ 65535) × (n ≤ 65535) ⌝ }
+    ensures { λ out. ⌜ out ≡ spanOf false p q n ⌝ }
+{
+    Span {
+        file: false,
+        p: p as u16,
+        q: q as u16,
+        n: n as u16,
+    }
+}
+
+// The registers from p and from q on.
+pub(crate) fn registers(p: usize, q: usize) -> Span
+    requires { ⌜ (p ≤ 65535) × (q ≤ 65535) ⌝ }
+    ensures { λ out. ⌜ out ≡ spanOf true p q 8 ⌝ }
+{
+    Span {
+        file: true,
+        p: p as u16,
+        q: q as u16,
+        n: 8,
     }
 }
 

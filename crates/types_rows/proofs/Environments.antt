@@ -12,10 +12,14 @@ use borrow.Author.Tests.{eq-eqb, ne-eqb, eqb-true, eqb-false, lt-ltb, le-ltb, lt
 use Rattle.syntax.specs.Syntax.{Kind, value, stack}
 use Rattle.types.specs.Types.{Ty, int, junk, var, tuple, pointer, hidden, code, nil, push, svar, gap, join, items, variable, Act, walk, raising, raise, Use, Wf}
 use Rattle.types.proofs.Filling.{Side, lo, hi, side, below-lt, below-ge, fuse, walk-variable, walk-closed, walk-join, walk-items}
-use Rattle.types_rows.specs.declared.Val.{Val}
-use Rattle.types_rows.specs.declared.Stk.{Stk}
-use Rattle.types_rows.specs.Read.{placed, acting, lift, placeV, placeS, valueAt, stackAt}
-use Rattle.types_rows.specs.Environments.{varIn, readIn, nameAt, nameIn, shifted, Known}
+use Rattle.tables.specs.Tables.{cell}
+use Rattle.types_rows.specs.declared.Val.the-variants.{ValVar, ValFill}
+use Rattle.types_rows.specs.declared.Stk.the-variants.{StkVar, StkFill}
+use Rattle.types_rows.specs.declared.variables.Free.{Free}
+use Rattle.types_rows.specs.declared.variables.Free.the-variants.{Other, Named}
+use Rattle.types_rows.specs.Read.{placed, acting, lift, valueWith, stackWith, placeV, placeS, valueAt, stackAt}
+use Rattle.types_rows.specs.Environments.{varIn, readIn, nameAt, nameIn, shifted, freeAt, Known}
+use Rattle.types_rows.proofs.Laws.{never}
 
 -- ---- variables
 -- an even environment: the count of hidden variables then
@@ -380,10 +384,109 @@ module _ (E : List ℕ) (e : ℕ) where
   unfolding readIn
   read-items a = walk-items (acting [] (varIn E e)) 0 (acting-items (varIn E e) 0) a
 
--- ---- with no environments
-module _ (rows : List ℕ) (m by d h : ℕ) where
-  pub value-none : {v : Val} → v ≡ valueAt rows (placeV m (shifted [] 0 by) d) h → v ≡ valueAt rows (placeV m (lift by) d) h
-  value-none e = e ∙ ap (λ (f : ℕ → ℕ). valueAt rows (placeV m f d) h) (shifted-none by)
+-- ---- a row that is a variable, in an environment
+-- a variable that stays, is filled, or is free; v and w make it a form
+module _ {A : Type 0} (v w : ℕ → A) (m d k : ℕ) where
+  abbrev placing : (ℕ → ℕ) → A
+  placing ρ = cond (ltb k d) (v k) (cond (ltb (k - d) m) (w (k - d)) (v (ρ ((k - d) - m) + d)))
 
-  pub stack-none : {v : Stk} → v ≡ stackAt rows (placeS m (shifted [] 0 by) d) h → v ≡ stackAt rows (placeS m (lift by) d) h
-  stack-none e = e ∙ ap (λ (f : ℕ → ℕ). stackAt rows (placeS m f d) h) (shifted-none by)
+  placing-other : (ρ ρ₂ : ℕ → ℕ) → k < d + m → placing ρ ≡ placing ρ₂
+  placing-other ρ ρ₂ l = go (ltb k d) refl
+    where
+      go : (b : Bool) → ltb k d ≡ b → placing ρ ≡ placing ρ₂
+      go true e = rw e refl
+      go false e =
+          let q = ltb-false k d e in
+          rw (e, lt-ltb (k - d) m (omega arith)) refl
+
+  placing-free : (ρ : ℕ → ℕ) → d + m ≤ k → v (ρ (k - (d + m)) + d) ≡ placing ρ
+  placing-free ρ l =
+      let q : k - (d + m) ≡ (k - d) - m = omega arith in
+      rw (le-ltb k d (omega arith), le-ltb (k - d) m (omega arith), q) refl
+
+module _ (rows : List ℕ) (m d : ℕ) where
+  free-value : (ρ : ℕ → ℕ) (h x : ℕ) → freeAt rows ρ 2 m d h ≡ Named x → ValVar x ≡ valueAt rows (placeV m ρ d) h
+  unfolding freeAt valueWith
+  free-value ρ zero x e = never cc
+  free-value ρ (suc r) x e = go (eqb (cell 4 rows r 0) 2) refl (ltb (cell 4 rows r 1) (d + m)) refl e
+    where
+      go : (a : Bool) → eqb (cell 4 rows r 0) 2 ≡ a → (b : Bool) → ltb (cell 4 rows r 1) (d + m) ≡ b
+          → cond a (cond b Other (Named (ρ (cell 4 rows r 1 - (d + m)) + d))) Other ≡ Named x → ValVar x ≡ valueAt rows (placeV m ρ d) (suc r)
+      go true p false q f =
+          let z : ρ (cell 4 rows r 1 - (d + m)) + d ≡ x = cc in
+          rw (← z, eqb-true (cell 4 rows r 0) 2 p) (placing-free ValVar ValFill m d (cell 4 rows r 1) ρ (ltb-false (cell 4 rows r 1) (d + m) q))
+      go true p true q f = never cc
+      go false p b q f = never cc
+
+  other-value : (ρ ρ₂ : ℕ → ℕ) (h : ℕ) → freeAt rows ρ₂ 2 m d h ≡ Other → valueAt rows (placeV m ρ d) h ≡ valueAt rows (placeV m ρ₂ d) h
+  unfolding freeAt valueWith
+  other-value ρ ρ₂ zero e = refl
+  other-value ρ ρ₂ (suc r) e = go (eqb (cell 4 rows r 0) 2) refl (ltb (cell 4 rows r 1) (d + m)) refl e
+    where
+      go : (a : Bool) → eqb (cell 4 rows r 0) 2 ≡ a → (b : Bool) → ltb (cell 4 rows r 1) (d + m) ≡ b
+          → cond a (cond b Other (Named (ρ₂ (cell 4 rows r 1 - (d + m)) + d))) Other ≡ Other → valueAt rows (placeV m ρ d) (suc r) ≡ valueAt rows (placeV m ρ₂ d) (suc r)
+      go true p true q f = rw (eqb-true (cell 4 rows r 0) 2 p) (placing-other ValVar ValFill m d (cell 4 rows r 1) ρ ρ₂ (ltb-true (cell 4 rows r 1) (d + m) q))
+      go true p false q f = never cc
+      go false p b q f = rw p refl
+
+  free-stack : (ρ : ℕ → ℕ) (h x : ℕ) → freeAt rows ρ 8 m d h ≡ Named x → StkVar x ≡ stackAt rows (placeS m ρ d) h
+  unfolding freeAt stackWith
+  free-stack ρ zero x e = never cc
+  free-stack ρ (suc r) x e = go (eqb (cell 4 rows r 0) 8) refl (ltb (cell 4 rows r 1) (d + m)) refl e
+    where
+      go : (a : Bool) → eqb (cell 4 rows r 0) 8 ≡ a → (b : Bool) → ltb (cell 4 rows r 1) (d + m) ≡ b
+          → cond a (cond b Other (Named (ρ (cell 4 rows r 1 - (d + m)) + d))) Other ≡ Named x → StkVar x ≡ stackAt rows (placeS m ρ d) (suc r)
+      go true p false q f =
+          let z : ρ (cell 4 rows r 1 - (d + m)) + d ≡ x = cc in
+          rw (← z, eqb-true (cell 4 rows r 0) 8 p) (placing-free StkVar StkFill m d (cell 4 rows r 1) ρ (ltb-false (cell 4 rows r 1) (d + m) q))
+      go true p true q f = never cc
+      go false p b q f = never cc
+
+  other-stack : (ρ ρ₂ : ℕ → ℕ) (h : ℕ) → freeAt rows ρ₂ 8 m d h ≡ Other → stackAt rows (placeS m ρ d) h ≡ stackAt rows (placeS m ρ₂ d) h
+  unfolding freeAt stackWith
+  other-stack ρ ρ₂ zero e = refl
+  other-stack ρ ρ₂ (suc r) e = go (eqb (cell 4 rows r 0) 8) refl (ltb (cell 4 rows r 1) (d + m)) refl e
+    where
+      go : (a : Bool) → eqb (cell 4 rows r 0) 8 ≡ a → (b : Bool) → ltb (cell 4 rows r 1) (d + m) ≡ b
+          → cond a (cond b Other (Named (ρ₂ (cell 4 rows r 1 - (d + m)) + d))) Other ≡ Other → stackAt rows (placeS m ρ d) (suc r) ≡ stackAt rows (placeS m ρ₂ d) (suc r)
+      go true p true q f = rw (eqb-true (cell 4 rows r 0) 8 p) (placing-other StkVar StkFill m d (cell 4 rows r 1) ρ ρ₂ (ltb-true (cell 4 rows r 1) (d + m) q))
+      go true p false q f = never cc
+      go false p b q f = rw p refl
+
+  -- as the code finds it
+  module _ (ρ : ℕ → ℕ) (h : ℕ) {o : Free} where
+    pub value-free : {x : ℕ} → o ≡ freeAt rows ρ 2 m d h → o ≡ Named x → ValVar x ≡ valueAt rows (placeV m ρ d) h
+    value-free {x} e f = free-value ρ h x (sym e ∙ f)
+
+    pub value-other : (ρ₂ : ℕ → ℕ) → o ≡ freeAt rows ρ 2 m d h → o ≡ Other → valueAt rows (placeV m ρ₂ d) h ≡ valueAt rows (placeV m ρ d) h
+    value-other ρ₂ e f = other-value ρ₂ ρ h (sym e ∙ f)
+
+    pub stack-free : {x : ℕ} → o ≡ freeAt rows ρ 8 m d h → o ≡ Named x → StkVar x ≡ stackAt rows (placeS m ρ d) h
+    stack-free {x} e f = free-stack ρ h x (sym e ∙ f)
+
+    pub stack-other : (ρ₂ : ℕ → ℕ) → o ≡ freeAt rows ρ 8 m d h → o ≡ Other → stackAt rows (placeS m ρ₂ d) h ≡ stackAt rows (placeS m ρ d) h
+    stack-other ρ₂ e f = other-stack ρ₂ ρ h (sym e ∙ f)
+
+-- what it finds
+module _ (rows : List ℕ) (ρ : ℕ → ℕ) (κ m d h : ℕ) where
+  pub free-none : h ≡ 0 → Other ≡ freeAt rows ρ κ m d h
+  unfolding freeAt
+  free-none z = rw z refl
+
+  free-at : 0 < h → freeAt rows ρ κ m d h ≡ cond (eqb (cell 4 rows (h - 1) 0) κ) (cond (ltb (cell 4 rows (h - 1) 1) (d + m)) Other (Named (ρ (cell 4 rows (h - 1) 1 - (d + m)) + d))) Other
+  unfolding freeAt
+  free-at p = go h p
+    where
+      go : (h : ℕ) → 0 < h → freeAt rows ρ κ m d h ≡ cond (eqb (cell 4 rows (h - 1) 0) κ) (cond (ltb (cell 4 rows (h - 1) 1) (d + m)) Other (Named (ρ (cell 4 rows (h - 1) 1 - (d + m)) + d))) Other
+      go zero p = absurd (not-suc-le-zero p)
+      go (suc r) p = let q : suc r - 1 ≡ r = omega arith in rw q refl
+
+  pub free-not : {k : ℕ} → 0 < h → k ≡ cell 4 rows (h - 1) 0 → (k ≡ κ → ⊥) → Other ≡ freeAt rows ρ κ m d h
+  free-not p e n = rw (free-at p, ne-eqb (cell 4 rows (h - 1) 0) κ (λ z. n (e ∙ z))) refl
+
+  module _ {k a : ℕ} (p : 0 < h) (e : k ≡ cell 4 rows (h - 1) 0) (f : a ≡ cell 4 rows (h - 1) 1) (g : k ≡ κ) where
+    pub free-low : a < d + m → Other ≡ freeAt rows ρ κ m d h
+    free-low l = rw (free-at p, eq-eqb (cell 4 rows (h - 1) 0) κ (sym e ∙ g), lt-ltb (cell 4 rows (h - 1) 1) (d + m) (omega arith)) refl
+
+    pub free-named : {x : ℕ} → d + m ≤ a → x ≡ ρ (a - (d + m)) + d → Named x ≡ freeAt rows ρ κ m d h
+    free-named l z = rw (free-at p, eq-eqb (cell 4 rows (h - 1) 0) κ (sym e ∙ g), le-ltb (cell 4 rows (h - 1) 1) (d + m) (omega arith), z, f) refl

@@ -9,7 +9,9 @@ use lib.ListN.{length, getD}
 use Rattle.syntax.specs.Syntax.{Kind}
 use Rattle.types.specs.Types.{Ty, walk}
 use Rattle.types_rows.specs.Read.{acting}
-use Rattle.types_rows.specs.declared.Setting.{Setting}
+use Rattle.tables.specs.Tables.{cell}
+use Rattle.types_rows.specs.declared.variables.Free.{Free}
+use Rattle.types_rows.specs.declared.variables.Free.the-variants.{Other, Named}
 
 -- which variable now variable j of environment e is, E being the environments of the packages opened so far
 unfoldable pub varIn : List ℕ → ℕ → ℕ → ℕ
@@ -36,8 +38,12 @@ shifted E e by j = nameIn E e j + by
 pub record Known (E : List ℕ) : Type 0 where
   pub exist : (i : ℕ) → i < length E → getD E i 0 ≤ 2 * i
 
--- few environments, a small one, and a small sum: what a reader asks of the setting c
-pub record SettingIn (E : List ℕ) (c : Setting) : Type 0 where
+-- few environments, and a small number of one
+pub record EnvironmentIn (E : List ℕ) (e : ℕ) : Type 0 where
   pub few : length E ≤ 65535
-  pub small : c .env ≤ 131072
-  pub sum : c .by + c .d ≤ 1099511627776
+  pub small : e ≤ 131072
+
+-- row h, if it is a variable of kind κ (2 a value, 8 a stack) past d binders and m arguments: which variable stands for it
+unfoldable pub freeAt : List ℕ → (ℕ → ℕ) → ℕ → ℕ → ℕ → ℕ → Free
+freeAt rows ρ κ m d zero = Other
+freeAt rows ρ κ m d (suc r) = cond (eqb (cell 4 rows r 0) κ) (cond (ltb (cell 4 rows r 1) (d + m)) Other (Named (ρ (cell 4 rows r 1 - (d + m)) + d))) Other

@@ -1,21 +1,22 @@
 // Type rows read from the decoded tables (crate tables): a row's form, its parts and letters, and the items of a stack row by position.
 // Sizes are taken in modules size and measure, items counted in item_counts. A row is named by a link: one more than its number, or 0 for
 // no row. What a row names that is not a lower row is no row, and no row reads as junk, or as a stack of no items. So every read is total,
-// and links fall from a row to what it names. A row is read in a setting: past d binders of its own the first m variables are filled by
-// arguments; later ones come down by m, are variables of an environment (module variables), and go up by `by`. What a row means is
-// defined in specs/Read.antt; proofs/Bridge.antt: that is the type that document 01 gives it.
+// and links fall from a row to what it names. Past d binders of its own a row's first m variables may be filled by arguments; later ones
+// come down by m, may be variables of an environment (module variables), and go up by `by`. What a row means is defined in
+// specs/Read.antt; proofs/Bridge.antt: that is the type that document 01 gives it.
 pub mod item_counts;
 pub mod measure;
 pub mod size;
 pub mod variables;
 
+use crate::variables::Free;
 ghost use mathlib.Core.Path.{_≡_};
-ghost use Prim.Native.Nat.{ℕ, _+_, _-_, _*_, _≤_, _<_};
+ghost use Prim.Native.Nat.{_+_, _-_, _*_, _≤_, _<_};
 ghost use mathlib.Core.List.{[]};
 ghost use lib.ListN.{length, getD};
 ghost use Rattle.tables.specs.Tables.{cell};
 ghost use Rattle.types_rows.specs.Read.{tab, lower, valueWith, stackWith, valueAt, stackAt, placeV, placeS, OkV, OkS, slotAt, OkSlot, itemsAt, CountedTo, isStackAt, ItemOf, lift, stackUnder, downOf, Narrowed, headOf};
-ghost use Rattle.types_rows.specs.Environments.{varIn, shifted, SettingIn};
+ghost use Rattle.types_rows.specs.Environments.{varIn, shifted, EnvironmentIn};
 ghost use Rattle.types_rows.specs.declared.Stk.the-variants.{StkVar};
 
 // A value row; a row of another sort is junk. A variable is placed: it stays one, or it is filled by argument j.
@@ -63,15 +64,6 @@ pub struct Place {
 // A row, and the environment that it was read in.
 pub struct Held {
     pub row: usize,
-    pub env: usize,
-}
-
-// What a row is read in: past d binders of its own the first m variables are filled by arguments; a later one is a variable of the
-// environment env (or of a table of names, see module variables), raised by `by`.
-pub struct Setting {
-    pub m: usize,
-    pub by: usize,
-    pub d: usize,
     pub env: usize,
 }
 
@@ -136,42 +128,42 @@ pub fn is_stack(rows: &[u16], r: usize) -> bool
     k >= 7
 }
 
-fn place_value(envs: &[u16], k: usize, c: Setting) -> Val
-    requires { ⌜ (k ≤ 65535) × SettingIn (now envs) c ⌝ }
-    ensures { λ out. ⌜ (out ≡ placeV (c .m) (shifted (now (envs .entry)) (c .env) (c .by)) (c .d) k) × OkV (c .m) 0 out ⌝ }
+fn place_value(k: usize, m: usize, by: usize, d: usize) -> Val
+    requires { ⌜ (k ≤ 65535) × (by + d ≤ 1099511627776) ⌝ }
+    ensures { λ out. ⌜ (out ≡ placeV m (lift by) d k) × OkV m 0 out ⌝ }
 {
-    if k < c.d {
+    if k < d {
         return Val::ValVar(k);
     }
-    if k - c.d < c.m {
-        return Val::ValFill(k - c.d);
+    if k - d < m {
+        return Val::ValFill(k - d);
     }
-    Val::ValVar(crate::variables::name(envs, c.env, k - c.d - c.m) + c.by + c.d)
+    Val::ValVar(k - d - m + by + d)
 }
 
-fn place_stack(envs: &[u16], k: usize, c: Setting) -> Stk
-    requires { ⌜ (k ≤ 65535) × SettingIn (now envs) c ⌝ }
-    ensures { λ out. ⌜ (out ≡ placeS (c .m) (shifted (now (envs .entry)) (c .env) (c .by)) (c .d) k) × OkS (c .m) 0 out ⌝ }
+fn place_stack(k: usize, m: usize, by: usize, d: usize) -> Stk
+    requires { ⌜ (k ≤ 65535) × (by + d ≤ 1099511627776) ⌝ }
+    ensures { λ out. ⌜ (out ≡ placeS m (lift by) d k) × OkS m 0 out ⌝ }
 {
-    if k < c.d {
+    if k < d {
         return Stk::StkVar(k);
     }
-    if k - c.d < c.m {
-        return Stk::StkFill(k - c.d);
+    if k - d < m {
+        return Stk::StkFill(k - d);
     }
-    Stk::StkVar(crate::variables::name(envs, c.env, k - c.d - c.m) + c.by + c.d)
+    Stk::StkVar(k - d - m + by + d)
 }
 
 // A row of kind k with the numbers a and b.
-fn value_form(envs: &[u16], c: Setting, h: usize, k: usize, a: usize, b: usize) -> Val
-    requires { ⌜ (0 < h) × (a ≤ 65535) × (b ≤ 65535) × SettingIn (now envs) c ⌝ }
-    ensures { λ out. ⌜ (out ≡ valueWith (placeV (c .m) (shifted (now (envs .entry)) (c .env) (c .by)) (c .d)) h k a b) × OkV (c .m) h out ⌝ }
+fn value_form(h: usize, k: usize, a: usize, b: usize, m: usize, by: usize, d: usize) -> Val
+    requires { ⌜ (0 < h) × (a ≤ 65535) × (b ≤ 65535) × (by + d ≤ 1099511627776) ⌝ }
+    ensures { λ out. ⌜ (out ≡ valueWith (placeV m (lift by) d) h k a b) × OkV m h out ⌝ }
 {
     if k == 0 {
         return Val::Int;
     }
     if k == 2 {
-        return place_value(envs, a, c);
+        return place_value(a, m, by, d);
     }
     if k == 3 {
         return Val::Tuple(a, b);
@@ -188,15 +180,15 @@ fn value_form(envs: &[u16], c: Setting, h: usize, k: usize, a: usize, b: usize) 
     Val::Junk
 }
 
-fn stack_form(envs: &[u16], c: Setting, h: usize, k: usize, a: usize, b: usize) -> Stk
-    requires { ⌜ (0 < h) × (a ≤ 65535) × (b ≤ 65535) × SettingIn (now envs) c ⌝ }
-    ensures { λ out. ⌜ (out ≡ stackWith (placeS (c .m) (shifted (now (envs .entry)) (c .env) (c .by)) (c .d)) h k a b) × OkS (c .m) h out ⌝ }
+fn stack_form(h: usize, k: usize, a: usize, b: usize, m: usize, by: usize, d: usize) -> Stk
+    requires { ⌜ (0 < h) × (a ≤ 65535) × (b ≤ 65535) × (by + d ≤ 1099511627776) ⌝ }
+    ensures { λ out. ⌜ (out ≡ stackWith (placeS m (lift by) d) h k a b) × OkS m h out ⌝ }
 {
     if k < 8 {
         return Stk::Nil;
     }
     if k == 8 {
-        return place_stack(envs, a, c);
+        return place_stack(a, m, by, d);
     }
     if k == 9 {
         return Stk::Push(link(h, a), link(h, b));
@@ -204,60 +196,68 @@ fn stack_form(envs: &[u16], c: Setting, h: usize, k: usize, a: usize, b: usize) 
     Stk::Join(link(h, a), link(h, b))
 }
 
-// Row h as a value, in its setting.
-pub fn value_in(rows: &[u16], envs: &[u16], c: Setting, h: usize) -> Val
-    requires { ⌜ (h ≤ 65536) × SettingIn (now envs) c ⌝ }
-    ensures { λ out. ⌜ (out ≡ valueAt (now (rows .entry)) (placeV (c .m) (shifted (now (envs .entry)) (c .env) (c .by)) (c .d)) h) × OkV (c .m) h out ⌝ }
+// Row h as a value: past d binders of its own the first m variables are filled by arguments, later ones come down by m and go up by `by`.
+pub fn read_value(rows: &[u16], h: usize, m: usize, by: usize, d: usize) -> Val
+    requires { ⌜ (h ≤ 65536) × (by + d ≤ 1099511627776) ⌝ }
+    ensures { λ out. ⌜ (out ≡ valueAt (now (rows .entry)) (placeV m (lift by) d) h) × OkV m h out ⌝ }
 {
     if h == 0 {
         return Val::Junk;
     }
     let r = h - 1;
     value_form(
-        envs,
-        c,
         h,
         entry(rows, r, 0),
         entry(rows, r, 1),
         entry(rows, r, 2),
+        m,
+        by,
+        d,
     )
 }
 
-// Row h as a stack, in its setting.
-pub fn stack_in(rows: &[u16], envs: &[u16], c: Setting, h: usize) -> Stk
-    requires { ⌜ (h ≤ 65536) × SettingIn (now envs) c ⌝ }
-    ensures { λ out. ⌜ (out ≡ stackAt (now (rows .entry)) (placeS (c .m) (shifted (now (envs .entry)) (c .env) (c .by)) (c .d)) h) × OkS (c .m) h out ⌝ }
+// The same of a stack.
+pub fn read_stack(rows: &[u16], h: usize, m: usize, by: usize, d: usize) -> Stk
+    requires { ⌜ (h ≤ 65536) × (by + d ≤ 1099511627776) ⌝ }
+    ensures { λ out. ⌜ (out ≡ stackAt (now (rows .entry)) (placeS m (lift by) d) h) × OkS m h out ⌝ }
 {
     if h == 0 {
         return Stk::Nil;
     }
     let r = h - 1;
     stack_form(
-        envs,
-        c,
         h,
         entry(rows, r, 0),
         entry(rows, r, 1),
         entry(rows, r, 2),
+        m,
+        by,
+        d,
     )
 }
 
-// Row h as a value, with no environments.
-pub fn read_value(rows: &[u16], h: usize, m: usize, by: usize, d: usize) -> Val
-    requires { ⌜ (h ≤ 65536) × (by + d ≤ 1099511627776) ⌝ }
-    ensures { λ out. ⌜ (out ≡ valueAt (now (rows .entry)) (placeV m (lift by) d) h) × OkV m h out ⌝ }
+// Row h as a value, as read_value, but a variable that is free and not filled is a variable of environment e, raised by `by`.
+pub fn value_in(rows: &[u16], envs: &[u16], h: usize, m: u32, by: u32, d: u32, e: u32) -> Val
+    requires { ⌜ (h ≤ 65536) × EnvironmentIn (now envs) e ⌝ }
+    ensures { λ out. ⌜ (out ≡ valueAt (now (rows .entry)) (placeV m (shifted (now (envs .entry)) e by) d) h) × OkV m h out ⌝ }
 {
-    let c = Setting { m, by, d, env: 0 };
-    value_in(rows, &rows[..0], c, h)
+    let v = crate::variables::free_variable(rows, envs, 2, h, m, by, d, e);
+    match v {
+        Free::Other => read_value(rows, h, m as usize, by as usize, d as usize),
+        Free::Named(x) => Val::ValVar(x),
+    }
 }
 
-// Row h as a stack, with no environments.
-pub fn read_stack(rows: &[u16], h: usize, m: usize, by: usize, d: usize) -> Stk
-    requires { ⌜ (h ≤ 65536) × (by + d ≤ 1099511627776) ⌝ }
-    ensures { λ out. ⌜ (out ≡ stackAt (now (rows .entry)) (placeS m (lift by) d) h) × OkS m h out ⌝ }
+// The same of a stack.
+pub fn stack_in(rows: &[u16], envs: &[u16], h: usize, m: u32, by: u32, d: u32, e: u32) -> Stk
+    requires { ⌜ (h ≤ 65536) × EnvironmentIn (now envs) e ⌝ }
+    ensures { λ out. ⌜ (out ≡ stackAt (now (rows .entry)) (placeS m (shifted (now (envs .entry)) e by) d) h) × OkS m h out ⌝ }
 {
-    let c = Setting { m, by, d, env: 0 };
-    stack_in(rows, &rows[..0], c, h)
+    let v = crate::variables::free_variable(rows, envs, 8, h, m, by, d, e);
+    match v {
+        Free::Other => read_stack(rows, h, m as usize, by as usize, d as usize),
+        Free::Named(x) => Stk::StkVar(x),
+    }
 }
 
 // Part p of row h: a register if `file`, else a component.
@@ -368,13 +368,7 @@ pub fn item_in(rows: &[u16], parts: &[u16], envs: &[u16], e: usize, h: usize, j:
     let x = w.row;
     let i = w.at;
     if i == 0 {
-        let c = Setting {
-            m: 0,
-            by: 0,
-            d: 0,
-            env: e,
-        };
-        return head(stack_in(rows, envs, c, x));
+        return head(stack_in(rows, envs, x, 0, 0, 0, e as u32));
     }
     Item::NoItem
 }

@@ -1,11 +1,18 @@
 // Environments: which variable now stands for a variable of a row that was read before some unpacks (specs/Environments.antt says what an
 // environment is). A walk through environments may be long; a table of names is written once, and then looked up.
-// Promised: `varIn`, and `nameIn`, which knows tables. Asked: that environments and variables are small.
+// Promised: `varIn`, `nameIn`, which knows tables, and for a row that is a free variable `freeAt`. Asked: that environments and variables
+// are small.
 ghost use mathlib.Core.Path.{_≡_};
 ghost use mathlib.Core.Bool.{true};
 ghost use Prim.Native.Nat.{ℕ, _+_, _≤_, _<_};
 ghost use lib.ListN.{length, getD};
-ghost use Rattle.types_rows.specs.Environments.{varIn, nameAt, nameIn};
+ghost use Rattle.types_rows.specs.Environments.{varIn, nameAt, nameIn, shifted, freeAt, EnvironmentIn};
+
+// The variable that stands for a free variable; another row.
+pub enum Free {
+    Other,
+    Named(usize),
+}
 
 // Variable j of environment e, as it counts now; an even environment needs no look at the others.
 pub fn variable(envs: &[u16], e: usize, j: usize) -> usize
@@ -47,6 +54,34 @@ pub fn name(envs: &[u16], e: usize, j: usize) -> usize
         return variable(envs, e, j);
     }
     listed(envs, e / 2 - 32768, j)
+}
+
+// Row h, if it is a variable of the given kind that is free and not filled: which variable stands for it.
+pub(crate) fn free_variable(
+    rows: &[u16],
+    envs: &[u16],
+    kind: usize,
+    h: usize,
+    m: u32,
+    by: u32,
+    d: u32,
+    e: u32,
+) -> Free
+    requires { ⌜ (h ≤ 65536) × EnvironmentIn (now envs) e ⌝ }
+    ensures { λ out. ⌜ out ≡ freeAt (now (rows .entry)) (shifted (now (envs .entry)) e by) kind m d h ⌝ }
+{
+    if h == 0 {
+        return Free::Other;
+    }
+    if crate::entry(rows, h - 1, 0) != kind {
+        return Free::Other;
+    }
+    let k = crate::entry(rows, h - 1, 1);
+    let n = d as usize + m as usize;
+    if k < n {
+        return Free::Other;
+    }
+    Free::Named(name(envs, e as usize, k - n) + by as usize + d as usize)
 }
 
 // Writes the table of the names of environment e from entry f on, and says whether it is one: it isn't where the walk through environments

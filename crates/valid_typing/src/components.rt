@@ -1,6 +1,7 @@
 // Pass three's look at the components that `malloc` takes: the types of a list of operands, and whether a row is the tuple of them.
 // Promised: the least fault of the list as crate valid defines it (`operands`), 0 if there is none, and then the rows of its types, each
-// with its environment; and the test `same` of crate types against the tuple. Asked: the tables of module prepare of load, and operands with at most eight arguments.
+// with its environment; and the test `same` of crate types against the tuple. Asked: the tables of module prepare of load, and operands
+// with at most eight arguments.
 use crate::Listed;
 use image::Counts;
 use image::Places;

@@ -2,11 +2,11 @@
 // of a package's inside and of a pointer's stack, whether a stack is a tail of sp, its items, and the rows that an instruction gives. Rows
 // are read from the tables (crate types_rows), registers and sp from the checker's arrays (crate valid_context); two more rows, `I` and
 // `N`, stand behind the program's own, so that each type that the checker holds is the type of a row in an environment, whose variables
-// count as `envs` says (specs/Environments.antt of types_rows); what an instruction gives is read in the last one. Promised of each: its premise's least fault, 0 if it holds,
-// and what the premise gives, as an equation with the definition. Above these stand operands (modules bases, operands), the components of a
-// tuple (components, plain_components) and targets (target). A function that reads more tables than the rows' is lent the image that they
-// are sections of (crate image), and reads the rows as the checker shares them. One that compares rows is lent `pending`, where crate
-// types_equal keeps what is still to be compared.
+// count as `envs` says (specs/Environments.antt of types_rows); what an instruction gives is read in the last one. Promised of each: its
+// premise's least fault, 0 if it holds, and what the premise gives, as an equation with the definition. Above these stand operands (modules
+// bases, operands), the components of a tuple (components, plain_components) and targets (target). A function that reads more tables than
+// the rows' is lent the image that they are sections of (crate image), and reads the rows as the checker shares them. One that compares
+// rows is lent `pending`, where crate types_equal keeps what is still to be compared.
 pub mod bases;
 pub mod components;
 pub mod operands;
@@ -26,7 +26,7 @@ ghost use mathlib.Core.List.{List, [], _∷_, _++_, map, reverse};
 ghost use lib.ListN.{length, getD, take};
 ghost use Rattle.syntax.specs.Partial.{guarded};
 ghost use Rattle.syntax.specs.Syntax.{Kind, value, stack};
-ghost use Rattle.types.specs.Types.{junk, nil, svar, Arg, arg, kindOf, items};
+ghost use Rattle.types.specs.Types.{junk, nil, svar, arg, kindOf, items};
 ghost use Rattle.types.specs.Rows.{typeAt, typesOf, allBelow};
 ghost use Rattle.valid.specs.Program.{Program, asCode};
 ghost use Rattle.types.specs.Equal.{same};

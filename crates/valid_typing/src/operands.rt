@@ -1,7 +1,7 @@
 // Pass three's look at operands: the type of an operand, with its type arguments filled in, or packed.
 // Types are given as rows: rows n and n + 1 are made I and N, so that every type the checker holds is the type of one of n + 2 rows.
-// Promised: the least fault of the premise as crate valid defines it (`operand`), 0 if it holds, and then a row that has the type it
-// gives, in its environment: a resulting row is read now. Asked: the tables of module prepare of load, and operands with at most eight arguments.
+// Promised: the least fault of the premise as crate valid defines it (`operand`), 0 if it holds, and then a row that has the type it gives,
+// in its environment: a resulting row is read now. Asked: the tables of module prepare of load, and operands with at most eight arguments.
 use crate::Typed;
 use image::Counts;
 use image::Places;
@@ -147,6 +147,16 @@ fn stack_fault(stack: bool) -> usize
     0
 }
 
+// Fault 10 of a package, unless its argument fills the inside of the resulting row to the base's type.
+fn filling_fault(fits: bool) -> usize
+    ensures { λ out. ⌜ out ≡ cond fits 0 10 ⌝ }
+{
+    if fits {
+        return 0;
+    }
+    10
+}
+
 // The least fault of a base that is packed with its argument's row as what the resulting row hides; that row is formed.
 fn pack_fault(
     image: &[u16],
@@ -181,10 +191,7 @@ fn pack_fault(
         env: b.env,
     };
     let t = crate::given_row(n, a);
-    if types_equal::filling::packs(rows, parts, envs, n + 2, x, t, i.row, pending) {
-        return 0;
-    }
-    10
+    filling_fault(types_equal::filling::packs(rows, parts, envs, n + 2, x, t, i.row, pending))
 }
 
 // The least fault of a package, under the letters w: no other is less than 7.

@@ -1,6 +1,7 @@
 // The components that `malloc` takes where they are seen at once to make the tuple of its row, as those of most texts are: operands with no
-// arguments, each of the very row of its component in the same environment, or both the integer type. Promised: where the answer is yes, the operands have types,
-// and the row is the tuple of them (`Makes`); no is no answer, and module components is asked. Asked: the tables of module prepare of load.
+// arguments, each of the very row of its component in the same environment, or both the integer type. Promised: where the answer is yes,
+// the operands have types, and the row is the tuple of them (`Makes`); no is no answer, and module components is asked. Asked: the tables
+// of module prepare of load.
 use crate::Listed;
 use image::Counts;
 use image::Places;

@@ -15,7 +15,8 @@ use Rattle.types.proofs.Equal.{same-refl}
 use Rattle.types_rows.specs.Environments.{shifted}
 use Rattle.types_rows.proofs.Environments.{shifted-now}
 use Rattle.types_equal.specs.declared.stack_pairs.Context.{Context}
-use Rattle.types_equal.specs.stack_pairs.Fit.{AtSame, GivenIn, fitValues, sameStacks, fitPending, DuoIs}
+use Rattle.types_equal.specs.Bounds.{givenOf}
+use Rattle.types_equal.specs.stack_pairs.Fit.{AtSame, fitValues, sameStacks, fitPending, DuoIs}
 use Rattle.tables.specs.Tables.{RowTable}
 use Rattle.types_rows.specs.declared.Stk.{Stk}
 use Rattle.types_rows.specs.declared.Stk.the-variants.{StkFill}
@@ -30,15 +31,15 @@ use Rattle.types_equal.specs.declared.stack_pairs.Duo.the-variants.{Unli
 use Rattle.types_equal.specs.stack_pairs.Items.{duoOf}
 
 -- ---- the same place
-pub at-same : (k : Context) (l r : ℕ) → l ≡ r → k .m ≡ 0 → k .env ≡ k .env2 → k .by ≡ k .by2 → eqb (k .d) (k .d2) ≡ true → AtSame k l r
+pub at-same : (k : Context) (l r : ℕ) → l ≡ r → k .m ≡ 0 → k .env ≡ k .env2 → k .by ≡ 0 → eqb (k .d) (k .d2) ≡ true → AtSame k l r
 at-same k l r e f g i h = record { row = e; no-args = f; place = g; raised = i; depth = eqb-true (k .d) (k .d2) h }
 
 -- ---- the same row in the same context, E being the environments
-pub s-place : (τ : RowTable) (args E : List ℕ) (k : Context) (l r : ℕ) {b : Bool} → (b ≡ true → AtSame k l r) → b ≡ true → true ≡ sameStacks τ (argsOf τ args (k .m)) (shifted E (k .env) (k .by)) (k .d) l (shifted E (k .env2) (k .by2)) (k .d2) r
+pub s-place : (τ : RowTable) (args E : List ℕ) (k : Context) (l r : ℕ) {b : Bool} → (b ≡ true → AtSame k l r) → b ≡ true → true ≡ sameStacks τ (argsOf τ args (k .m)) (shifted E (k .env) (k .by)) (k .d) l (shifted E (k .env2) 0) (k .d2) r
 unfolding sameStacks
 s-place τ args E k l r f t =
     let s = f t in
-    rw (no-args τ args (k .m) (s .no-args), s .row, s .place, s .raised, s .depth, meets-none (k .d2) (meanS τ r), same-refl (stackUnder τ [] (shifted E (k .env2) (k .by2)) (k .d2) r)) refl
+    rw (no-args τ args (k .m) (s .no-args), s .row, s .place, s .raised, s .depth, meets-none (k .d2) (meanS τ r), same-refl (stackUnder τ [] (shifted E (k .env2) 0) (k .d2) r)) refl
 
 -- a variable that argument j fills, against the argument's own row, which is read now
 pub s-given : (τ : RowTable) (args : List ℕ) (m : ℕ) (ρ : ℕ → ℕ) (d l : ℕ) (ρ₂ : ℕ → ℕ) (d₂ r j a : ℕ) {n : Stk} {b : Bool} → n ≡ stackAt (τ .rows) (placeS m ρ d) l → OkS m l n → n ≡ StkFill j → a ≡ getD args j 0 → b ≡ isStackAt (τ .rows) a → b ≡ true
@@ -53,13 +54,12 @@ s-given τ args m ρ d l ρ₂ d₂ r j a e k g i p q z x c =
 
 -- the same, from the code's answer
 pub s-filled : (τ : RowTable) (args E : List ℕ) (k g : Context) (l r j a : ℕ) {n : Stk} {b o : Bool} → n ≡ stackAt (τ .rows) (placeS (k .m) (shifted E (k .env) (k .by)) (k .d)) l → OkS (k .m) l n → n ≡ StkFill j → a ≡ getD args j 0 → b ≡ isStackAt (τ .rows) a → b ≡ true
-    → GivenIn E k g → (o ≡ true → AtSame g (a + 1) r) → o ≡ true → true ≡ sameStacks τ (argsOf τ args (k .m)) (shifted E (k .env) (k .by)) (k .d) l (shifted E (k .env2) (k .by2)) (k .d2) r
+    → g ≡ givenOf E k → (o ≡ true → AtSame g (a + 1) r) → o ≡ true → true ≡ sameStacks τ (argsOf τ args (k .m)) (shifted E (k .env) (k .by)) (k .d) l (shifted E (k .env2) 0) (k .d2) r
 s-filled τ args E k g l r j a e ok q i p t w f u =
-    let s = f u in
+    let s : AtSame (givenOf E k) (a + 1) r = rw w at (f u) in
     let z : suc a ≡ r = let v = s .row in omega arith in
-    let x : lift (k .d) ≡ shifted E (k .env2) (k .by2) = sym (shifted-now E (k .d)) ∙ ap₂ (shifted E) (sym (w .env) ∙ s .place ∙ w .env2) (sym (w .by) ∙ s .raised ∙ w .by2) in
-    let c : 0 ≡ k .d2 = sym (w .d) ∙ s .depth ∙ w .d2 in
-    s-given τ args (k .m) (shifted E (k .env) (k .by)) (k .d) l (shifted E (k .env2) (k .by2)) (k .d2) r j a e ok q i p t z x c
+    let x : lift (k .d) ≡ shifted E (k .env2) 0 = sym (shifted-now E (k .d)) ∙ ap₂ (shifted E) (s .place) (s .raised) in
+    s-given τ args (k .m) (shifted E (k .env) (k .by)) (k .d) l (shifted E (k .env2) 0) (k .d2) r j a e ok q i p t z x (s .depth)
 
 -- ---- the next items
 module _ (τ : RowTable) (A : List Arg) (m : ℕ) (ρ : ℕ → ℕ) (d : ℕ) (ρ₂ : ℕ → ℕ) (d₂ : ℕ) (ls : List ℕ) (i : ℕ) (rs : List ℕ) (j : ℕ) (ls₂ rs₂ : List ℕ) where

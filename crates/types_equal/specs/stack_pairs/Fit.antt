@@ -1,13 +1,12 @@
 -- What the comparisons promise: the two types are equal, and no argument of the wrong kind fills a variable of the left one.
-use Prim.Native.Nat.{ℕ, _+_, _*_, _≤_, _<_}
+use Prim.Native.Nat.{ℕ, _+_, _≤_, _<_}
 use mathlib.Core.Path.{_≡_}
 use mathlib.Core.Bool.{Bool, true, false, _&&_}
 use mathlib.Core.List.{List, []}
-use lib.ListN.{length}
 use Rattle.types.specs.Types.{Arg, meets}
 use Rattle.types.specs.Equal.{same}
 use Rattle.tables.specs.Tables.{RowTable}
-use Rattle.types_rows.specs.Read.{partsOf, meanV, meanS, lift, valueUnder, stackUnder, partsUnder, codeOf, codeUnder}
+use Rattle.types_rows.specs.Read.{partsOf, meanV, meanS, lift, valueUnder, stackUnder, partsUnder}
 use Rattle.types_equal.specs.pending.Pending.{pendingType, pendingMeets, Pends, Rest}
 use Rattle.types_equal.specs.declared.stack_pairs.Context.{Context}
 use Rattle.types_equal.specs.declared.stack_pairs.Duo.{Duo}
@@ -18,27 +17,14 @@ pub record AtSame (k : Context) (l r : ℕ) : Type 0 where
   pub row : l ≡ r
   pub no-args : k .m ≡ 0
   pub place : k .env ≡ k .env2
-  pub raised : k .by ≡ k .by2
+  pub raised : k .by ≡ 0
   pub depth : k .d ≡ k .d2
-
--- g is the context k with a row of an argument on the left: read now, raised by the depth
-pub record GivenIn (E : List ℕ) (k g : Context) : Type 0 where
-  pub env : g .env ≡ 2 * length E
-  pub by : g .by ≡ k .d
-  pub d : g .d ≡ 0
-  pub env2 : g .env2 ≡ k .env2
-  pub by2 : g .by2 ≡ k .by2
-  pub d2 : g .d2 ≡ k .d2
 
 -- ---- the left row with arguments A, the right row raised only
 module _ (τ : RowTable) (A : List Arg) (ρ : ℕ → ℕ) (d : ℕ) where
   -- value row l in its context has the type of value row r, and no argument is of the wrong kind
   unfoldable pub fitValues : ℕ → (ℕ → ℕ) → ℕ → ℕ → Bool
   fitValues l ρ₂ d₂ r = same (valueUnder τ A ρ d l) (valueUnder τ [] ρ₂ d₂ r) && meets A d (meanV τ l)
-
-  -- the same of two code rows by their stacks and where their registers start
-  unfoldable pub fitCodes : ℕ → ℕ → ℕ → (ℕ → ℕ) → ℕ → ℕ → ℕ → ℕ → Bool
-  fitCodes l x p ρ₂ d₂ r y q = same (codeUnder τ A ρ d l x p) (codeUnder τ [] ρ₂ d₂ r y q) && meets A d (codeOf τ l x p)
 
   -- the same of n parts from p and from q on
   unfoldable pub fitParts : Bool → ℕ → ℕ → (ℕ → ℕ) → ℕ → ℕ → ℕ → ℕ → Bool

@@ -1,16 +1,20 @@
 -- What is left to compare of two forms, of two parts; letters.
-use Prim.Native.Nat.{ℕ}
-use mathlib.Core.Bool.{cond}
+use Prim.Native.Nat.{ℕ, _+_, _≤_}
+use mathlib.Core.Bool.{Bool, true, false, cond}
 use mathlib.Core.List.{List, map}
 use lib.Dec.{eqb}
+use lib.ListN.{getD}
 use Rattle.syntax.specs.Syntax.{Kind}
-use Rattle.tables.specs.Tables.{span, letterOf}
+use Rattle.types.specs.Equal.{sameLetters}
+use Rattle.tables.specs.Tables.{RowTable, span, letterOf, lettersAt}
+use Rattle.types_rows.specs.Read.{isStackAt}
 use Rattle.types_rows.specs.declared.Val.{Val}
 use Rattle.types_rows.specs.declared.Val.the-variants.{Int, Junk, ValVar, ValFill, Tuple, Pointer, Code, Hidden}
 use Rattle.types_rows.specs.declared.Slot.{Slot}
 use Rattle.types_rows.specs.declared.Slot.the-variants.{Gap, Known}
 use Rattle.types_equal.specs.declared.value_pairs.Pair.{Pair}
-use Rattle.types_equal.specs.declared.value_pairs.Pair.the-variants.{Same, Differ, Filled, Tuples, Pointers, Codes, Hiddens}
+use Rattle.types_equal.specs.declared.value_pairs.Pair.the-variants.{Same, Differ, Tuples, Pointers, Codes, Inside}
+use Rattle.types_equal.specs.declared.value_pairs.Span.{Span}
 use Rattle.types_equal.specs.declared.value_pairs.Heads.{Heads}
 use Rattle.types_equal.specs.declared.value_pairs.Heads.the-variants.{Apart, Both}
 
@@ -70,15 +74,15 @@ pairPointer x (Code y q) = Differ
 pairPointer x (Hidden y) = Differ
 
 -- code with stack x and registers at p beside each form
-abbrev pub pairCode : ℕ → ℕ → Val → Pair
-pairCode x p Int = Differ
-pairCode x p Junk = Differ
-pairCode x p (ValVar i) = Differ
-pairCode x p (ValFill h) = Differ
-pairCode x p (Tuple q o) = Differ
-pairCode x p (Pointer y) = Differ
-pairCode x p (Code y q) = Codes x p y q
-pairCode x p (Hidden y) = Differ
+abbrev pub pairCode : List ℕ → ℕ → ℕ → Val → Pair
+pairCode ps x p Int = Differ
+pairCode ps x p Junk = Differ
+pairCode ps x p (ValVar i) = Differ
+pairCode ps x p (ValFill h) = Differ
+pairCode ps x p (Tuple q o) = Differ
+pairCode ps x p (Pointer y) = Differ
+pairCode ps x p (Code y q) = cond (sameLetters (lettersAt ps p) (lettersAt ps q)) (Codes x p y q) Differ
+pairCode ps x p (Hidden y) = Differ
 
 -- a package of x beside each form
 abbrev pub pairHidden : ℕ → Val → Pair
@@ -89,18 +93,37 @@ pairHidden x (ValFill h) = Differ
 pairHidden x (Tuple q o) = Differ
 pairHidden x (Pointer y) = Differ
 pairHidden x (Code y q) = Differ
-pairHidden x (Hidden y) = Hiddens x y
+pairHidden x (Hidden y) = Inside false x y
 
--- what is left to compare of two value rows
-abbrev pub pairOf : Val → Val → Pair
-pairOf Int w = pairInt w
-pairOf Junk w = pairJunk w
-pairOf (ValVar k) w = pairValVar k w
-pairOf (ValFill j) w = Filled j
-pairOf (Tuple p n) w = pairTuple p n w
-pairOf (Pointer x) w = pairPointer x w
-pairOf (Code x p) w = pairCode x p w
-pairOf (Hidden x) w = pairHidden x w
+-- a row that is filled by row a, beside row r
+abbrev pub pairFill : List ℕ → ℕ → ℕ → Pair
+pairFill rows a r = cond (isStackAt rows a) Differ (Inside true (a + 1) r)
+
+-- what is left to compare of a value row of a given form and of row r, whose form is w
+abbrev pub pairOf : RowTable → List ℕ → ℕ → Val → Val → Pair
+pairOf τ args r Int w = pairInt w
+pairOf τ args r Junk w = pairJunk w
+pairOf τ args r (ValVar k) w = pairValVar k w
+pairOf τ args r (ValFill j) w = pairFill (τ .rows) (getD args j 0) r
+pairOf τ args r (Tuple p n) w = pairTuple p n w
+pairOf τ args r (Pointer x) w = pairPointer x w
+pairOf τ args r (Code x p) w = pairCode (τ .parts) x p w
+pairOf τ args r (Hidden x) w = pairHidden x w
+
+-- the registers of a code row may stand in a table
+abbrev pub Placed : Val → Type 0
+Placed Int = Unit
+Placed Junk = Unit
+Placed (ValVar i) = Unit
+Placed (ValFill j) = Unit
+Placed (Tuple p n) = Unit
+Placed (Pointer x) = Unit
+Placed (Code x p) = p ≤ 65535
+Placed (Hidden x) = Unit
+
+-- n parts from p on the left and from q on the right
+abbrev pub spanOf : Bool → ℕ → ℕ → ℕ → Span
+spanOf file p q n = record { file = file; p = p; q = q; n = n }
 
 -- a gap beside a part
 abbrev pub gapWith : Slot → Heads

@@ -14,7 +14,7 @@ stack-in-requires c κs =
     let n : tie.After-narrow = search in
     let s : tie.Start = search in
     let l = n .narrow .ensures .row-low in
-    (omega arith, record { few = search; small = let e = s .pre .0 in omega arith; sum = omega arith })
+    (omega arith, record { few = search; small = let e = s .pre .0 in omega arith })
 
 returns : tie.Need-returns
 returns c =
@@ -31,4 +31,4 @@ returns-2 c =
     item-none _ _ _ _ _ _ _ (n .narrow .ensures) (search)
 
 pub item-in-spec : {M : Type 1} → statement M
-item-in-spec = tie.close (tie.spec (λ c κs. search) stack-in-requires (λ c κs. search) returns returns-2)
+item-in-spec = tie.close (tie.spec (λ c κs. search) (λ c. search needs) stack-in-requires (λ c κs. search) returns returns-2)

@@ -1,6 +1,5 @@
 use borrow.Author.Tests.{lt-ltb, le-ltb}
 use borrow.Author.Needs.{needs}
-use Rattle.types_rows.specs.Environments.{shifted}
 use Rattle.types_rows.proofs.place_stack.Statement.{statement}
 use Rattle.types_rows.proofs.place_stack.Tie as tie
 
@@ -9,18 +8,13 @@ returns c = (simp (lt-ltb _ _ (c .if1 .taken)), tt)
 
 returns-2 : tie.Need-returns-2
 returns-2 c =
-    let y : tie.Then2 = search in
     let n : tie.Else1 = search in
-    (simp (le-ltb _ _ (n .if1 .left), lt-ltb _ _ (y .if2 .taken)), search)
+    (simp (le-ltb _ _ (n .if1 .left), lt-ltb _ _ (c .if2 .taken)), search)
 
 returns-3 : tie.Need-returns-3
-unfolding shifted
 returns-3 c =
     let n : tie.Else1 = search in
-    let m : tie.Else2 = search in
-    let v : tie.After-name = search in
-    (simp (le-ltb _ _ (n .if1 .left), le-ltb _ _ (m .if2 .left), v .name .ensures .0), tt)
+    (simp (le-ltb _ _ (n .if1 .left), le-ltb _ _ (c .if2 .left)), tt)
 
 pub place-stack-spec : {M : Type 1} → statement M
-place-stack-spec =
-    tie.close (tie.spec returns returns-2 (λ c. search needs) (λ c κs. search needs) (λ c. search needs) (λ c. search needs) returns-3)
+place-stack-spec = tie.close (tie.spec returns returns-2 (λ c. search) (λ c. search needs) (λ c. search needs) returns-3)

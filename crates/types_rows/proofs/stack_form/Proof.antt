@@ -1,7 +1,6 @@
 use mathlib.Core.Path.{_∙_}
 use borrow.Author.Tests.{lt-ltb, le-ltb, eq-eqb, ne-eqb}
-use Rattle.types_rows.specs.Read.{stackWith}
-use Rattle.types_rows.specs.Environments.{shifted}
+use Rattle.types_rows.specs.Read.{stackWith, lift}
 use Rattle.types_rows.proofs.Laws.{ok-placed-s, lower-low}
 use Rattle.types_rows.proofs.stack_form.Statement.{statement}
 use Rattle.types_rows.proofs.stack_form.Tie as tie
@@ -16,7 +15,7 @@ returns-2 c =
     let y : tie.Then2 = search in
     let n : tie.Else1 = search in
     let s : tie.Start = search in
-    (c .place-stack .ensures .0 ∙ simp (le-ltb _ _ (n .if1 .left), eq-eqb _ _ (y .if2 .taken)), ok-placed-s _ _ (shifted (s .args .envs .now) (s .args .c .env) (s .args .c .by)) (s .args .c .d) (s .args .a) (c .place-stack .ensures .0) (search))
+    (c .place-stack .ensures .0 ∙ simp (le-ltb _ _ (n .if1 .left), eq-eqb _ _ (y .if2 .taken)), ok-placed-s _ _ (lift (s .args .by)) (s .args .d) (s .args .a) (c .place-stack .ensures .0) (search))
 
 returns-3 : tie.Need-returns-3
 unfolding stackWith

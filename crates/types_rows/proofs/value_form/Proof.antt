@@ -1,7 +1,6 @@
 use mathlib.Core.Path.{_∙_}
 use borrow.Author.Tests.{eq-eqb, ne-eqb}
-use Rattle.types_rows.specs.Read.{valueWith}
-use Rattle.types_rows.specs.Environments.{shifted}
+use Rattle.types_rows.specs.Read.{valueWith, lift}
 use Rattle.types_rows.proofs.Laws.{ok-placed, lower-low}
 use borrow.Author.Needs.{needs}
 use Rattle.types_rows.proofs.value_form.Statement.{statement}
@@ -17,7 +16,7 @@ returns-2 c =
     let y : tie.Then2 = search in
     let n : tie.Else1 = search in
     let s : tie.Start = search in
-    (c .place-value .ensures .0 ∙ simp (ne-eqb _ _ (n .if1 .left), eq-eqb _ _ (y .if2 .taken)), ok-placed _ _ (shifted (s .args .envs .now) (s .args .c .env) (s .args .c .by)) (s .args .c .d) (s .args .a) (c .place-value .ensures .0) (search))
+    (c .place-value .ensures .0 ∙ simp (ne-eqb _ _ (n .if1 .left), eq-eqb _ _ (y .if2 .taken)), ok-placed _ _ (lift (s .args .by)) (s .args .d) (s .args .a) (c .place-value .ensures .0) (search))
 
 returns-3 : tie.Need-returns-3
 unfolding valueWith

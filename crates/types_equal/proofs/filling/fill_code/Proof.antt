@@ -1,5 +1,6 @@
 use borrow.Author.Needs.{needs}
 use mathlib.Core.Path.{refl, _∙_}
+use mathlib.Core.Bool.{true}
 use native.Mathlib.Omega.{arith}
 use lib.ListN.{length}
 use Rattle.types_rows.specs.Read.{tab}
@@ -8,6 +9,7 @@ use Rattle.types_rows.proofs.Environments.{shifted-now}
 use Rattle.types_equal.proofs.Plain.{now-lift}
 use Rattle.types_equal.proofs.Items.{tabled-low, few-left, few-right, spare-low, spare-kept}
 use Rattle.types_equal.proofs.Values.{both-same, one-differs}
+use Rattle.types_equal.proofs.Deeper.{span-in}
 use Rattle.types_equal.proofs.filling.Itself.{closed-stack}
 use Rattle.types_equal.proofs.filling.Fill.{big-most, f-many, f-off, f-on}
 use Rattle.types_equal.proofs.filling.fill_code.Statement.{statement}
@@ -66,22 +68,17 @@ current-requires c κs =
     let b = start-of (letters-of e) .pre .1 .few in
     omega arith
 
-cast-t23-2 : tie.Need-cast-t23-2
-cast-t23-2 c =
+registers-requires : tie.Need-registers-requires
+registers-requires c κs =
     let e : tie.After-eq-filled = search in
     let b = start-of (letters-of e) .pre .2 in
-    record { fits = omega arith }
-
-cast-t28 : tie.Need-cast-t28
-cast-t28 c =
-    let e : tie.After-eq-filled = search in
-    let b = start-of (letters-of e) .pre .2 in
-    record { fits = omega arith }
+    (b .left-file, b .right-file)
 
 eq-parts-requires : tie.Need-eq-parts-requires
 eq-parts-requires c κs =
     let u : tie.After-current = search in
     let z = u .current .ensures in
+    let g : tie.After-registers = search in
     let e : tie.After-eq-filled = search in
     let w = letters-of e in
     let s = start-of w in
@@ -96,11 +93,12 @@ eq-parts-requires c κs =
     let fr = few-right (tab (s .args .rows .now) (s .args .parts .now)) (s .args .args .now) (s .pre .0) in
     let nl = n .if1 .left in
     let bm = big-most (length (s .args .args .now)) in
-    (s .pre .0, search needs, search needs, spare-kept (length (s .args .args .now)) (s .args .l .row) (s .args .r) _ _ (s .pre .3) (e .eq-filled .kept .1 .1 .1 .1 .1 .1 .1 .1 .1 .0))
+    (s .pre .0, search needs, span-in true _ _ _ (g .registers .ensures) (bs .left-file) (bs .right-file) (omega arith), spare-kept (length (s .args .args .now)) (s .args .l .row) (s .args .r) _ _ (s .pre .3) (e .eq-filled .kept .1 .1 .1 .1 .1 .1 .1 .1 .1 .0))
 
 returns-2 : tie.Need-returns-2
 returns-2 c =
     let u : tie.After-current = search in
+    let g : tie.After-registers = search in
     let i : tie.Then3 = search in
     let p : tie.After-eq-parts = search in
     let e : tie.After-eq-filled = search in
@@ -108,7 +106,7 @@ returns-2 c =
     let s = start-of w in
     let a = count-of w in
     let b = count2-of w in
-    both-same (i .if3 .taken) (e .eq-filled .ensures) (p .eq-parts .ensures) ∙ f-on _ _ (shifted (s .args .envs .now) (s .args .l .env) 0) _ _ _ _ _ _ _ _ _ refl (a .letter-count .ensures .0) (b .letter-count2 .ensures .0)
+    both-same (i .if3 .taken) (e .eq-filled .ensures) (rw (g .registers .ensures) at (p .eq-parts .ensures)) ∙ f-on _ _ (shifted (s .args .envs .now) (s .args .l .env) 0) _ _ _ _ _ _ _ _ _ refl (a .letter-count .ensures .0) (b .letter-count2 .ensures .0)
     (shifted-now (s .args .envs .now) 0) (now-lift (s .args .envs .now) _ 0 (u .current .ensures)) (enough w .if1 .left) (w .same-letters .ensures) (same-of e .if2 .taken)
 
 returns-3 : tie.Need-returns-3
@@ -132,5 +130,5 @@ returns-4 c =
 pub fill-code-spec : {M : Type 1} → statement M
 fill-code-spec =
     tie.close (tie.spec (λ c κs. search) (λ c κs. search) returns (λ c. search needs) (λ c. search needs) (λ c κs. search needs)
-    eq-filled-requires (λ c. search needs) (λ c. search needs) cast-t26 (λ c. search needs) current-requires cast-t23-2 cast-t28
+    eq-filled-requires (λ c. search needs) (λ c. search needs) cast-t26 (λ c. search needs) current-requires registers-requires
     eq-parts-requires (λ c. search needs) returns-2 (λ c. search) returns-3 returns-4)

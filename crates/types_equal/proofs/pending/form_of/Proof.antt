@@ -9,4 +9,4 @@ returns-2 c =
     λ ps. entry-given (tab _ ps) (argsOf (tab _ ps) _ _) _ _ _ _ (search) (search) (c .given-form .ensures ps _ _ _ (given-low _ (search)))
 
 pub form-of-spec : {M : Type 1} → statement M
-form-of-spec = tie.close (tie.spec (λ c κs. search needs) (λ c. search) (λ c κs. search needs) returns-2)
+form-of-spec = tie.close (tie.spec (λ c κs. search needs) (λ c. search) (λ c. search needs) (λ c κs. search needs) returns-2)

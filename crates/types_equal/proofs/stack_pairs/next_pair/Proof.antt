@@ -34,7 +34,7 @@ returns c =
     let e = rw (l .left .ensures) at (a .next-item .ensures .0) in
     let f = rw (r .right .ensures) at (b .next-item2 .ensures .0) in
     λ ps. duo-by (tab (s .args .rows .now) ps) (s .args .args .now) (s .args .k .m) (shifted (s .args .envs .now) (s .args .k .env) (s .args .k .by)) (s .args .k .d)
-    (shifted (s .args .envs .now) (s .args .k .env2) (s .args .k .by2)) (s .args .k .d2) (side false (s .args .pending .now)) (s .args .i) (side true (s .args .pending .now)) (s .args .j)
+    (shifted (s .args .envs .now) (s .args .k .env2) 0) (s .args .k .d2) (side false (s .args .pending .now)) (s .args .i) (side true (s .args .pending .now)) (s .args .j)
     (side false (b .next-item2 .last .1 .1 .1 .1 .0)) (side true (b .next-item2 .last .1 .1 .1 .1 .0)) _ (s .pre .3 .right)
     (a .next-item .result) (b .next-item2 .result) (c .two-items .result) (rw (b .next-item2 .ensures .1) (e ps))
     (rw (sym (a .next-item .ensures .1)) (f ps)) (c .two-items .ensures)

@@ -9,45 +9,40 @@ use borrow.Fn.Kinds.{In}
 use borrow.Fn.PlainCycle.{Measures, is, falls, and}
 use Rattle.types_rows.specs.Read.{tab, argsOf}
 use Rattle.types_rows.specs.Environments.{shifted}
+use Rattle.types_equal.specs.declared.value_pairs.Pair.{Pair}
+use Rattle.types_equal.specs.stack_pairs.Fit.{fitValues}
 use Rattle.types_equal.specs.pending.Pending.{side, mass}
 use Rattle.types_equal.specs.Bounds.{big, Spare}
-use Rattle.types_equal.proofs.pending.Meets.{length-args}
 use Rattle.types_equal.proofs.pending.Sides.{agree-back}
-use Rattle.types_equal.proofs.Items.{left-in, right-in, own-room, given-room, tabled-low, tabled-given, tabled-arg, few-left, few-right, few-arg, few-args, room-of, spare-low, spare-arg, spare-kept, spare-own, spare-given}
-use Rattle.types_equal.proofs.Values.{big-of, pair-ok, value-pair, hiddens-are, filled-value, filled-not, place-value, both-same, one-differs, heads-low, PartsLeft, parts-first, parts-last, parts-apart, parts-differ, parts-next, codes-off, codes-on}
-use Rattle.types_equal.proofs.Stacks.{Matching, match-stored, match-over, match-unlike, match-onward, match-own, match-given, own-not, given-not, own-low, given-low, length-part, pends-more, not-true, not-false, plain-args}
-use Rattle.types_equal.proofs.eq_code.Reads as eq-code
-use Rattle.types_equal.proofs.eq_code.Kinds as eq-code-kinds
-use Rattle.types_equal.proofs.+eq_code+eq_parts+eq_stack+eq_value.Lts-eq_code as eq-code-lts
+use Rattle.types_equal.proofs.Items.{left-in, right-in, own-room, given-room, tabled-low, tabled-given, few-left, few-right, few-args, room-of, spare-low, spare-kept, spare-own, spare-given}
+use Rattle.types_equal.proofs.Values.{big-of, OkP, placed-form, pair-ok, onPair, value-pair, place-value, heads-low, PartsLeft, parts-first, parts-last, parts-apart, parts-differ, parts-next}
+use Rattle.types_equal.proofs.Deeper.{depths-in, inside-asks, stacks-ask, files-ask, span-in, given-is, inside-is, tuples-are, codes-are, codes-not}
+use Rattle.types_equal.proofs.Stacks.{Matching, match-stored, match-over, match-unlike, match-onward, match-own, match-given, own-not, given-not, own-low, given-low, length-part, pends-more, not-true, not-false}
 use Rattle.types_equal.proofs.eq_parts.Reads as eq-parts
 use Rattle.types_equal.proofs.eq_parts.Kinds as eq-parts-kinds
-use Rattle.types_equal.proofs.+eq_code+eq_parts+eq_stack+eq_value.Lts-eq_parts as eq-parts-lts
+use Rattle.types_equal.proofs.+eq_parts+eq_stack+eq_value.Lts-eq_parts as eq-parts-lts
 use Rattle.types_equal.proofs.eq_stack.Reads as eq-stack
 use Rattle.types_equal.proofs.eq_stack.Kinds as eq-stack-kinds
-use Rattle.types_equal.proofs.+eq_code+eq_parts+eq_stack+eq_value.Lts-eq_stack as eq-stack-lts
+use Rattle.types_equal.proofs.+eq_parts+eq_stack+eq_value.Lts-eq_stack as eq-stack-lts
 use Rattle.types_equal.proofs.eq_value.Reads as eq-value
 use Rattle.types_equal.proofs.eq_value.Kinds as eq-value-kinds
-use Rattle.types_equal.proofs.+eq_code+eq_parts+eq_stack+eq_value.Lts-eq_value as eq-value-lts
+use Rattle.types_equal.proofs.+eq_parts+eq_stack+eq_value.Lts-eq_value as eq-value-lts
 use Rattle.types_equal.proofs.pending.store.Reads as store-reads
-use Rattle.types_equal.proofs.stack_pairs.current.Reads as current-reads
+use Rattle.types_equal.proofs.stack_pairs.given.Reads as given-reads
 use Rattle.types_equal.proofs.stack_pairs.greater.Reads as greater-reads
+use Rattle.types_equal.proofs.stack_pairs.inside.Reads as inside-reads
 use Rattle.types_equal.proofs.stack_pairs.next_pair.Reads as next-pair-reads
 use Rattle.types_equal.proofs.stack_pairs.same_place.Reads as same-place-reads
 use Rattle.types_equal.proofs.stack_pairs.same_stack.Reads as same-stack-reads
-use Rattle.types_equal.proofs.value_pairs.left_value.Reads as left-value-reads
-use Rattle.types_equal.proofs.value_pairs.right_value.Reads as right-value-reads
+use Rattle.types_equal.proofs.stack_pairs.under.Reads as under-reads
+use Rattle.types_equal.proofs.value_pairs.components.Reads as components-reads
 use Rattle.types_equal.proofs.value_pairs.pair_up.Reads as pair-up-reads
-use Rattle.types_equal.proofs.value_pairs.same_letters.Reads as same-letters-reads
+use Rattle.types_equal.proofs.value_pairs.registers.Reads as registers-reads
 use Rattle.types_equal.proofs.value_pairs.two_slots.Reads as two-slots-reads
-use Rattle.types_rows.proofs.at.Reads as at-reads
-use Rattle.types_rows.proofs.is_stack.Reads as is-stack-reads
-use Rattle.types_rows.proofs.letter_count.Reads as letter-count-reads
 use Rattle.types_rows.proofs.part.Reads as part-reads
-use Rattle.types_equal.proofs.+eq_code+eq_parts+eq_stack+eq_value.{statement}
-use Rattle.types_equal.proofs.+eq_code+eq_parts+eq_stack+eq_value.Tie.{close}
-
-abbrev μ-eq-code : Measures 5 eq-code-kinds.ps ℕ
-μ-eq-code κs a = big (a .1 .1 .1 .1 .0 .m) + 131072 * a .1 .1 .1 .1 .1 .0 + 66000
+use Rattle.types_rows.proofs.value_in.Reads as value-in-reads
+use Rattle.types_equal.proofs.+eq_parts+eq_stack+eq_value.{statement}
+use Rattle.types_equal.proofs.+eq_parts+eq_stack+eq_value.Tie.{close}
 
 abbrev μ-eq-parts : Measures 5 eq-parts-kinds.ps ℕ
 μ-eq-parts κs a = big (a .1 .1 .1 .1 .0 .m) + 131072 * a .1 .1 .1 .1 .1 .0 + 1
@@ -57,12 +52,6 @@ abbrev μ-eq-stack : Measures 5 eq-stack-kinds.ps ℕ
 
 abbrev μ-eq-value : Measures 5 eq-value-kinds.ps ℕ
 μ-eq-value κs a = big (a .1 .1 .1 .1 .0 .m) + 131072 * a .1 .1 .1 .1 .1 .0 + 70000
-
-abbrev eq-code-at : ℕ → In 5 eq-code-kinds.ps
-eq-code-at t = and 5 eq-code-kinds.ps (is 5 eq-code-kinds.ps μ-eq-code t) eq-code.Pre
-
-abbrev eq-code-below : ℕ → In 5 eq-code-kinds.ps
-eq-code-below t = and 5 eq-code-kinds.ps (falls 5 eq-code-kinds.ps _<_ μ-eq-code t) eq-code.Pre
 
 abbrev eq-parts-at : ℕ → In 5 eq-parts-kinds.ps
 eq-parts-at t = and 5 eq-parts-kinds.ps (is 5 eq-parts-kinds.ps μ-eq-parts t) eq-parts.Pre
@@ -85,153 +74,39 @@ abbrev eq-value-below : ℕ → In 5 eq-value-kinds.ps
 eq-value-below t =
     and 5 eq-value-kinds.ps (falls 5 eq-value-kinds.ps _<_ μ-eq-value t) eq-value.Pre
 
-abbrev eq-code-claims : ℕ → eq-code-lts.Claims
-eq-code-claims t = (letter-count-reads.Asked, letter-count-reads.Learnt, same-letters-reads.Asked, same-letters-reads.Learnt, eq-stack-below t, eq-stack.Post, eq-parts-below t, eq-parts.Post)
-
 abbrev eq-parts-claims : ℕ → eq-parts-lts.Claims
 eq-parts-claims t = (part-reads.Asked, part-reads.Learnt, two-slots-reads.Asked, two-slots-reads.Learnt, eq-value-below t, eq-value.Post)
 
 abbrev eq-stack-claims : ℕ → eq-stack-lts.Claims
-eq-stack-claims t = (same-stack-reads.Asked, same-stack-reads.Learnt, store-reads.Asked, store-reads.Learnt, next-pair-reads.Asked, next-pair-reads.Learnt, greater-reads.Asked, greater-reads.Learnt, eq-value-below t, eq-value.Post, current-reads.Asked, current-reads.Learnt)
+eq-stack-claims t = (same-stack-reads.Asked, same-stack-reads.Learnt, store-reads.Asked, store-reads.Learnt, next-pair-reads.Asked, next-pair-reads.Learnt, greater-reads.Asked, greater-reads.Learnt, eq-value-below t, eq-value.Post, given-reads.Asked, given-reads.Learnt)
 
 abbrev eq-value-claims : ℕ → eq-value-lts.Claims
 eq-value-claims t = (
   same-place-reads.Asked,
   same-place-reads.Learnt,
-  left-value-reads.Asked,
-  left-value-reads.Learnt,
-  right-value-reads.Asked,
-  right-value-reads.Learnt,
+  value-in-reads.Asked,
+  value-in-reads.Learnt,
   pair-up-reads.Asked,
   pair-up-reads.Learnt,
-  at-reads.Asked,
-  at-reads.Learnt,
-  is-stack-reads.Asked,
-  is-stack-reads.Learnt,
-  current-reads.Asked,
-  current-reads.Learnt,
-  eq-value-below t,
-  eq-value.Post,
+  components-reads.Asked,
+  components-reads.Learnt,
   eq-parts-below t,
   eq-parts.Post,
   eq-stack-below t,
   eq-stack.Post,
-  eq-code-below t,
-  eq-code.Post,
+  under-reads.Asked,
+  under-reads.Learnt,
+  registers-reads.Asked,
+  registers-reads.Learnt,
+  inside-reads.Asked,
+  inside-reads.Learnt,
+  eq-value-below t,
+  eq-value.Post,
 )
-
-abbrev C-Start : ℕ → Type 0
-C-Start t = eq-code-lts.Start (eq-code-claims t) (eq-code-at t) eq-code.Post
-
-abbrev C-Count : ℕ → Type 0
-C-Count t = eq-code-lts.After-letter-count (eq-code-claims t) (eq-code-at t) eq-code.Post
-
-abbrev C-Count2 : ℕ → Type 0
-C-Count2 t = eq-code-lts.After-letter-count2 (eq-code-claims t) (eq-code-at t) eq-code.Post
-
-abbrev C-Letters : ℕ → Type 0
-C-Letters t = eq-code-lts.After-same-letters (eq-code-claims t) (eq-code-at t) eq-code.Post
-
-abbrev C-Then : ℕ → Type 0
-C-Then t = eq-code-lts.Then1 (eq-code-claims t) (eq-code-at t) eq-code.Post
-
-abbrev C-Stack : ℕ → Type 0
-C-Stack t = eq-code-lts.After-eq-stack (eq-code-claims t) (eq-code-at t) eq-code.Post
-
-abbrev c-letters : (t : ℕ) → C-Stack t → C-Letters t
-c-letters t c = search
-
-abbrev c-then : (t : ℕ) → C-Stack t → C-Then t
-c-then t c = search
-
-abbrev c-count : (t : ℕ) → C-Letters t → C-Count t
-c-count t c = search
-
-abbrev c-count2 : (t : ℕ) → C-Letters t → C-Count2 t
-c-count2 t c = search
-
-abbrev c-start : (t : ℕ) → C-Letters t → C-Start t
-c-start t c = search
-
-eq-code-eq-stack-requires : (t : ℕ) → eq-code-lts.Need-eq-stack-requires (eq-code-claims t) (eq-code-at t) eq-code.Post
-eq-code-eq-stack-requires t c κs =
-    let s : C-Start t = search in
-    let a : C-Count t = search in
-    let b : C-Count2 t = search in
-    let t0 = s .pre .0 in
-    let rs = s .pre .1 .1 in
-    let bs = s .pre .1 .2 in
-    let la = a .letter-count .ensures .1 in
-    let lb = b .letter-count2 .ensures .1 in (
-      omega arith,
-      (
-        tabled-low (tab (s .args .rows .now) (s .args .parts .now)) (s .args .args .now) (s .args .c .x) (s .args .c .y)
-            (s .pre .1 .0) (omega arith) (omega arith),
-        search needs,
-        spare-low (s .args .k .m) (s .args .l) (s .args .r) _ (s .args .c .x)
-            (s .args .c .y) (s .pre .1 .3) (omega arith) (omega arith),
-      ),
-    )
-
-eq-code-cast-t26 : (t : ℕ) → eq-code-lts.Need-cast-t26 (eq-code-claims t) (eq-code-at t) eq-code.Post
-eq-code-cast-t26 t c =
-    let e : C-Stack t = search in
-    let s = c-start t (c-letters t e) in
-    let bs = s .pre .1 .2 in
-    record { fits = omega arith }
-
-eq-code-cast-t27 : (t : ℕ) → eq-code-lts.Need-cast-t27 (eq-code-claims t) (eq-code-at t) eq-code.Post
-eq-code-cast-t27 t c =
-    let e : C-Stack t = search in
-    let s = c-start t (c-letters t e) in
-    let bs = s .pre .1 .2 in
-    record { fits = omega arith }
-
-eq-code-eq-parts-requires : (t : ℕ) → eq-code-lts.Need-eq-parts-requires (eq-code-claims t) (eq-code-at t) eq-code.Post
-eq-code-eq-parts-requires t c κs =
-    let e : C-Stack t = search in
-    let w = c-letters t e in
-    let s = c-start t w in
-    let a = c-count t w in
-    let b = c-count2 t w in
-    let t0 = s .pre .0 in
-    let rs = s .pre .1 .1 in
-    let bs = s .pre .1 .2 in
-    let la = a .letter-count .ensures .1 in
-    let lb = b .letter-count2 .ensures .1 in
-    (omega arith, (s .pre .1 .0, search needs, search needs, spare-kept (s .args .k .m) (s .args .l) (s .args .r) _ _ (s .pre .1 .3) (e .eq-stack .kept .1 .1 .1 .1 .1 .1 .1 .0)))
-
-eq-code-returns : (t : ℕ) → eq-code-lts.Need-returns (eq-code-claims t) (eq-code-at t) eq-code.Post
-eq-code-returns t c =
-    let p : eq-code-lts.After-eq-parts (eq-code-claims t) (eq-code-at t) eq-code.Post = search in
-    let i : eq-code-lts.Then2 (eq-code-claims t) (eq-code-at t) eq-code.Post = search in
-    let e : C-Stack t = search in
-    let w = c-letters t e in
-    let s = c-start t w in
-    let a = c-count t w in
-    let b = c-count2 t w in
-    both-same (i .if2 .taken) (e .eq-stack .ensures) (p .eq-parts .ensures) ∙ codes-on _ _ _ _ _ _ _ _ _ _ _ _ _ _ (a .letter-count .ensures .0) (b .letter-count2 .ensures .0) (w .same-letters .ensures) (c-then t e .if1 .taken)
-
-eq-code-returns-2 : (t : ℕ) → eq-code-lts.Need-returns-2 (eq-code-claims t) (eq-code-at t) eq-code.Post
-eq-code-returns-2 t c =
-    let e : C-Stack t = search in
-    let w = c-letters t e in
-    let s = c-start t w in
-    let a = c-count t w in
-    let b = c-count2 t w in
-    one-differs _ (search) (e .eq-stack .ensures) ∙ codes-on _ _ _ _ _ _ _ _ _ _ _ _ _ _ (a .letter-count .ensures .0) (b .letter-count2 .ensures .0) (w .same-letters .ensures) (c-then t e .if1 .taken)
-
-eq-code-returns-3 : (t : ℕ) → eq-code-lts.Need-returns-3 (eq-code-claims t) (eq-code-at t) eq-code.Post
-eq-code-returns-3 t c =
-    let s : C-Start t = search in
-    let a : C-Count t = search in
-    let b : C-Count2 t = search in
-    let w : C-Letters t = search in
-    codes-off _ _ _ _ _ _ _ _ _ _ _ _ _ _ (a .letter-count .ensures .0) (b .letter-count2 .ensures .0) (w .same-letters .ensures) (search)
 
 abbrev eq-parts-Inv-loop : eq-parts-lts.InvT-loop
 eq-parts-Inv-loop rows parts args envs k l r pending₀ file p q n i₀ pending i =
-    PartsLeft (tab rows parts) (argsOf (tab rows parts) args (k .m)) (shifted envs (k .env) (k .by)) (k .d) file l (shifted envs (k .env2) (k .by2)) (k .d2) r p q n i × (length pending ≡ length pending₀)
+    PartsLeft (tab rows parts) (argsOf (tab rows parts) args (k .m)) (shifted envs (k .env) (k .by)) (k .d) file l (shifted envs (k .env2) 0) (k .d2) r p q n i × (length pending ≡ length pending₀)
 
 abbrev eq-parts-μ-loop : eq-parts-lts.MeasureT-loop
 eq-parts-μ-loop rows parts args envs k l r pending₀ file p q n i₀ pending i = n - i
@@ -368,7 +243,7 @@ eq-parts-returns-3 t c =
 
 abbrev eq-stack-Inv-loop : eq-stack-lts.InvT-loop
 eq-stack-Inv-loop rows parts args envs k l r pending₀ i₀ j₀ pending i j =
-    Matching (tab rows parts) (argsOf (tab rows parts) args (k .m)) (k .m) (shifted envs (k .env) (k .by)) (k .d) l (shifted envs (k .env2) (k .by2)) (k .d2) r (side false pending) i (side true pending) j × (length pending ≡ length pending₀)
+    Matching (tab rows parts) (argsOf (tab rows parts) args (k .m)) (k .m) (shifted envs (k .env) (k .by)) (k .d) l (shifted envs (k .env2) 0) (k .d2) r (side false pending) i (side true pending) j × (length pending ≡ length pending₀)
 
 abbrev eq-stack-μ-loop : eq-stack-lts.MeasureT-loop
 eq-stack-μ-loop rows parts args envs k l r pending₀ i₀ j₀ pending i j = mass (side false pending) i
@@ -406,11 +281,11 @@ S-Value t = eq-stack-lts.After-eq-value (eq-stack-claims t) (eq-stack-at t) eq-s
 abbrev S-Value2 : ℕ → Type 0
 S-Value2 t = eq-stack-lts.After-eq-value2 (eq-stack-claims t) (eq-stack-at t) eq-stack.Post eq-stack-Inv-loop eq-stack-μ-loop
 
-abbrev S-Current : ℕ → Type 0
-S-Current t = eq-stack-lts.After-current (eq-stack-claims t) (eq-stack-at t) eq-stack.Post eq-stack-Inv-loop eq-stack-μ-loop
+abbrev S-Context : ℕ → Type 0
+S-Context t = eq-stack-lts.After-given (eq-stack-claims t) (eq-stack-at t) eq-stack.Post eq-stack-Inv-loop eq-stack-μ-loop
 
-abbrev s-current : (t : ℕ) → S-Value2 t → S-Current t
-s-current t c = search
+abbrev s-context : (t : ℕ) → S-Value2 t → S-Context t
+s-context t c = search
 
 abbrev s-start : (t : ℕ) → S-Loop t → S-Start t
 s-start t c = search
@@ -458,7 +333,7 @@ own-reach t c =
     let l = s-loop t p in
     let s = s-start t l in
     own-low (tab (s .args .rows .now) (s .args .parts .now)) (argsOf (tab (s .args .rows .now) (s .args .parts .now)) (s .args .args .now)
-    (s .args .k .m)) (s .args .k .m) (shifted (s .args .envs .now) (s .args .k .env) (s .args .k .by)) (s .args .k .d) (s .args .l) (shifted (s .args .envs .now) (s .args .k .env2) (s .args .k .by2)) (s .args .k .d2) (s .args .r)
+    (s .args .k .m)) (s .args .k .m) (shifted (s .args .envs .now) (s .args .k .env) (s .args .k .by)) (s .args .k .d) (s .args .l) (shifted (s .args .envs .now) (s .args .k .env2) 0) (s .args .k .d2) (s .args .r)
     (side false (l .loop .pending)) (l .loop .i) (side true (l .loop .pending)) (l .loop .j) (l .loop .inv .0)
     (side false (p .next-pair .last .1 .1 .1 .1 .0)) (side true (p .next-pair .last .1 .1 .1 .1 .0)) (p .next-pair .result) (c .s2 .given .0 .0)
     (c .s2 .given .0 .1 .0) (c .s2 .given .0 .1 .1 .0) (c .s2 .given .0 .1 .1 .1 .0) (p .next-pair .ensures (s .args .parts .now))
@@ -479,7 +354,7 @@ given-reach t c =
     let l = s-loop t p in
     let s = s-start t l in
     given-low (tab (s .args .rows .now) (s .args .parts .now)) (argsOf (tab (s .args .rows .now) (s .args .parts .now))
-    (s .args .args .now) (s .args .k .m)) (s .args .k .m) (shifted (s .args .envs .now) (s .args .k .env) (s .args .k .by)) (s .args .k .d) (s .args .l) (shifted (s .args .envs .now) (s .args .k .env2) (s .args .k .by2)) (s .args .k .d2)
+    (s .args .args .now) (s .args .k .m)) (s .args .k .m) (shifted (s .args .envs .now) (s .args .k .env) (s .args .k .by)) (s .args .k .d) (s .args .l) (shifted (s .args .envs .now) (s .args .k .env2) 0) (s .args .k .d2)
     (s .args .r) (side false (l .loop .pending)) (l .loop .i) (side true (l .loop .pending)) (l .loop .j) (l .loop .inv .0)
     (side false (p .next-pair .last .1 .1 .1 .1 .0)) (side true (p .next-pair .last .1 .1 .1 .1 .0)) (p .next-pair .result) (c .s3 .given .0 .0)
     (c .s3 .given .0 .1 .0) (c .s3 .given .0 .1 .1 .0) (c .s3 .given .0 .1 .1 .1 .0) (p .next-pair .ensures (s .args .parts .now))
@@ -521,7 +396,7 @@ eq-stack-loop-holds t c =
     let b : S-Store2 t = search in
     let s0 = s .pre .1 .2 .0 in (
       match-stored (tab (s .args .rows .now) (s .args .parts .now)) (argsOf (tab (s .args .rows .now) (s .args .parts .now))
-          (s .args .args .now) (s .args .k .m)) (s .args .k .m) (shifted (s .args .envs .now) (s .args .k .env) (s .args .k .by)) (s .args .k .d) (s .args .l) (shifted (s .args .envs .now) (s .args .k .env2) (s .args .k .by2)) (s .args .k .d2)
+          (s .args .args .now) (s .args .k .m)) (s .args .k .m) (shifted (s .args .envs .now) (s .args .k .env) (s .args .k .by)) (s .args .k .d) (s .args .l) (shifted (s .args .envs .now) (s .args .k .env2) 0) (s .args .k .d2)
           (s .args .r) (s .args .pending .now) (a .store .last .0) (b .store2 .last .0)
           (few-left (tab (s .args .rows .now) (s .args .parts .now)) (s .args .args .now) (s .pre .1 .0)) (few-right (tab (s .args .rows .now)
           (s .args .parts .now)) (s .args .args .now) (s .pre .1 .0)) (omega arith) (a .store .ensures .0) (a .store .ensures .1)
@@ -537,8 +412,8 @@ eq-stack-next-pair-requires t c κs =
     let s1 = s .pre .1 .2 .1 in
     let i1 = s-long t l in
     let rs = s .pre .1 .1 in (
-      omega arith,
-      omega arith,
+      left-in rs,
+      right-in rs,
       record {
         given = few-args (tab (s .args .rows .now) (s .args .parts .now)) (s .args .args .now)
             (s .pre .1 .0);
@@ -584,7 +459,7 @@ eq-stack-loop-less t c =
     let l = s-loop t p in
     let s = s-start t l in
     (match-onward (tab (s .args .rows .now) (s .args .parts .now)) (argsOf (tab (s .args .rows .now) (s .args .parts .now))
-    (s .args .args .now) (s .args .k .m)) (s .args .k .m) (shifted (s .args .envs .now) (s .args .k .env) (s .args .k .by)) (s .args .k .d) (s .args .l) (shifted (s .args .envs .now) (s .args .k .env2) (s .args .k .by2)) (s .args .k .d2)
+    (s .args .args .now) (s .args .k .m)) (s .args .k .m) (shifted (s .args .envs .now) (s .args .k .env) (s .args .k .by)) (s .args .k .d) (s .args .l) (shifted (s .args .envs .now) (s .args .k .env2) 0) (s .args .k .d2)
     (s .args .r) (side false (l .loop .pending)) (l .loop .i) (side true (l .loop .pending)) (l .loop .j) (l .loop .inv .0)
     (side false (p .next-pair .last .1 .1 .1 .1 .0)) (side true (p .next-pair .last .1 .1 .1 .1 .0)) (p .next-pair .result) (o .s .given .0 .0)
     (o .s .given .0 .1 .0) (p .next-pair .ensures (s .args .parts .now)) (o .s .given .1)) .1
@@ -596,7 +471,7 @@ eq-stack-loop-again t c =
     let l = s-loop t p in
     let s = s-start t l in (
       (match-onward (tab (s .args .rows .now) (s .args .parts .now)) (argsOf (tab (s .args .rows .now) (s .args .parts .now))
-          (s .args .args .now) (s .args .k .m)) (s .args .k .m) (shifted (s .args .envs .now) (s .args .k .env) (s .args .k .by)) (s .args .k .d) (s .args .l) (shifted (s .args .envs .now) (s .args .k .env2) (s .args .k .by2)) (s .args .k .d2)
+          (s .args .args .now) (s .args .k .m)) (s .args .k .m) (shifted (s .args .envs .now) (s .args .k .env) (s .args .k .by)) (s .args .k .d) (s .args .l) (shifted (s .args .envs .now) (s .args .k .env2) 0) (s .args .k .d2)
           (s .args .r) (side false (l .loop .pending)) (l .loop .i) (side true (l .loop .pending)) (l .loop .j) (l .loop .inv .0)
           (side false (p .next-pair .last .1 .1 .1 .1 .0)) (side true (p .next-pair .last .1 .1 .1 .1 .0)) (p .next-pair .result) (o .s .given .0 .0)
           (o .s .given .0 .1 .0) (p .next-pair .ensures (s .args .parts .now)) (o .s .given .1)) .0,
@@ -689,7 +564,7 @@ eq-stack-loop-less-2 t c =
     let w = own-ends t g in
     let w0 = w .0 in
     (match-own (tab (s .args .rows .now) (s .args .parts .now)) (argsOf (tab (s .args .rows .now) (s .args .parts .now))
-    (s .args .args .now) (s .args .k .m)) (s .args .k .m) (shifted (s .args .envs .now) (s .args .k .env) (s .args .k .by)) (s .args .k .d) (s .args .l) (shifted (s .args .envs .now) (s .args .k .env2) (s .args .k .by2)) (s .args .k .d2)
+    (s .args .args .now) (s .args .k .m)) (s .args .k .m) (shifted (s .args .envs .now) (s .args .k .env) (s .args .k .by)) (s .args .k .d) (s .args .l) (shifted (s .args .envs .now) (s .args .k .env2) 0) (s .args .k .d2)
     (s .args .r) (side false (l .loop .pending)) (l .loop .i) (side true (l .loop .pending)) (l .loop .j) (l .loop .inv .0)
     (side false (p .next-pair .last .1 .1 .1 .1 .0)) (side true (p .next-pair .last .1 .1 .1 .1 .0)) (side false (putMid (g .greater .result)
     (length (p .next-pair .last .1 .1 .1 .1 .0) - (g .greater .result)) (p .next-pair .last .1 .1 .1 .1 .0)
@@ -714,7 +589,7 @@ eq-stack-loop-again-2 t c =
     let w = own-ends t g in
     let w0 = w .0 in (
       (match-own (tab (s .args .rows .now) (s .args .parts .now)) (argsOf (tab (s .args .rows .now) (s .args .parts .now))
-          (s .args .args .now) (s .args .k .m)) (s .args .k .m) (shifted (s .args .envs .now) (s .args .k .env) (s .args .k .by)) (s .args .k .d) (s .args .l) (shifted (s .args .envs .now) (s .args .k .env2) (s .args .k .by2)) (s .args .k .d2)
+          (s .args .args .now) (s .args .k .m)) (s .args .k .m) (shifted (s .args .envs .now) (s .args .k .env) (s .args .k .by)) (s .args .k .d) (s .args .l) (shifted (s .args .envs .now) (s .args .k .env2) 0) (s .args .k .d2)
           (s .args .r) (side false (l .loop .pending)) (l .loop .i) (side true (l .loop .pending)) (l .loop .j) (l .loop .inv .0)
           (side false (p .next-pair .last .1 .1 .1 .1 .0)) (side true (p .next-pair .last .1 .1 .1 .1 .0)) (side false (putMid (g .greater .result)
           (length (p .next-pair .last .1 .1 .1 .1 .0) - (g .greater .result)) (p .next-pair .last .1 .1 .1 .1 .0)
@@ -732,8 +607,8 @@ eq-stack-loop-again-2 t c =
           (v .eq-value .last .1 .1 .1 .1 .1 .1 .1 .0) (v .eq-value .kept .1 .1 .1 .1 .1 .1 .1 .0) ∙ p .next-pair .kept .1 .1 .1 .1 .0 ∙ l .loop .inv .1,
     )
 
-eq-stack-current-requires : (t : ℕ) → eq-stack-lts.Need-current-requires (eq-stack-claims t) (eq-stack-at t) eq-stack.Post eq-stack-Inv-loop eq-stack-μ-loop
-eq-stack-current-requires t c κs =
+eq-stack-given-requires : (t : ℕ) → eq-stack-lts.Need-given-requires (eq-stack-claims t) (eq-stack-at t) eq-stack.Post eq-stack-Inv-loop eq-stack-μ-loop
+eq-stack-given-requires t c κs =
     let g : S-Great2 t = search in
     let o = s-given t g in
     let p = s-given-pair t o in
@@ -768,6 +643,7 @@ eq-stack-part-eq-value-start-2 t c =
 
 eq-stack-eq-value-requires-2 : (t : ℕ) → eq-stack-lts.Need-eq-value-requires-2 (eq-stack-claims t) (eq-stack-at t) eq-stack.Post eq-stack-Inv-loop eq-stack-μ-loop
 eq-stack-eq-value-requires-2 t c κs =
+    let x : S-Context t = search in
     let g : S-Great2 t = search in
     let o = s-given t g in
     let p = s-given-pair t o in
@@ -781,12 +657,16 @@ eq-stack-eq-value-requires-2 t c κs =
     let rm = room-of 0 (s .args .k .m) w0 in
     let b = big-of 0 (s .args .k .m) w0 in
     let rs = s .pre .1 .1 in
-    let t0 = s .pre .0 in (
+    let rl = rs .left in
+    let rr = rs .right in
+    let re = rs .envs in
+    let t0 = s .pre .0 in
+    rw (x .given .ensures) (
       omega arith,
       (
         tabled-given (tab (s .args .rows .now) (s .args .parts .now)) (s .args .args .now) (o .s3 .given .0 .0)
             (o .s3 .given .0 .1 .1 .0) (s .pre .1 .0) (omega arith) (omega arith),
-        search needs,
+        record { left = omega arith; right = omega arith; envs = rs .envs; env = omega arith; env2 = rs .env2 },
         spare-given (s .args .k .m) (s .args .l)
             (s .args .r) _ (o .s3 .given .0 .1 .0) (o .s3 .given .0 .0) (o .s3 .given .0 .1 .1 .1 .0) (o .s3 .given .0 .1 .1 .0)
             (g .greater2 .result) (g .greater2 .ensures) (s-spare t p) _ w (length-part (g .greater2 .result) (p .next-pair .last .1 .1 .1 .1 .0)),
@@ -818,8 +698,7 @@ eq-stack-returns-5 t c =
     given-not _ _ _ _ _ _ _ _ _ (side false (l .loop .pending)) _ (side true (l .loop .pending)) _ (l .loop .inv .0)
     (side false (p .next-pair .last .1 .1 .1 .1 .0)) (side true (p .next-pair .last .1 .1 .1 .1 .0)) _ (o .s3 .given .0 .0)
     (o .s3 .given .0 .1 .0) (o .s3 .given .0 .1 .1 .0) (o .s3 .given .0 .1 .1 .1 .0) (p .next-pair .ensures _) (o .s3 .given .1)
-    (v .eq-value2 .ensures ∙ plain-args _ (s .args .args .now) (s .args .envs .now) _ (s .args .k .d)
-    (o .s3 .given .0 .0) (shifted (s .args .envs .now) (s .args .k .env2) (s .args .k .by2)) (s .args .k .d2) (o .s3 .given .0 .1 .1 .0) (s-current t v .current .ensures)) (not-false (search))
+    (given-is (tab (s .args .rows .now) (s .args .parts .now)) (s .args .args .now) (s .args .envs .now) (s .args .k) (o .s3 .given .0 .0) (o .s3 .given .0 .1 .1 .0) (s-context t v .given .ensures) (v .eq-value2 .ensures)) (not-false (search))
 
 eq-stack-loop-less-3 : (t : ℕ) → eq-stack-lts.Need-loop-less-3 (eq-stack-claims t) (eq-stack-at t) eq-stack.Post eq-stack-Inv-loop eq-stack-μ-loop
 eq-stack-loop-less-3 t c =
@@ -832,7 +711,7 @@ eq-stack-loop-less-3 t c =
     let w = given-ends t g in
     let w0 = w .0 in
     (match-given (tab (s .args .rows .now) (s .args .parts .now)) (argsOf (tab (s .args .rows .now) (s .args .parts .now))
-    (s .args .args .now) (s .args .k .m)) (s .args .k .m) (shifted (s .args .envs .now) (s .args .k .env) (s .args .k .by)) (s .args .k .d) (s .args .l) (shifted (s .args .envs .now) (s .args .k .env2) (s .args .k .by2)) (s .args .k .d2)
+    (s .args .args .now) (s .args .k .m)) (s .args .k .m) (shifted (s .args .envs .now) (s .args .k .env) (s .args .k .by)) (s .args .k .d) (s .args .l) (shifted (s .args .envs .now) (s .args .k .env2) 0) (s .args .k .d2)
     (s .args .r) (side false (l .loop .pending)) (l .loop .i) (side true (l .loop .pending)) (l .loop .j) (l .loop .inv .0)
     (side false (p .next-pair .last .1 .1 .1 .1 .0)) (side true (p .next-pair .last .1 .1 .1 .1 .0)) (side false (putMid (g .greater2 .result)
     (length (p .next-pair .last .1 .1 .1 .1 .0) - (g .greater2 .result)) (p .next-pair .last .1 .1 .1 .1 .0)
@@ -844,7 +723,7 @@ eq-stack-loop-less-3 t c =
     (v .eq-value2 .last .1 .1 .1 .1 .1 .1 .1 .0) (g .greater2 .ensures .0) (omega arith)) (agree-back true (o .s3 .given .0 .1 .1 .1 .0)
     (g .greater2 .result) (length (p .next-pair .last .1 .1 .1 .1 .0) - (g .greater2 .result)) (p .next-pair .last .1 .1 .1 .1 .0)
     (v .eq-value2 .last .1 .1 .1 .1 .1 .1 .1 .0) (g .greater2 .ensures .1) (omega arith)) (p .next-pair .ensures (s .args .parts .now))
-    (o .s3 .given .1) (v .eq-value2 .ensures ∙ plain-args _ (s .args .args .now) (s .args .envs .now) _ (s .args .k .d) (o .s3 .given .0 .0) (shifted (s .args .envs .now) (s .args .k .env2) (s .args .k .by2)) (s .args .k .d2) (o .s3 .given .0 .1 .1 .0) (s-current t v .current .ensures)) (not-true (search))) .1
+    (o .s3 .given .1) (given-is (tab (s .args .rows .now) (s .args .parts .now)) (s .args .args .now) (s .args .envs .now) (s .args .k) (o .s3 .given .0 .0) (o .s3 .given .0 .1 .1 .0) (s-context t v .given .ensures) (v .eq-value2 .ensures)) (not-true (search))) .1
 
 eq-stack-loop-again-3 : (t : ℕ) → eq-stack-lts.Need-loop-again-3 (eq-stack-claims t) (eq-stack-at t) eq-stack.Post eq-stack-Inv-loop eq-stack-μ-loop
 eq-stack-loop-again-3 t c =
@@ -857,7 +736,7 @@ eq-stack-loop-again-3 t c =
     let w = given-ends t g in
     let w0 = w .0 in (
       (match-given (tab (s .args .rows .now) (s .args .parts .now)) (argsOf (tab (s .args .rows .now) (s .args .parts .now))
-          (s .args .args .now) (s .args .k .m)) (s .args .k .m) (shifted (s .args .envs .now) (s .args .k .env) (s .args .k .by)) (s .args .k .d) (s .args .l) (shifted (s .args .envs .now) (s .args .k .env2) (s .args .k .by2)) (s .args .k .d2)
+          (s .args .args .now) (s .args .k .m)) (s .args .k .m) (shifted (s .args .envs .now) (s .args .k .env) (s .args .k .by)) (s .args .k .d) (s .args .l) (shifted (s .args .envs .now) (s .args .k .env2) 0) (s .args .k .d2)
           (s .args .r) (side false (l .loop .pending)) (l .loop .i) (side true (l .loop .pending)) (l .loop .j) (l .loop .inv .0)
           (side false (p .next-pair .last .1 .1 .1 .1 .0)) (side true (p .next-pair .last .1 .1 .1 .1 .0)) (side false (putMid (g .greater2 .result)
           (length (p .next-pair .last .1 .1 .1 .1 .0) - (g .greater2 .result)) (p .next-pair .last .1 .1 .1 .1 .0)
@@ -869,7 +748,7 @@ eq-stack-loop-again-3 t c =
           (v .eq-value2 .last .1 .1 .1 .1 .1 .1 .1 .0) (g .greater2 .ensures .0) (omega arith)) (agree-back true (o .s3 .given .0 .1 .1 .1 .0)
           (g .greater2 .result) (length (p .next-pair .last .1 .1 .1 .1 .0) - (g .greater2 .result)) (p .next-pair .last .1 .1 .1 .1 .0)
           (v .eq-value2 .last .1 .1 .1 .1 .1 .1 .1 .0) (g .greater2 .ensures .1) (omega arith)) (p .next-pair .ensures (s .args .parts .now))
-          (o .s3 .given .1) (v .eq-value2 .ensures ∙ plain-args _ (s .args .args .now) (s .args .envs .now) _ (s .args .k .d) (o .s3 .given .0 .0) (shifted (s .args .envs .now) (s .args .k .env2) (s .args .k .by2)) (s .args .k .d2) (o .s3 .given .0 .1 .1 .0) (s-current t v .current .ensures)) (not-true (search))) .0,
+          (o .s3 .given .1) (given-is (tab (s .args .rows .now) (s .args .parts .now)) (s .args .args .now) (s .args .envs .now) (s .args .k) (o .s3 .given .0 .0) (o .s3 .given .0 .1 .1 .0) (s-context t v .given .ensures) (v .eq-value2 .ensures)) (not-true (search))) .0,
       same-len-mid (g .greater2 .result) (length (p .next-pair .last .1 .1 .1 .1 .0) - (g .greater2 .result)) (p .next-pair .last .1 .1 .1 .1 .0)
           (v .eq-value2 .last .1 .1 .1 .1 .1 .1 .1 .0) (v .eq-value2 .kept .1 .1 .1 .1 .1 .1 .1 .0) ∙ p .next-pair .kept .1 .1 .1 .1 .0
           ∙ l .loop .inv .1,
@@ -878,23 +757,32 @@ eq-stack-loop-again-3 t c =
 abbrev V-Start : ℕ → Type 0
 V-Start t = eq-value-lts.Start (eq-value-claims t) (eq-value-at t) eq-value.Post
 
-abbrev V-Current : ℕ → Type 0
-V-Current t = eq-value-lts.After-current (eq-value-claims t) (eq-value-at t) eq-value.Post
-
 abbrev V-Read : ℕ → Type 0
-V-Read t = eq-value-lts.After-left-value (eq-value-claims t) (eq-value-at t) eq-value.Post
+V-Read t = eq-value-lts.After-value-in (eq-value-claims t) (eq-value-at t) eq-value.Post
 
 abbrev V-Read2 : ℕ → Type 0
-V-Read2 t = eq-value-lts.After-right-value (eq-value-claims t) (eq-value-at t) eq-value.Post
+V-Read2 t = eq-value-lts.After-value-in2 (eq-value-claims t) (eq-value-at t) eq-value.Post
 
 abbrev V-Pair : ℕ → Type 0
 V-Pair t = eq-value-lts.After-pair-up (eq-value-claims t) (eq-value-at t) eq-value.Post
 
-abbrev V-At : ℕ → Type 0
-V-At t = eq-value-lts.After-at (eq-value-claims t) (eq-value-at t) eq-value.Post
+abbrev V-Tuples : ℕ → Type 0
+V-Tuples t = eq-value-lts.After-p (eq-value-claims t) (eq-value-at t) eq-value.Post
 
-abbrev V-Is : ℕ → Type 0
-V-Is t = eq-value-lts.After-is-stack (eq-value-claims t) (eq-value-at t) eq-value.Post
+abbrev V-Pointers : ℕ → Type 0
+V-Pointers t = eq-value-lts.After-p2 (eq-value-claims t) (eq-value-at t) eq-value.Post
+
+abbrev V-Codes : ℕ → Type 0
+V-Codes t = eq-value-lts.After-p3 (eq-value-claims t) (eq-value-at t) eq-value.Post
+
+abbrev V-Inside : ℕ → Type 0
+V-Inside t = eq-value-lts.After-p4 (eq-value-claims t) (eq-value-at t) eq-value.Post
+
+abbrev V-Under : ℕ → Type 0
+V-Under t = eq-value-lts.After-under (eq-value-claims t) (eq-value-at t) eq-value.Post
+
+abbrev V-Stacks : ℕ → Type 0
+V-Stacks t = eq-value-lts.After-eq-stack2 (eq-value-claims t) (eq-value-at t) eq-value.Post
 
 abbrev v-read : (t : ℕ) → V-Pair t → V-Read t
 v-read t c = search
@@ -905,278 +793,207 @@ v-read2 t c = search
 abbrev v-start : (t : ℕ) → V-Pair t → V-Start t
 v-start t c = search
 
+-- what is left names lower rows, or that of an argument
+v-ok : (t : ℕ) (u : V-Pair t) {q : Pair} → u .pair-up .result ≡ q → OkP (v-start t u .args .args .now) (v-start t u .args .k .m) (v-start t u .args .l) (v-start t u .args .r) q
+v-ok t u e =
+    let s = v-start t u in
+    pair-ok (tab (s .args .rows .now) (s .args .parts .now)) (s .args .args .now) (s .args .k .m) (s .args .l) (s .args .r)
+    (v-read t u .value-in .result) (v-read2 t u .value-in2 .result) (v-read t u .value-in .ensures .1) (v-read2 t u .value-in2 .ensures .1) (u .pair-up .ensures) e
+
+-- and decides
+v-is : (t : ℕ) (u : V-Pair t) {q : Pair} → u .pair-up .result ≡ q → let s = v-start t u in let τ = tab (s .args .rows .now) (s .args .parts .now) in let A = argsOf τ (s .args .args .now) (s .args .k .m) in let ρ = shifted (s .args .envs .now) (s .args .k .env) (s .args .k .by) in let ρ₂ = shifted (s .args .envs .now) (s .args .k .env2) 0 in onPair τ A ρ (s .args .k .d) ρ₂ (s .args .k .d2) (s .args .l) (s .args .r) q ≡ fitValues τ A ρ (s .args .k .d) (s .args .l) ρ₂ (s .args .k .d2) (s .args .r)
+v-is t u e =
+    let s = v-start t u in
+    value-pair (tab (s .args .rows .now) (s .args .parts .now)) (s .args .args .now) (s .args .k .m)
+    (shifted (s .args .envs .now) (s .args .k .env) (s .args .k .by)) (s .args .k .d) (shifted (s .args .envs .now) (s .args .k .env2) 0)
+    (s .args .k .d2) (s .args .l) (s .args .r) (v-read t u .value-in .ensures .0) (v-read t u .value-in .ensures .1)
+    (v-read2 t u .value-in2 .ensures .0) (v-read2 t u .value-in2 .ensures .1) (u .pair-up .ensures) e
+
 eq-value-returns : (t : ℕ) → eq-value-lts.Need-returns (eq-value-claims t) (eq-value-at t) eq-value.Post
 eq-value-returns t c =
     let s2 : eq-value-lts.After-same-place (eq-value-claims t) (eq-value-at t) eq-value.Post = search in
     let s : V-Start t = search in
     place-value _ _ (s .args .envs .now) (s .args .k) _ _ (s2 .same-place .ensures) (search)
 
-eq-value-returns-2 : (t : ℕ) → eq-value-lts.Need-returns-2 (eq-value-claims t) (eq-value-at t) eq-value.Post
-eq-value-returns-2 t c =
-    let i : eq-value-lts.Then2 (eq-value-claims t) (eq-value-at t) eq-value.Post = search in
-    let b : V-Is t = search in
-    let a : V-At t = search in
-    let p : eq-value-lts.After-p (eq-value-claims t) (eq-value-at t) eq-value.Post = search in
-    let u : V-Pair t = search in
-    let v = v-read t u in
-    let w = v-read2 t u in
-    let s = v-start t u in
-    let ok = pair-ok (s .args .k .m) (s .args .l) (s .args .r) (v .left-value .result) (w .right-value .result) (v .left-value .ensures .1) (w .right-value .ensures .1) (u .pair-up .ensures) (p .p .given .1) in
-    filled-not (tab (s .args .rows .now) (s .args .parts .now)) (s .args .args .now) (s .args .envs .now) (s .args .k .m) (s .args .k .d)
-    (shifted (s .args .envs .now) (s .args .k .env2) (s .args .k .by2)) (s .args .k .d2) (s .args .r) (p .p .given .0 .0) (a .at .result) ok (a .at .ensures .0) (b .is-stack .ensures)
-    (i .if2 .taken) ∙ value-pair (tab (s .args .rows .now) (s .args .parts .now)) (argsOf (tab (s .args .rows .now) (s .args .parts .now))
-    (s .args .args .now) (s .args .k .m)) (shifted (s .args .envs .now) (s .args .k .env) (s .args .k .by)) (s .args .k .d) (shifted (s .args .envs .now) (s .args .k .env2) (s .args .k .by2)) (s .args .k .d2) (s .args .k .m) (s .args .l)
-    (s .args .r) (length-args (tab (s .args .rows .now) (s .args .parts .now)) (s .args .args .now) (s .args .k .m))
-    (v .left-value .ensures .0) (w .right-value .ensures .0) (w .right-value .ensures .1) (u .pair-up .ensures) (p .p .given .1)
-
-eq-value-left-value-requires : (t : ℕ) → eq-value-lts.Need-left-value-requires (eq-value-claims t) (eq-value-at t) eq-value.Post
-eq-value-left-value-requires t c κs =
+eq-value-value-in-requires : (t : ℕ) → eq-value-lts.Need-value-in-requires (eq-value-claims t) (eq-value-at t) eq-value.Post
+eq-value-value-in-requires t c κs =
     let s : V-Start t = search in
-    let rs = s .pre .1 .1 in
     let fl = few-left (tab (s .args .rows .now) (s .args .parts .now)) (s .args .args .now) (s .pre .1 .0) in
-    (omega arith, left-in rs)
+    (omega arith, left-in (s .pre .1 .1))
 
-eq-value-right-value-requires : (t : ℕ) → eq-value-lts.Need-right-value-requires (eq-value-claims t) (eq-value-at t) eq-value.Post
-eq-value-right-value-requires t c κs =
+eq-value-value-in-requires-2 : (t : ℕ) → eq-value-lts.Need-value-in-requires-2 (eq-value-claims t) (eq-value-at t) eq-value.Post
+eq-value-value-in-requires-2 t c κs =
     let s : V-Start t = search in
-    let rs = s .pre .1 .1 in
     let fr = few-right (tab (s .args .rows .now) (s .args .parts .now)) (s .args .args .now) (s .pre .1 .0) in
-    (omega arith, right-in rs)
+    (omega arith, right-in (s .pre .1 .1))
 
-eq-value-add-t45 : (t : ℕ) → eq-value-lts.Need-add-t45 (eq-value-claims t) (eq-value-at t) eq-value.Post
-eq-value-add-t45 t c =
+eq-value-pair-up-requires : (t : ℕ) → eq-value-lts.Need-pair-up-requires (eq-value-claims t) (eq-value-at t) eq-value.Post
+eq-value-pair-up-requires t c κs =
     let s : V-Start t = search in
-    let rs = s .pre .1 .1 in
-    omega arith
+    let v : V-Read t = search in
+    let w : V-Read2 t = search in
+    (placed-form (s .args .k .m) (s .args .l) (v .value-in .result) (v .value-in .ensures .1), placed-form 0 (s .args .r) (w .value-in2 .result) (w .value-in2 .ensures .1))
 
-eq-value-add-t46 : (t : ℕ) → eq-value-lts.Need-add-t46 (eq-value-claims t) (eq-value-at t) eq-value.Post
-eq-value-add-t46 t c =
-    let s : V-Start t = search in
-    let rs = s .pre .1 .1 in
-    omega arith
-
-eq-value-eq-value-requires : (t : ℕ) → eq-value-lts.Need-eq-value-requires (eq-value-claims t) (eq-value-at t) eq-value.Post
-eq-value-eq-value-requires t c κs =
-    let u2 : V-Current t = search in
-    let z = u2 .current .ensures in
-    let a : V-At t = search in
-    let p : eq-value-lts.After-p (eq-value-claims t) (eq-value-at t) eq-value.Post = search in
+eq-value-components-requires : (t : ℕ) → eq-value-lts.Need-components-requires (eq-value-claims t) (eq-value-at t) eq-value.Post
+eq-value-components-requires t c κs =
+    let p : V-Tuples t = search in
     let u : V-Pair t = search in
-    let v = v-read t u in
-    let w = v-read2 t u in
-    let s = v-start t u in
-    let ok = pair-ok (s .args .k .m) (s .args .l) (s .args .r) (v .left-value .result) (w .right-value .result) (v .left-value .ensures .1) (w .right-value .ensures .1) (u .pair-up .ensures) (p .p .given .1) in
-    let t0 = s .pre .0 in
-    let rs = s .pre .1 .1 in
-    let b = big-of (p .p .given .0 .0) (s .args .k .m) ok in
-    let q = a .at .ensures .1 in
-    let e = a .at .ensures .0 in
-    let f = few-arg (tab (s .args .rows .now) (s .args .parts .now)) (s .args .args .now) (p .p .given .0 .0) (s .pre .1 .0) ok in (
-      omega arith,
-      (
-        tabled-arg (tab (s .args .rows .now) (s .args .parts .now)) (s .args .args .now) (p .p .given .0 .0) (a .at .result)
-            (s .args .r) (s .pre .1 .0) ok (a .at .ensures .0) (omega arith),
-        record { left = omega arith; right = rs .right; envs = rs .envs; env = omega arith; env2 = rs .env2 },
-        spare-arg
-            (s .args .k .m) (s .args .l) (s .args .r) _ (a .at .result + 1) (p .p .given .0 .0) (s .pre .1 .2) ok (omega arith),
-      ),
-    )
-
-eq-value-cast-t36 : (t : ℕ) → eq-value-lts.Need-cast-t36 (eq-value-claims t) (eq-value-at t) eq-value.Post
-eq-value-cast-t36 t c =
-    let p : eq-value-lts.After-p2 (eq-value-claims t) (eq-value-at t) eq-value.Post = search in
-    let u : V-Pair t = search in
-    let v = v-read t u in
-    let w = v-read2 t u in
-    let s = v-start t u in
-    let ok = pair-ok (s .args .k .m) (s .args .l) (s .args .r) (v .left-value .result) (w .right-value .result) (v .left-value .ensures .1) (w .right-value .ensures .1) (u .pair-up .ensures) (p .p2 .given .1) in
-    let o0 = ok .0 in
-    let o1 = ok .1 in
-    let o2 = ok .2 in
-    record { fits = omega arith }
-
-eq-value-cast-t37 : (t : ℕ) → eq-value-lts.Need-cast-t37 (eq-value-claims t) (eq-value-at t) eq-value.Post
-eq-value-cast-t37 t c =
-    let p : eq-value-lts.After-p2 (eq-value-claims t) (eq-value-at t) eq-value.Post = search in
-    let u : V-Pair t = search in
-    let v = v-read t u in
-    let w = v-read2 t u in
-    let s = v-start t u in
-    let ok = pair-ok (s .args .k .m) (s .args .l) (s .args .r) (v .left-value .result) (w .right-value .result) (v .left-value .ensures .1) (w .right-value .ensures .1) (u .pair-up .ensures) (p .p2 .given .1) in
-    let o0 = ok .0 in
-    let o1 = ok .1 in
-    let o2 = ok .2 in
-    record { fits = omega arith }
-
-eq-value-cast-t38 : (t : ℕ) → eq-value-lts.Need-cast-t38 (eq-value-claims t) (eq-value-at t) eq-value.Post
-eq-value-cast-t38 t c =
-    let p : eq-value-lts.After-p2 (eq-value-claims t) (eq-value-at t) eq-value.Post = search in
-    let u : V-Pair t = search in
-    let v = v-read t u in
-    let w = v-read2 t u in
-    let s = v-start t u in
-    let ok = pair-ok (s .args .k .m) (s .args .l) (s .args .r) (v .left-value .result) (w .right-value .result) (v .left-value .ensures .1) (w .right-value .ensures .1) (u .pair-up .ensures) (p .p2 .given .1) in
-    let o0 = ok .0 in
-    let o1 = ok .1 in
-    let o2 = ok .2 in
-    record { fits = omega arith }
+    let ok = v-ok t u (p .p .given .1) in
+    (ok .0, ok .1, ok .2)
 
 eq-value-eq-parts-requires : (t : ℕ) → eq-value-lts.Need-eq-parts-requires (eq-value-claims t) (eq-value-at t) eq-value.Post
 eq-value-eq-parts-requires t c κs =
-    let p : eq-value-lts.After-p2 (eq-value-claims t) (eq-value-at t) eq-value.Post = search in
+    let g : eq-value-lts.After-components (eq-value-claims t) (eq-value-at t) eq-value.Post = search in
+    let p : V-Tuples t = search in
     let u : V-Pair t = search in
-    let v = v-read t u in
-    let w = v-read2 t u in
     let s = v-start t u in
-    let ok = pair-ok (s .args .k .m) (s .args .l) (s .args .r) (v .left-value .result) (w .right-value .result) (v .left-value .ensures .1) (w .right-value .ensures .1) (u .pair-up .ensures) (p .p2 .given .1) in
+    let ok = v-ok t u (p .p .given .1) in
     let t0 = s .pre .0 in
     let rs = s .pre .1 .1 in
-    let o0 = ok .0 in
-    let o1 = ok .1 in
-    let o2 = ok .2 in
-    (omega arith, (s .pre .1 .0, record { left = omega arith; right = omega arith; left-row = ok .3; right-row = ok .4; envs = rs .envs; env = rs .env; env2 = rs .env2 }, record { few = o2; left = omega arith; right = omega arith }, s .pre .1 .2))
+    let rl = rs .left in
+    let rr = rs .right in
+    (omega arith, (s .pre .1 .0, record { left = omega arith; right = omega arith; left-row = ok .3; right-row = ok .4; envs = rs .envs; env = rs .env; env2 = rs .env2 }, span-in false _ _ _ (g .components .ensures) (ok .0) (ok .1) (ok .2), s .pre .1 .2))
 
 eq-value-eq-stack-requires : (t : ℕ) → eq-value-lts.Need-eq-stack-requires (eq-value-claims t) (eq-value-at t) eq-value.Post
 eq-value-eq-stack-requires t c κs =
-    let p : eq-value-lts.After-p3 (eq-value-claims t) (eq-value-at t) eq-value.Post = search in
+    let p : V-Pointers t = search in
     let u : V-Pair t = search in
-    let v = v-read t u in
-    let w = v-read2 t u in
     let s = v-start t u in
-    let ok = pair-ok (s .args .k .m) (s .args .l) (s .args .r) (v .left-value .result) (w .right-value .result) (v .left-value .ensures .1) (w .right-value .ensures .1) (u .pair-up .ensures) (p .p3 .given .1) in
+    let ok = v-ok t u (p .p2 .given .1) in
     let t0 = s .pre .0 in
     let rs = s .pre .1 .1 in
+    let rl = rs .left in
+    let rr = rs .right in
     let o0 = ok .0 in
     let o1 = ok .1 in (
       omega arith,
       (
-        tabled-low (tab (s .args .rows .now) (s .args .parts .now)) (s .args .args .now) (p .p3 .given .0 .0)
-            (p .p3 .given .0 .1 .0) (s .pre .1 .0) (omega arith) (omega arith),
-        search needs,
-        spare-low (s .args .k .m) (s .args .l) (s .args .r)
-            _ (p .p3 .given .0 .0) (p .p3 .given .0 .1 .0) (s .pre .1 .2) (omega arith) (omega arith),
+        tabled-low (tab (s .args .rows .now) (s .args .parts .now)) (s .args .args .now) _ _ (s .pre .1 .0) (omega arith) (omega arith),
+        record { left = omega arith; right = omega arith; envs = rs .envs; env = rs .env; env2 = rs .env2 },
+        spare-low (s .args .k .m) (s .args .l) (s .args .r) _ _ _ (s .pre .1 .2) (omega arith) (omega arith),
       ),
     )
 
-eq-value-eq-value-requires-2 : (t : ℕ) → eq-value-lts.Need-eq-value-requires-2 (eq-value-claims t) (eq-value-at t) eq-value.Post
-eq-value-eq-value-requires-2 t c κs =
-    let p : eq-value-lts.After-p5 (eq-value-claims t) (eq-value-at t) eq-value.Post = search in
+eq-value-under-requires : (t : ℕ) → eq-value-lts.Need-under-requires (eq-value-claims t) (eq-value-at t) eq-value.Post
+eq-value-under-requires t c κs =
+    let p : V-Codes t = search in
     let u : V-Pair t = search in
-    let v = v-read t u in
-    let w = v-read2 t u in
+    let ok = v-ok t u (p .p3 .given .1) in
+    (depths-in (v-start t u .pre .1 .1), ok .1, ok .3)
+
+eq-value-eq-stack-requires-2 : (t : ℕ) → eq-value-lts.Need-eq-stack-requires-2 (eq-value-claims t) (eq-value-at t) eq-value.Post
+eq-value-eq-stack-requires-2 t c κs =
+    let d : V-Under t = search in
+    let p : V-Codes t = search in
+    let u : V-Pair t = search in
     let s = v-start t u in
-    let ok = pair-ok (s .args .k .m) (s .args .l) (s .args .r) (v .left-value .result) (w .right-value .result) (v .left-value .ensures .1) (w .right-value .ensures .1) (u .pair-up .ensures) (p .p5 .given .1) in
+    let ok = v-ok t u (p .p3 .given .1) in
+    let e = d .under .ensures in
+    let a = stacks-ask (tab (s .args .rows .now) (s .args .parts .now)) (s .args .args .now) (s .args .envs .now) (s .args .k) (s .args .l) (s .args .r) _ (s .pre .1 .0) (s .pre .1 .1) (s .pre .1 .2) _ _ (e .0) (e .1) (e .2) _ _ (ok .0) (ok .2) in
     let t0 = s .pre .0 in
-    let rs = s .pre .1 .1 in
+    let a0 = a .0 in
+    (omega arith, (a .1, a .2, a .3))
+
+eq-value-returns-2 : (t : ℕ) → eq-value-lts.Need-returns-2 (eq-value-claims t) (eq-value-at t) eq-value.Post
+eq-value-returns-2 t c =
+    let e : V-Stacks t = search in
+    let d : V-Under t = search in
+    let p : V-Codes t = search in
+    let u : V-Pair t = search in
+    let s = v-start t u in
+    codes-not (tab (s .args .rows .now) (s .args .parts .now)) (s .args .args .now) (s .args .envs .now) (s .args .k) (s .args .l) (s .args .r) _ _ _ _ (d .under .ensures .0) (e .eq-stack2 .ensures) (not-false (search)) ∙ v-is t u (p .p3 .given .1)
+
+eq-value-registers-requires : (t : ℕ) → eq-value-lts.Need-registers-requires (eq-value-claims t) (eq-value-at t) eq-value.Post
+eq-value-registers-requires t c κs =
+    let p : V-Codes t = search in
+    let u : V-Pair t = search in
+    let ok = v-ok t u (p .p3 .given .1) in
+    (ok .1, ok .3)
+
+eq-value-eq-parts-requires-2 : (t : ℕ) → eq-value-lts.Need-eq-parts-requires-2 (eq-value-claims t) (eq-value-at t) eq-value.Post
+eq-value-eq-parts-requires-2 t c κs =
+    let g : eq-value-lts.After-registers (eq-value-claims t) (eq-value-at t) eq-value.Post = search in
+    let e : V-Stacks t = search in
+    let d : V-Under t = search in
+    let p : V-Codes t = search in
+    let u : V-Pair t = search in
+    let s = v-start t u in
+    let ok = v-ok t u (p .p3 .given .1) in
     let o0 = ok .0 in
-    let o1 = ok .1 in (
-      omega arith,
-      (
-        tabled-low (tab (s .args .rows .now) (s .args .parts .now)) (s .args .args .now) (p .p5 .given .0 .0)
-            (p .p5 .given .0 .1 .0) (s .pre .1 .0) (omega arith) (omega arith),
-        search needs,
-        spare-low (s .args .k .m) (s .args .l) (s .args .r)
-            _ (p .p5 .given .0 .0) (p .p5 .given .0 .1 .0) (s .pre .1 .2) (omega arith) (omega arith),
-      ),
-    )
-
-eq-value-eq-code-requires : (t : ℕ) → eq-value-lts.Need-eq-code-requires (eq-value-claims t) (eq-value-at t) eq-value.Post
-eq-value-eq-code-requires t c κs =
-    let p : eq-value-lts.After-p4 (eq-value-claims t) (eq-value-at t) eq-value.Post = search in
-    let u : V-Pair t = search in
-    let v = v-read t u in
-    let w = v-read2 t u in
-    let s = v-start t u in
-    let ok = pair-ok (s .args .k .m) (s .args .l) (s .args .r) (v .left-value .result) (w .right-value .result) (v .left-value .ensures .1) (w .right-value .ensures .1) (u .pair-up .ensures) (p .p4 .given .1) in
+    let o2 = ok .2 in
+    let f = d .under .ensures in
+    let a = files-ask (tab (s .args .rows .now) (s .args .parts .now)) (s .args .args .now) (s .args .envs .now) (s .args .k) (s .args .l) (s .args .r) _ (s .pre .1 .0) (s .pre .1 .1) (s .pre .1 .2) _ _ (f .0) (f .1) (f .2) (omega arith) (omega arith) in
     let t0 = s .pre .0 in
+    let a0 = a .0 in
+    (omega arith, (a .1, a .2, span-in true _ _ _ (g .registers .ensures) (ok .1) (ok .3) (omega arith), spare-kept (d .under .result .m) (s .args .l) (s .args .r) _ _ (a .3) (e .eq-stack2 .kept .1 .1 .1 .1 .1 .1 .1 .0)))
+
+eq-value-inside-requires : (t : ℕ) → eq-value-lts.Need-inside-requires (eq-value-claims t) (eq-value-at t) eq-value.Post
+eq-value-inside-requires t c κs =
+    let s : V-Start t = search in
     let rs = s .pre .1 .1 in
-    (omega arith, (s .pre .1 .0, rs, record { left-stack = ok .0; left-file = ok .1; right-stack = ok .2; right-file = ok .3 }, s .pre .1 .2))
+    let re = rs .envs in
+    (depths-in rs, omega arith)
+
+eq-value-eq-value-requires : (t : ℕ) → eq-value-lts.Need-eq-value-requires (eq-value-claims t) (eq-value-at t) eq-value.Post
+eq-value-eq-value-requires t c κs =
+    let d : eq-value-lts.After-inside (eq-value-claims t) (eq-value-at t) eq-value.Post = search in
+    let p : V-Inside t = search in
+    let u : V-Pair t = search in
+    let s = v-start t u in
+    let a = inside-asks (tab (s .args .rows .now) (s .args .parts .now)) (s .args .args .now) (s .args .envs .now) (s .args .k) (s .args .l) (s .args .r) _ (s .pre .1 .0) (s .pre .1 .1) (s .pre .1 .2) (p .p4 .given .0 .0) (p .p4 .given .0 .1 .0) (p .p4 .given .0 .1 .1 .0) (d .inside .ensures) (v-ok t u (p .p4 .given .1)) in
+    let t0 = s .pre .0 in
+    let a0 = a .0 in
+    (omega arith, (a .1, a .2, a .3))
 
 eq-value-returns-3 : (t : ℕ) → eq-value-lts.Need-returns-3 (eq-value-claims t) (eq-value-at t) eq-value.Post
 eq-value-returns-3 t c =
     let u : V-Pair t = search in
-    let v = v-read t u in
-    let w = v-read2 t u in
-    let s = v-start t u in
-    value-pair _ _ _ _ _ _ _ _ _ (length-args _ _ _) (v .left-value .ensures .0) (w .right-value .ensures .0) (w .right-value .ensures .1) (u .pair-up .ensures) (c .enum-told .given .1)
+    v-is t u (c .enum-told .given .1)
 
 eq-value-returns-4 : (t : ℕ) → eq-value-lts.Need-returns-4 (eq-value-claims t) (eq-value-at t) eq-value.Post
 eq-value-returns-4 t c =
     let u : V-Pair t = search in
-    let v = v-read t u in
-    let w = v-read2 t u in
-    let s = v-start t u in
-    value-pair _ _ _ _ _ _ _ _ _ (length-args _ _ _) (v .left-value .ensures .0) (w .right-value .ensures .0) (w .right-value .ensures .1) (u .pair-up .ensures) (c .enum-told2 .given .1)
+    v-is t u (c .enum-told2 .given .1)
 
 eq-value-returns-5 : (t : ℕ) → eq-value-lts.Need-returns-5 (eq-value-claims t) (eq-value-at t) eq-value.Post
 eq-value-returns-5 t c =
-    let u2 : V-Current t = search in
-    let e : eq-value-lts.After-eq-value (eq-value-claims t) (eq-value-at t) eq-value.Post = search in
-    let i : eq-value-lts.Else2 (eq-value-claims t) (eq-value-at t) eq-value.Post = search in
-    let b : V-Is t = search in
-    let a : V-At t = search in
-    let p : eq-value-lts.After-p (eq-value-claims t) (eq-value-at t) eq-value.Post = search in
+    let e : eq-value-lts.After-eq-parts (eq-value-claims t) (eq-value-at t) eq-value.Post = search in
+    let g : eq-value-lts.After-components (eq-value-claims t) (eq-value-at t) eq-value.Post = search in
+    let p : V-Tuples t = search in
     let u : V-Pair t = search in
-    let v = v-read t u in
-    let w = v-read2 t u in
     let s = v-start t u in
-    let ok = pair-ok (s .args .k .m) (s .args .l) (s .args .r) (v .left-value .result) (w .right-value .result) (v .left-value .ensures .1) (w .right-value .ensures .1) (u .pair-up .ensures) (p .p .given .1) in
-    filled-value (tab (s .args .rows .now) (s .args .parts .now)) (s .args .args .now) (s .args .envs .now) (s .args .k .m) (s .args .k .d)
-    (shifted (s .args .envs .now) (s .args .k .env2) (s .args .k .by2)) (s .args .k .d2) (s .args .r) (p .p .given .0 .0) (a .at .result) ok (a .at .ensures .0) (u2 .current .ensures) (b .is-stack .ensures)
-    (i .if2 .left) (e .eq-value .ensures) ∙ value-pair (tab (s .args .rows .now) (s .args .parts .now))
-    (argsOf (tab (s .args .rows .now) (s .args .parts .now)) (s .args .args .now) (s .args .k .m)) (shifted (s .args .envs .now) (s .args .k .env) (s .args .k .by)) (s .args .k .d)
-    (shifted (s .args .envs .now) (s .args .k .env2) (s .args .k .by2)) (s .args .k .d2) (s .args .k .m) (s .args .l) (s .args .r) (length-args (tab (s .args .rows .now)
-    (s .args .parts .now)) (s .args .args .now) (s .args .k .m)) (v .left-value .ensures .0) (w .right-value .ensures .0)
-    (w .right-value .ensures .1) (u .pair-up .ensures) (p .p .given .1)
+    tuples-are (tab (s .args .rows .now) (s .args .parts .now)) (s .args .args .now) (s .args .envs .now) (s .args .k) (s .args .l) (s .args .r) _ _ _ (g .components .ensures) (e .eq-parts .ensures) ∙ v-is t u (p .p .given .1)
 
 eq-value-returns-6 : (t : ℕ) → eq-value-lts.Need-returns-6 (eq-value-claims t) (eq-value-at t) eq-value.Post
 eq-value-returns-6 t c =
-    let e : eq-value-lts.After-eq-parts (eq-value-claims t) (eq-value-at t) eq-value.Post = search in
-    let p : eq-value-lts.After-p2 (eq-value-claims t) (eq-value-at t) eq-value.Post = search in
+    let e : eq-value-lts.After-eq-stack (eq-value-claims t) (eq-value-at t) eq-value.Post = search in
+    let p : V-Pointers t = search in
     let u : V-Pair t = search in
-    let v = v-read t u in
-    let w = v-read2 t u in
-    let s = v-start t u in
-    e .eq-parts .ensures ∙ value-pair _ _ _ _ _ _ _ _ _ (length-args _ _ _) (v .left-value .ensures .0) (w .right-value .ensures .0) (w .right-value .ensures .1) (u .pair-up .ensures) (p .p2 .given .1)
+    e .eq-stack .ensures ∙ v-is t u (p .p2 .given .1)
 
 eq-value-returns-7 : (t : ℕ) → eq-value-lts.Need-returns-7 (eq-value-claims t) (eq-value-at t) eq-value.Post
 eq-value-returns-7 t c =
-    let e : eq-value-lts.After-eq-stack (eq-value-claims t) (eq-value-at t) eq-value.Post = search in
-    let p : eq-value-lts.After-p3 (eq-value-claims t) (eq-value-at t) eq-value.Post = search in
+    let h : eq-value-lts.After-eq-parts2 (eq-value-claims t) (eq-value-at t) eq-value.Post = search in
+    let g : eq-value-lts.After-registers (eq-value-claims t) (eq-value-at t) eq-value.Post = search in
+    let e : V-Stacks t = search in
+    let d : V-Under t = search in
+    let p : V-Codes t = search in
     let u : V-Pair t = search in
-    let v = v-read t u in
-    let w = v-read2 t u in
     let s = v-start t u in
-    e .eq-stack .ensures ∙ value-pair _ _ _ _ _ _ _ _ _ (length-args _ _ _) (v .left-value .ensures .0) (w .right-value .ensures .0) (w .right-value .ensures .1) (u .pair-up .ensures) (p .p3 .given .1)
+    codes-are (tab (s .args .rows .now) (s .args .parts .now)) (s .args .args .now) (s .args .envs .now) (s .args .k) (s .args .l) (s .args .r) _ _ _ _ (d .under .ensures .0) (e .eq-stack2 .ensures) (not-true (search)) (g .registers .ensures) (h .eq-parts2 .ensures) ∙ v-is t u (p .p3 .given .1)
 
 eq-value-returns-8 : (t : ℕ) → eq-value-lts.Need-returns-8 (eq-value-claims t) (eq-value-at t) eq-value.Post
 eq-value-returns-8 t c =
-    let e : eq-value-lts.After-eq-code (eq-value-claims t) (eq-value-at t) eq-value.Post = search in
-    let p : eq-value-lts.After-p4 (eq-value-claims t) (eq-value-at t) eq-value.Post = search in
+    let e : eq-value-lts.After-eq-value (eq-value-claims t) (eq-value-at t) eq-value.Post = search in
+    let d : eq-value-lts.After-inside (eq-value-claims t) (eq-value-at t) eq-value.Post = search in
+    let p : V-Inside t = search in
     let u : V-Pair t = search in
-    let v = v-read t u in
-    let w = v-read2 t u in
     let s = v-start t u in
-    e .eq-code .ensures ∙ value-pair _ _ _ _ _ _ _ _ _ (length-args _ _ _) (v .left-value .ensures .0) (w .right-value .ensures .0) (w .right-value .ensures .1) (u .pair-up .ensures) (p .p4 .given .1)
+    inside-is (tab (s .args .rows .now) (s .args .parts .now)) (s .args .args .now) (s .args .envs .now) (s .args .k) (s .args .l) (s .args .r) (p .p4 .given .0 .0) (p .p4 .given .0 .1 .0) (p .p4 .given .0 .1 .1 .0) (d .inside .ensures) (e .eq-value .ensures) ∙ v-is t u (p .p4 .given .1)
 
-eq-value-returns-9 : (t : ℕ) → eq-value-lts.Need-returns-9 (eq-value-claims t) (eq-value-at t) eq-value.Post
-eq-value-returns-9 t c =
-    let e : eq-value-lts.After-eq-value2 (eq-value-claims t) (eq-value-at t) eq-value.Post = search in
-    let p : eq-value-lts.After-p5 (eq-value-claims t) (eq-value-at t) eq-value.Post = search in
-    let u : V-Pair t = search in
-    let v = v-read t u in
-    let w = v-read2 t u in
-    let s = v-start t u in
-    hiddens-are _ _ _ _ _ _ _ _ (e .eq-value2 .ensures) ∙ value-pair _ _ _ _ _ _ _ _ _ (length-args _ _ _) (v .left-value .ensures .0) (w .right-value .ensures .0) (w .right-value .ensures .1) (u .pair-up .ensures) (p .p5 .given .1)
-
-pub +eq-code+eq-parts+eq-stack+eq-value-spec : {M : Type 1} → statement M
-+eq-code+eq-parts+eq-stack+eq-value-spec =
-    close μ-eq-code μ-eq-parts μ-eq-stack μ-eq-value
-    (λ t. eq-code-lts.spec (eq-code-claims t) (eq-code-at t) eq-code.Post (λ c κs. search)
-    (λ c κs. search) (λ c. search needs) (λ c. search needs) (λ c κs. search needs)
-    (λ c. search needs) (λ c. search needs) (λ c. search needs) (λ c. search needs) (λ c. search needs) (λ c. search needs)
-    (eq-code-eq-stack-requires t) (eq-code-cast-t26 t) (eq-code-cast-t27 t) (eq-code-eq-parts-requires t) (λ c. search needs)
-    (eq-code-returns t) (λ c. search) (eq-code-returns-2 t) (eq-code-returns-3 t))
+pub +eq-parts+eq-stack+eq-value-spec : {M : Type 1} → statement M
++eq-parts+eq-stack+eq-value-spec =
+    close μ-eq-parts μ-eq-stack μ-eq-value
     (λ t. eq-parts-lts.spec (eq-parts-claims t) (eq-parts-at t) eq-parts.Post eq-parts-Inv-loop eq-parts-μ-loop (λ c. search needs)
     (λ c. search needs) (λ c. search needs) (eq-parts-loop-holds t) (λ c. search needs) (λ c κs. search)
     (λ c. search needs) (λ c κs. search) (λ c κs. search) (λ c. search) (λ c. search)
@@ -1189,14 +1006,12 @@ pub +eq-code+eq-parts+eq-stack+eq-value-spec : {M : Type 1} → statement M
     (eq-stack-loop-again t) (λ c. search) (λ c κs. search) (eq-stack-mul-eq-value t) (eq-stack-sub-eq-value t)
     (eq-stack-part-eq-value-start t) (λ c. search needs) (eq-stack-eq-value-requires t) (eq-stack-same-length-3 t)
     (eq-stack-returns-4 t) (eq-stack-loop-less-2 t) (eq-stack-loop-again-2 t) (λ c. search) (λ c κs. search)
-    (eq-stack-current-requires t) (eq-stack-mul-eq-value-2 t) (eq-stack-sub-eq-value-2 t) (eq-stack-part-eq-value-start-2 t) (λ c. search needs)
+    (eq-stack-given-requires t) (eq-stack-mul-eq-value-2 t) (eq-stack-sub-eq-value-2 t) (eq-stack-part-eq-value-start-2 t) (λ c. search needs)
     (eq-stack-eq-value-requires-2 t) (eq-stack-same-length-4 t) (eq-stack-returns-5 t) (eq-stack-loop-less-3 t) (eq-stack-loop-again-3 t))
     (λ t. eq-value-lts.spec (eq-value-claims t) (eq-value-at t) eq-value.Post (λ c κs. search) (eq-value-returns t)
-    (eq-value-left-value-requires t) (eq-value-right-value-requires t) (λ c κs. search)
-    (λ c. search) (λ c. search) (λ c. search) (λ c κs. search) (λ c κs. search needs)
-    (eq-value-returns-2 t) (λ c κs. search needs) (λ c. search needs) (eq-value-eq-value-requires t) (λ c. search) (eq-value-cast-t36 t)
-    (eq-value-cast-t37 t) (eq-value-cast-t38 t) (eq-value-eq-parts-requires t) (λ c. search) (eq-value-eq-stack-requires t)
-    (λ c. search) (eq-value-eq-code-requires t) (λ c. search) (eq-value-add-t45 t) (eq-value-add-t46 t) (eq-value-eq-value-requires-2 t)
-    (eq-value-returns-3 t) (eq-value-returns-4 t) (λ c. search)
-    (eq-value-returns-5 t) (λ c. search) (eq-value-returns-6 t) (λ c. search) (eq-value-returns-7 t)
-    (λ c. search) (eq-value-returns-8 t) (λ c. search) (eq-value-returns-9 t))
+    (eq-value-value-in-requires t) (eq-value-value-in-requires-2 t) (eq-value-pair-up-requires t) (λ c. search) (λ c. search)
+    (λ c. search) (eq-value-components-requires t) (eq-value-eq-parts-requires t) (λ c. search) (eq-value-eq-stack-requires t)
+    (λ c. search) (eq-value-under-requires t) (eq-value-eq-stack-requires-2 t) (λ c. search) (eq-value-returns-2 t)
+    (eq-value-registers-requires t) (eq-value-eq-parts-requires-2 t) (λ c. search) (eq-value-inside-requires t)
+    (eq-value-eq-value-requires t) (eq-value-returns-3 t) (eq-value-returns-4 t) (λ c. search) (eq-value-returns-5 t) (λ c. search)
+    (eq-value-returns-6 t) (λ c. search needs) (eq-value-returns-7 t) (λ c. search) (eq-value-returns-8 t))
