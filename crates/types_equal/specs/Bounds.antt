@@ -1,4 +1,4 @@
--- What the comparison relies on: few rows, small sums, room for what is pending.
+-- The contexts in which a comparison goes on, and what it relies on: few rows, small sums, room for what is pending.
 use Prim.Native.Nat.{ℕ, zero, suc, _+_, _*_, _≤_, _<_}
 use mathlib.Core.Bool.{Bool, true, false}
 use mathlib.Core.List.{List}

@@ -1,6 +1,6 @@
 // Two value rows side by side (crate types_rows): what is left to compare of their forms, of two parts (components or registers), and
 // whether two code rows have the same letters. The crate's own file goes on with what is left. Promised: each answer is that of
-// specs/value_pairs/Pairs.antt, and of `sameLetters` of crate types, on every input. Asked: that the places of letters are small enough to
+// specs/value_pairs/Pairs.antt, and of `sameLetters` of crate types. Asked: that the places of registers and letters are small enough to
 // be added up.
 use types_rows::Slot;
 use types_rows::Val;

@@ -8,7 +8,7 @@ ghost use Prim.Native.Nat.{ℕ, _+_, _≤_, _<_};
 ghost use lib.ListN.{length, getD};
 ghost use Rattle.types_rows.specs.Environments.{varIn, nameAt, nameIn, shifted, freeAt, EnvironmentIn};
 
-// The variable that stands for a free variable; another row.
+// What a row is to an environment: a row that has nothing to do with it, or a free variable, and the variable that stands for it.
 pub enum Free {
     Other,
     Named(usize),

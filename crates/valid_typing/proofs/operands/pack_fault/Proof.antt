@@ -1,10 +1,14 @@
 -- `valid_typing::operands::pack_fault` meets its contract.
 use native.Mathlib.Omega.{arith}
-use mathlib.Core.Path.{refl, sym, ap, _∙_}
+use mathlib.Core.Path.{_≡_, refl, sym, ap, _∙_}
+use mathlib.Core.Bool.{cond}
+use mathlib.Core.List.{List}
 use Prim.Native.Nat.{ℕ}
+use lib.ListN.{getD}
+use Rattle.syntax.specs.Syntax.{value, stack}
 use Rattle.syntax.proofs.Least.{least}
 use Rattle.types.specs.Types.{kindOf}
-use Rattle.image.specs.Sections.{part, sharedSection, slotSection}
+use Rattle.image.specs.Sections.{part, argSection, sharedSection, slotSection}
 use Rattle.valid_context.specs.Told.{answer}
 use Rattle.valid_typing.specs.Typing.{givenRow, givenArg}
 use Rattle.valid_typing.proofs.operands.Packing.{packed-stop, packed-same}
@@ -36,6 +40,23 @@ fourteen-of t = search
 abbrev least-of : tie.After-least2 → tie.After-least
 least-of t = search
 
+abbrev rows-of : tie.Start → List ℕ
+rows-of s = sharedSection (s .args .p) (s .args .image .now)
+
+abbrev parts-of : tie.Start → List ℕ
+parts-of s = slotSection (s .args .p) (s .args .image .now)
+
+-- the argument's row is of the kind that the code found
+kind-is : (l2 : tie.After-least2) → kindOf (givenArg (rows-of (start-of l2)) (parts-of (start-of l2)) (start-of l2 .args .c .rows) (getD (argSection (start-of l2 .args .p) (start-of l2 .args .image .now)) (start-of l2 .args .o .first) 0)) ≡ cond (stack-of l2 .is-stack-row .result) stack value
+unfolding part
+kind-is l2 =
+    let s = start-of l2 in
+    ap (λ (y : ℕ). kindOf (givenArg (rows-of s) (parts-of s) (s .args .c .rows) y)) (sym (at-of l2 .at .ensures .0)) ∙ stack-of l2 .is-stack-row .ensures (parts-of s)
+
+-- the least of the three faults
+sum-is : (l2 : tie.After-least2) → l2 .least2 .result ≡ least (base-of l2 .base-type .result .fault) (least (cond (stack-of l2 .is-stack-row .result) 14 0) (inside-of l2 .hidden-inside .result .fault))
+sum-is l2 = l2 .least2 .ensures ∙ ap (least (base-of l2 .base-type .result .fault)) (least-of l2 .least .ensures ∙ ap (λ (y : ℕ). least y (inside-of l2 .hidden-inside .result .fault)) (fourteen-of l2 .stack-fault .ensures))
+
 returns : tie.Need-returns
 unfolding part
 returns c =
@@ -44,18 +65,9 @@ returns c =
     let b = base-of l2 in
     let i = inside-of l2 in
     let g = given-of l2 in
-    let t = at-of l2 in
-    let k = stack-of l2 in
-    let f14 = fourteen-of l2 in
-    let l = least-of l2 in
-    let a = s .args in
-    let rows = sharedSection (a .p) (a .image .now) in
-    let parts = slotSection (a .p) (a .image .now) in
-    let st = k .is-stack-row .result in
-    let at-is = ap (λ (y : ℕ). kindOf (givenArg rows parts (a .c .rows) y)) (sym (t .at .ensures .0)) ∙ k .is-stack-row .ensures parts in
-    let sum = l2 .least2 .ensures ∙ ap (least (b .base-type .result .fault)) (l .least .ensures ∙ ap (λ (y : ℕ). least y (i .hidden-inside .result .fault)) (f14 .stack-fault .ensures)) in
-    λ P Δ f h e z. packed-stop rows parts _ (s .pre .0 .ready) P Δ (h .types) _ f _ _ _ st at-is _ _ _ _ _ 0 (b .base-type .ensures .0 P Δ h) (g .given-row .ensures .0)
-    (i .hidden-inside .ensures .0) _ sum (search)
+    let st = stack-of l2 .is-stack-row .result in
+    λ P Δ f h e z. packed-stop (rows-of s) (parts-of s) _ (s .pre .0 .ready) P Δ (h .types) _ f _ _ _ st (kind-is l2) _ _ _ _ _ 0 (b .base-type .ensures .0 P Δ h) (g .given-row .ensures .0)
+    (i .hidden-inside .ensures .0) _ (sum-is l2) (search)
 
 given-row-requires : tie.Need-given-row-requires
 given-row-requires c κs =
@@ -108,17 +120,9 @@ returns-2 c =
     let i = inside-of l2 in
     let g = given-of l2 in
     let t = at-of l2 in
-    let k = stack-of l2 in
-    let f14 = fourteen-of l2 in
-    let l = least-of l2 in
-    let a = s .args in
-    let rows = sharedSection (a .p) (a .image .now) in
-    let parts = slotSection (a .p) (a .image .now) in
-    let st = k .is-stack-row .result in
-    let at-is = ap (λ (y : ℕ). kindOf (givenArg rows parts (a .c .rows) y)) (sym (t .at .ensures .0)) ∙ k .is-stack-row .ensures parts in
-    let sum = l2 .least2 .ensures ∙ ap (least (b .base-type .result .fault)) (l .least .ensures ∙ ap (λ (y : ℕ). least y (i .hidden-inside .result .fault)) (f14 .stack-fault .ensures)) in
-    λ P Δ f h e z. packed-same rows parts _ (s .pre .0 .ready) P Δ (h .types) _ f _ _ _ st at-is _ _ _ _ _ 0 (b .base-type .ensures .0 P Δ h) (g .given-row .ensures .0)
-    (i .hidden-inside .ensures .0) (sym sum ∙ e1 .if1 .left) z _ (q .packs .result) e (g2 .given-row2 .ensures .0 ∙ ap (givenRow _) (t .at .ensures .0)) (q .packs .ensures) refl ∙ ap (λ (y : ℕ). answer y tt) (sym (c .filling-fault .ensures))
+    let st = stack-of l2 .is-stack-row .result in
+    λ P Δ f h e z. packed-same (rows-of s) (parts-of s) _ (s .pre .0 .ready) P Δ (h .types) _ f _ _ _ st (kind-is l2) _ _ _ _ _ 0 (b .base-type .ensures .0 P Δ h) (g .given-row .ensures .0)
+    (i .hidden-inside .ensures .0) (sym (sum-is l2) ∙ e1 .if1 .left) z _ (q .packs .result) e (g2 .given-row2 .ensures .0 ∙ ap (givenRow _) (t .at .ensures .0)) (q .packs .ensures) refl ∙ ap (λ (y : ℕ). answer y tt) (sym (c .filling-fault .ensures))
 
 pub pack-fault-spec : {M : Type 1} → statement M
 pack-fault-spec =
