@@ -6,7 +6,7 @@ use mathlib.Core.Path.{◌≡◌, refl, sym}
 use mathlib.Core.Bool.{true}
 use mathlib.Core.Option.{none}
 use mathlib.Core.List.{List, [], ◌∷◌, map}
-use lib.ListN.{length, length_map, replicate}
+use lib.ListN.{length, length-map, replicate}
 use Rattle.valid.specs.Program.{program_of}
 use Rattle.exec.specs.Machine.{Word, integer, handle, junk_word, Memory, puts, State, Bodies, flat, start_of}
 use Rattle.exec.specs.Run.{run, words_from, in_use, starts_at, good_form, long_enough, bodies, barred, initial}
@@ -41,7 +41,7 @@ first_keeps Q q P s xs h g σ l =
     let n = suc (length xs) in
     let T = integer (length xs) ∷ map integer xs in
     let R = handle 0 ∷ replicate 7 junk_word in
-    let k = length_map xs integer in
+    let k = length-map xs integer in
     let t : in_use (puts σ.heap 0 T) n ≡ T = written σ.heap 2048 n T m.2 (omega arith) (omega arith) in
     let r1 = q.made T (handle 0) (good_handle T 0 refl) (omega arith) in
     let j = q.made T junk_word (good_junk T) (omega arith) in

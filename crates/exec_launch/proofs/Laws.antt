@@ -7,7 +7,7 @@ use mathlib.Core.Option.{Option, none, some}
 use mathlib.Core.List.{List, []}
 use lib.Dec.{eqb}
 use lib.ListN.{length, take}
-use lib.Seq.{length_take_le}
+use lib.Seq.{length-take-le}
 use Rattle.syntax.specs.Partial.{guarded}
 use Rattle.tables.proofs.Steps.{length_instrs}
 use Rattle.valid.specs.Program.{Program}
@@ -29,7 +29,7 @@ not_no false e = sym e
 -- ---- samples
 -- as many entries as are taken
 pub taken_length : (xs : List ℕ) (n : ℕ) → n ≤ length xs → length (take n xs) ≡ n
-taken_length xs n h = length_take_le n xs h
+taken_length xs n h = length-take-le n xs h
 
 some_none : {X : Type 0} {l : List ℕ} → ◌≡◌ {A = Option (List ℕ)} none (some l) → X
 some_none e = let z : ◌≡◌ {A = ℕ} 0 1 = ap tag e in absurd (omega arith)

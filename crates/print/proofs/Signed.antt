@@ -9,7 +9,7 @@ use mathlib.Core.List.{List, [], ◌∷◌}
 use lib.Dec.{eqb, leb, ltb}
 use lib.ListN.{length}
 use lib.IntN.{pos, negsuc}
-use borrow.Author.Tests.{eqb-true, ne_eqb, le-leb, leb-true, lt-ltb, le-ltb, ltb-true, ltb_false}
+use borrow.Author.Tests.{eqb-true, ne_eqb, le-leb, leb-true, lt-ltb, le-ltb, ltb-true, ltb-false}
 use Rattle.syntax.specs.Bits.{modulus, half, signed}
 use Rattle.syntax.specs.Partial.{chain}
 use Rattle.text.specs.Bytes.{is_digit, all_digits, is_decimal, spelled, number, literal}
@@ -74,7 +74,7 @@ literal_back n h = go (ltb n half) refl
         let l = ltb-true n half e in
         rw (signed_low n l) (plain (decimal n) (decimal_is n) ∙ number_back 0 (half - 1) n (omega arith) (omega arith))
     go false e =
-        let l = ltb_false n half e in
+        let l = ltb-false n half e in
         let q : modulus - suc (modulus - suc n) ≡ n = omega arith in
         rw (signed_high n l, number_back 1 half (suc (modulus - suc n)) (omega arith) (omega arith)) (ap some q)
 
@@ -110,6 +110,6 @@ literal_long n h = go (ltb n half) refl
         let k = decimal_long 9 n (omega arith) in
         rw (signed_low n l) (omega arith)
     go false e =
-        let l = ltb_false n half e in
+        let l = ltb-false n half e in
         let k = decimal_long 9 (suc (modulus - suc n)) (omega arith) in
         rw (signed_high n l) (omega arith)

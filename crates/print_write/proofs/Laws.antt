@@ -4,7 +4,7 @@ use mathlib.Core.Option.{none, some}
 use mathlib.Core.List.{List, [], ◌∷◌, ◌++◌, append_assoc}
 use Prim.Native.Nat.{ℕ, zero, suc, ◌+◌, ◌-◌, ◌/◌, ◌%◌, ◌^◌, ◌<◌, ◌≤◌}
 use native.Mathlib.Omega.{arith}
-use native.Mathlib.Nat.{not-suc-le-zero, le_of_suc-le-suc, pow_suc}
+use native.Mathlib.Nat.{not-suc-le-zero, le_of_suc-le-suc, pow-suc}
 use lib.ListN.{length, get_or, take, drop, set, length-append, length-take, length-drop, length-set, take-append-drop, drop_of_length-le}
 use lib.Seq.{take_at, paste, paste-suc, take-paste, drop-paste, take_all, drop-drop, length-take-le}
 use lib.IntN.{pos, negsuc}
@@ -134,7 +134,7 @@ some_place zero rest h l = omega arith
 some_place (suc i) rest h l = omega arith
 
 tenth : (i rest : ℕ) → rest < 10 ^ suc i → rest / 10 < 10 ^ i
-tenth i rest h = let e = pow_suc 10 i in omega arith
+tenth i rest h = let e = pow-suc 10 i in omega arith
 
 pub one_digit : (n : ℕ) (l : List ℕ) → length l ≡ 20 → n < 2 ^ 64 → Spelling n (set l 19 (digit (n % 10))) 19 (n / 10)
 one_digit n l h k =

@@ -1,6 +1,6 @@
 -- Every stop that a start can answer is permitted, of whatever text, samples, budget and lent state.
 use Prim.Native.Nat.{ℕ, zero, suc, ◌≤◌, ◌<◌}
-use native.Mathlib.Nat.{min_le_right}
+use native.Mathlib.Nat.{min-le_right}
 use native.Mathlib.Omega.{arith}
 use mathlib.Core.Path.{◌≡◌}
 use mathlib.Core.Bool.{true, false}
@@ -36,7 +36,7 @@ word_fits_lem H (suc (suc (suc (suc (suc k))))) n g l =
 -- ---- answers
 budget_most : (m : ℕ) → budget m ≤ most_steps
 unfolding budget
-budget_most m = min_le_right m 1000000
+budget_most m = min-le_right m 1000000
 
 answer_permitted : (e : End) (n : ℕ) (w : Word) → n ≤ most_steps → word_fits w.kind w.number ≡ true → permitted (answer_of e n w) ≡ true
 unfolding permitted answer_of

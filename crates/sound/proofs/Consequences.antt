@@ -146,6 +146,7 @@ module _ (text : List ℕ) where
 
   met_story : {cs : List Call} {σ σ' : State} {ω : Witness} → Story text cs σ ω → Reached text cs σ σ' → Met (program_of text) σ'
   unfolding outcome_of
+  met_story {σ' = σ'} (ended {σ = σ} {ω = ω}) x5 = elim x5 [ ]
   met_story (start_refused r e s) (in_start k f x l i) = absurd (f r)
   met_story (start_refused r e s) (in_later x) = met_story s (rw e at x)
   met_story (started y s) (in_start k f x l i) = met_start k y x l i

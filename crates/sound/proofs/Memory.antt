@@ -6,7 +6,7 @@ use native.Mathlib.Omega.{arith}
 use mathlib.Core.Path.{◌≡◌, refl, ap, ap₂, sym, ◌∙◌}
 use mathlib.Core.Logic.{◌≢◌}
 use mathlib.Core.List.{List, [], ◌∷◌, ◌++◌}
-use lib.ListN.{length, length-append, length_set, length-replicate, get_or, get_or-replicate, set, drop, replicate, get_or-append}
+use lib.ListN.{length, length-append, length-set, length-replicate, get_or, get_or-replicate, set, drop, replicate, get_or-append}
 use lib.Seq.{get_or-set_same, get_or-set_other, get_or-append-add, ext_get_or}
 use Rattle.types.proofs.Filling.{Side, lo, hi, side}
 use Rattle.exec.specs.Machine.{Word, junk_kind, junk_word, Memory, at, put, puts}
@@ -28,7 +28,7 @@ put_other m i j w h = rw (get_or-set_other m.kinds i j w.kind junk_kind h, get_o
 
 pub put_long : (m : Memory) (n i : ℕ) (w : Word) → Long m n → Long (put m i w) n
 unfolding put
-put_long m n i w l = simp length_set l
+put_long m n i w l = simp length-set l
 
 -- what is read after a write: the word written there, elsewhere what was there
 pub put_cases : (m : Memory) (n i j : ℕ) (w : Word) (Q : Word → Type 0) → Long m n → j < n → (j ≡ i → Q w) → (j ≢ i → Q (at m j)) → Q (at (put m i w) j)
@@ -80,7 +80,7 @@ use_is m n ws e f = ext_get_or junk_word (in_use m n) ws (use_length m n ∙ e) 
 -- a word written among those in use, and words written behind them
 pub use_put : (m : Memory) (n i : ℕ) (w : Word) → Long m n → in_use (put m i w) n ≡ set (in_use m n) i w
 use_put m n i w l =
-    use_is (put m i w) n (set (in_use m n) i w) (rw (length_set, use_length m n)) (λ k h.
+    use_is (put m i w) n (set (in_use m n) i w) (rw (length-set, use_length m n)) (λ k h.
     put_cases m n i k w (λ z. z ≡ get_or (set (in_use m n) i w) k junk_word) l h (λ e. rw (← e) (sym (get_or-set_same (in_use m n) k w junk_word (rw (use_length m n) h)))) (λ e. sym (get_or-set_other (in_use m n) i k w junk_word e ∙ use_at_lem m n k h)))
 
 pub use_puts : (m : Memory) (n c : ℕ) (ws : List Word) → Long m c → n + length ws ≤ c → in_use (puts m n ws) (n + length ws) ≡ in_use m n ++ ws

@@ -1,6 +1,6 @@
 -- An operand's word has the operand's type, filled by the picks: labels, and type application above all.
 use Prim.Native.Nat.{ℕ, ◌+◌}
-use native.Mathlib.Nat.{add_zero}
+use native.Mathlib.Nat.{add-zero}
 use native.Mathlib.Omega.{arith}
 use mathlib.Core.Path.{◌≡◌, refl, ap, sym, ◌∙◌}
 use mathlib.Core.Bool.{Bool, true, false, ◌&&◌}
@@ -30,7 +30,7 @@ filled_is A q a r t e = go (meets A (length q) a && meets A (length q) r) (code 
 
 pub fill_code : (Θ : List Arg) (q : List Kind) (a r : Ty stack) → fill 0 Θ (code q a r) ≡ code q (fill (length q) Θ a) (fill (length q) Θ r)
 unfolding fill walk
-fill_code Θ q a r = rw add_zero
+fill_code Θ q a r = rw add-zero
 
 pub fill_hidden : (Θ : List Arg) (t : Ty value) → fill 0 Θ (hidden t) ≡ hidden (fill 1 Θ t)
 unfolding fill walk

@@ -121,6 +121,7 @@ first_among (unfit k ∷ fs) i e = go (first_item fs) refl e (first_among fs)
 
 none_among : (fs : List Fault) {j : ℕ} → first_item fs ≡ none → Among j fs → ⊥
 unfolding first_item earlier
+none_among [] {j = j} e a = elim a [ ]
 none_among (fault n ∷ fs) e (there a) = none_among fs e a
 none_among (unfit k ∷ fs) e a = go (first_item fs) e
   where
@@ -130,6 +131,7 @@ none_among (unfit k ∷ fs) e a = go (first_item fs) e
 
 first_lowest : (fs : List Fault) (i j : ℕ) → first_item fs ≡ some i → Among j fs → i ≤ j
 unfolding first_item earlier
+first_lowest [] i j e a = elim a [ ]
 first_lowest (fault n ∷ fs) i j e (there a) = first_lowest fs i j e a
 first_lowest (unfit k ∷ fs) i j e a = go (first_item fs) refl e a (first_lowest fs)
   where

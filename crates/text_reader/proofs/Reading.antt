@@ -11,7 +11,7 @@ use denote.Ref.{Bor}
 use lib.Dec.{ltb, leb}
 use lib.ListN.{length, get_or, set, take, drop, length-drop, length-set, length-map}
 use lib.Seq.{drop-drop, take_all, take-nil, take-suc, take-suc-set, take-take, drop-set-lt, set_out, length-take-le}
-use borrow.Author.Tests.{lt-ltb, le-ltb, le-leb, lt-leb, ltb-true, ltb_false, leb-true, leb-false}
+use borrow.Author.Tests.{lt-ltb, le-ltb, le-leb, lt-leb, ltb-true, ltb-false, leb-true, leb-false}
 use Rattle.text.specs.Bytes.{Line, lines_of}
 use Rattle.text_lines.specs.Parts.{first_part, contents, line_at, NextLine}
 use Rattle.text_lines.proofs.Parts.{end_within, line_is, lines_none, line_here, next_ended, next_last}
@@ -23,7 +23,7 @@ ended_is text at = go (ltb at (length text)) refl
   where
     go : (t : Bool) → ltb at (length text) ≡ t → leb (length text) at ≡ ended_at text at
     go true q = simp (lt-leb (length text) at (ltb-true at (length text) q), line_is text at (end_from text at) refl (ltb-true at (length text) q))
-    go false q = simp (le-leb (length text) at (ltb_false at (length text) q), lines_none text at (ltb_false at (length text) q))
+    go false q = simp (le-leb (length text) at (ltb-false at (length text) q), lines_none text at (ltb-false at (length text) q))
 
 pub past_more : (text : List ℕ) (e : ℕ) → e < length text → e + 1 ≡ past_lf text e
 unfolding past_lf
@@ -47,8 +47,8 @@ module _ (s : List ℕ) (at e : ℕ) where
       let q = lesser_first e (length s) to t (le_of_lt (ltb-true e (length s) p)) in
       ap (λ (n : ℕ). take (n - at) (drop at s)) q
   within false p to t =
-      let q = lesser_second e (length s) to t (ltb_false e (length s) p) in
-      let a = ltb_false e (length s) p in
+      let q = lesser_second e (length s) to t (ltb-false e (length s) p) in
+      let a = ltb-false e (length s) p in
       let u : length (drop at s) ≤ to - at = omega (arith, length-drop at s) in
       let v : length (drop at s) ≤ e - at = omega (arith, length-drop at s) in
       take_all (to - at) (drop at s) u ∙ sym (take_all (e - at) (drop at s) v)
@@ -59,7 +59,7 @@ module _ (s : List ℕ) (at e : ℕ) where
       go : (y : Bool) → ltb at to ≡ y → take (to - from) (drop from s) ≡ take (to - at) (drop at s)
       go true p = ap (λ (n : ℕ). take (to - n) (drop n s)) (lesser_first at to from f (le_of_lt (ltb-true at to p)))
       go false p =
-          let a = ltb_false at to p in
+          let a = ltb-false at to p in
           let q = lesser_second at to from f a in
           let k : to - from ≡ 0 = omega arith in
           let m : to - at ≡ 0 = omega arith in
@@ -88,7 +88,7 @@ next_is text at a = go (ltb (end_from text at) (length text)) refl
         let h = ltb-true (end_from text at) (length text) q in
         subst (NextLine text at) (past_more text (end_from text at) h) (next_ended text at (end_from text at) refl h)
     go false q =
-        let h = ltb_false (end_from text at) (length text) q in
+        let h = ltb-false (end_from text at) (length text) q in
         let w = end_within 10 text at (end_from text at) refl a in
         let k : length text ≡ end_from text at = omega arith in
         subst (NextLine text at) (k ∙ past_end text (end_from text at) h) (next_last text at (end_from text at) refl h)
@@ -176,7 +176,7 @@ module _ (text : List ℕ) (before : Parts) where
             ∙ sym (take-suc (all_lines text) n [] m)
             ∙ sym (take_all (length before) (take (suc n) (all_lines text)) b)
         go false q =
-            let h = ltb_false n (length before) q in
+            let h = ltb-false n (length before) q in
             let k : length after ≤ n = omega (arith, i.long) in
             let k' : length after ≤ suc n = omega arith in
             let h' : length before ≤ suc n = omega arith in

@@ -5,7 +5,7 @@ use Prim.Native.Nat.{ℕ, zero, suc, ◌+◌, ◌-◌, ◌<◌, ◌≤◌}
 use native.Mathlib.Omega.{arith}
 use native.Mathlib.Nat.{not-suc-le-zero}
 use lib.ListN.{length, get_or, take}
-use lib.Seq.{length_take_le}
+use lib.Seq.{length-take-le}
 use Rattle.tables.specs.Tables.{RowTable}
 use Rattle.types_rows.specs.Environments.{EnvironmentIn}
 use Rattle.types_equal.specs.pending.Pending.{room, Givens}
@@ -69,7 +69,7 @@ spare_arg m l r n x j s h p = let s0 = s.0 in let k = room_of j m h in (omega ar
 
 -- the first words
 pub length_first : (n : ℕ) (ws : List ℕ) → n ≤ length ws → length (take n ws) ≡ n
-length_first n ws h = length_take_le n ws h
+length_first n ws h = length-take-le n ws h
 
 pub spare_kept : (m l r n x : ℕ) → Spare m l r n → x ≡ n → Spare m l r x
 spare_kept m l r n x s p = let s0 = s.0 in let s1 = s.1 in (omega arith, omega arith)

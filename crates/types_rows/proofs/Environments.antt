@@ -8,7 +8,7 @@ use native.Mathlib.Nat.{add-zero, not-suc-le-zero}
 use lib.Dec.{eqb, ltb}
 use lib.ListN.{length, length-append, get_or, set, get_or-append}
 use lib.Seq.{get_or_at, get_or-set_same, get_or-set_other}
-use borrow.Author.Tests.{eq-eqb, ne_eqb, eqb-true, eqb-false, lt-ltb, le-ltb, ltb-true, ltb_false}
+use borrow.Author.Tests.{eq-eqb, ne_eqb, eqb-true, eqb-false, lt-ltb, le-ltb, ltb-true, ltb-false}
 use Rattle.syntax.specs.Syntax.{Kind, value, stack}
 use Rattle.types.specs.Types.{Ty, int, junk, var, tuple, pointer, hidden, code, nil, push, svar, gap, join, items, variable, Act, walk, raising, raise, Use, Wf}
 use Rattle.types.proofs.Filling.{Side, lo, hi, side, below_lt, below_ge, fuse, walk_variable, walk_closed, walk_join, walk_items}
@@ -161,7 +161,7 @@ names_kept N M f j h = go (ltb j 64) refl
   where
     go : (b : Bool) → ltb j 64 ≡ b → name_at M f j ≡ name_at N f j
     go true q = let l = ltb-true j 64 q in name_low M f j l ∙ h (f + j) (omega arith) ∙ sym (name_low N f j l)
-    go false q = let l = ltb_false j 64 q in name_high M f j l ∙ ap (λ z. z + (j - 64)) (h (f + 64) (omega arith)) ∙ sym (name_high N f j l)
+    go false q = let l = ltb-false j 64 q in name_high M f j l ∙ ap (λ z. z + (j - 64)) (h (f + 64) (omega arith)) ∙ sym (name_high N f j l)
 
 -- a table under way: the variables of environment e from j on are those of x from k on, and the names of those before j are written from f on
 pub record Naming (E : List ℕ) (e f : ℕ) (N₀ N : List ℕ) (x k j : ℕ) : Type 0 where
@@ -218,7 +218,7 @@ module _ (E : List ℕ) (e f : ℕ) (N₀ : List ℕ) where
             go : (b : Bool) → ltb i 64 ≡ b → name_at (set N (f + j) y) f i ≡ var_in E e i
             go true p = let h = ltb-true i 64 p in name_low _ f i h ∙ stored i (omega arith)
             go false p =
-                let h = ltb_false i 64 p in
+                let h = ltb-false i 64 p in
                 let s : get_or (set N (f + j) y) (f + 64) 0 ≡ var_in E e j = rw (sym q) (stored j (omega arith)) in
                 let o : var_in E x k ≡ var_in E e j = at_rest 0 (omega arith) (omega arith) in
                 let r : var_in E x (k + (i - 64)) ≡ var_in E e i = at_rest (i - 64) refl (omega arith) in
@@ -396,7 +396,7 @@ module _ {A : Type 0} (v w : ℕ → A) (m d k : ℕ) where
       go : (b : Bool) → ltb k d ≡ b → placing ρ ≡ placing ρ₂
       go true e = rw e refl
       go false e =
-          let q = ltb_false k d e in
+          let q = ltb-false k d e in
           rw (e, lt-ltb (k - d) m (omega arith)) refl
 
   placing_free : (ρ : ℕ → ℕ) → d + m ≤ k → v (ρ (k - (d + m)) + d) ≡ placing ρ
@@ -414,7 +414,7 @@ module _ (rows : List ℕ) (m d : ℕ) where
           → cond a (cond b Other (Named (ρ (cell 4 rows r 1 - (d + m)) + d))) Other ≡ Named x → ValVar x ≡ value_at rows (place_v m ρ d) (suc r)
       go true p false q f =
           let z : ρ (cell 4 rows r 1 - (d + m)) + d ≡ x = cc in
-          rw (← z, eqb-true (cell 4 rows r 0) 2 p) (placing_free ValVar ValFill m d (cell 4 rows r 1) ρ (ltb_false (cell 4 rows r 1) (d + m) q))
+          rw (← z, eqb-true (cell 4 rows r 0) 2 p) (placing_free ValVar ValFill m d (cell 4 rows r 1) ρ (ltb-false (cell 4 rows r 1) (d + m) q))
       go true p true q f = never cc
       go false p b q f = never cc
 
@@ -438,7 +438,7 @@ module _ (rows : List ℕ) (m d : ℕ) where
           → cond a (cond b Other (Named (ρ (cell 4 rows r 1 - (d + m)) + d))) Other ≡ Named x → StkVar x ≡ stack_at rows (place_s m ρ d) (suc r)
       go true p false q f =
           let z : ρ (cell 4 rows r 1 - (d + m)) + d ≡ x = cc in
-          rw (← z, eqb-true (cell 4 rows r 0) 8 p) (placing_free StkVar StkFill m d (cell 4 rows r 1) ρ (ltb_false (cell 4 rows r 1) (d + m) q))
+          rw (← z, eqb-true (cell 4 rows r 0) 8 p) (placing_free StkVar StkFill m d (cell 4 rows r 1) ρ (ltb-false (cell 4 rows r 1) (d + m) q))
       go true p true q f = never cc
       go false p b q f = never cc
 

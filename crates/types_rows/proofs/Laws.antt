@@ -7,7 +7,7 @@ use native.Mathlib.Omega.{arith}
 use native.Mathlib.Nat.{not-suc-le-zero}
 use lib.Dec.{eqb, leb, ltb, leb-suc-suc}
 use lib.ListN.{length, get_or}
-use borrow.Author.Tests.{ne_eqb, leb-false, leb-true, ltb-true, eqb_false, le-leb, lt-leb, lt-ltb, le-ltb}
+use borrow.Author.Tests.{ne_eqb, leb-false, leb-true, ltb-true, eqb-false, le-leb, lt-leb, lt-ltb, le-ltb}
 use Rattle.syntax.specs.Syntax.{Kind, value, stack}
 use Rattle.types.specs.Types.{Ty, int, junk, var, tuple, pointer, hidden, code, nil, push, svar, gap, join, items, variable, below, walk, raise, Arg, arg, of_kind}
 use Rattle.types.proofs.Filling.{join_nil, items_join, walk_join}
@@ -351,7 +351,7 @@ module _ (τ : RowTable) (r x i n : ℕ) (c : CountedTo τ r) (l : x ≤ r) wher
   on_push t s y k o false q e =
       let p : s ≡ y = cc in
       let g : i - 1 ≡ k = cc in
-      let z = eqb_false i 0 q in
+      let z = eqb-false i 0 q in
       let w : items (mean_s τ s) ≡ items (mean_s τ y) = ap (λ v. items (mean_s τ v)) p in
       (omega arith, omega arith, ap (take_s n) (drop_push i (mean_v τ t) (mean_s τ s) z ∙ ap₂ (λ v w. drop_s v (mean_s τ w)) g p), let j = items_push (mean_v τ t) (mean_s τ s) in omega arith)
 

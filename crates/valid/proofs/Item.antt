@@ -284,7 +284,7 @@ item_named text c d line i = (there, back)
           Δ = Δ;
           Γ = Γ;
           v = w.0;
-          the_block = e;
+          the_block_lem = e;
           the_instr_lem = g;
           the_line = refl;
           typed = t;
@@ -303,14 +303,14 @@ item_named text c d line i = (there, back)
     back : NamedOn P line i → check text ≡ refused told
     back n =
         let Δ = n.Δ in
-        let s = context n.l n.B n.the_block n.before in
+        let s = context n.l n.B n.the_block_lem n.before in
         let e = going_faults P Δ shaped n.Γ s n.goes in
         let q = target_names P Δ shaped n.Γ s n.names in
         let fs = faults_of (judge P Δ n.Γ n.x) in
         let least : least_of fs ≡ 10 = rw e q.0 in
         let item : first_item fs ≡ some i = rw e q.1 in
         let no = some_fault fs item in
-        let f = instr_found n.l n.k n.B n.x Δ n.Γ n.the_block n.the_instr_lem n.typed n.opens n.before no in
+        let f = instr_found n.l n.k n.B n.x Δ n.Γ n.the_block_lem n.the_instr_lem n.typed n.opens n.before no in
         (refused_found text c d told).1 (record { faults = fs; found = rw (sym n.the_line) at f; by = rw (least, item) })
 
 -- ---- every refusal
@@ -363,4 +363,4 @@ refused_item text r i e h = (ten, go (refused_decides text r e))
         let P = program_of text in
         let s = program_shaped text d in
         let n = (item_named text c d r.line i).0 told in
-        is_item P s n.Δ n.Γ (before_shaped P s n.B (s.labels n.l n.B n.the_block) n.before) n.names
+        is_item P s n.Δ n.Γ (before_shaped P s n.B (s.labels n.l n.B n.the_block_lem) n.before) n.names

@@ -5,7 +5,7 @@ use mathlib.Core.Path.{◌≡◌, refl, ap, sym}
 use mathlib.Core.Bool.{Bool, true, false, ◌&&◌, cond}
 use mathlib.Core.Option.{Option, none, some}
 use mathlib.Core.List.{List, [], ◌∷◌, ◌++◌, map}
-use lib.ListN.{length, length_append, length_map, get_elem?, drop, take-append-drop}
+use lib.ListN.{length, length-append, length-map, get_elem?, drop, take-append-drop}
 use lib.Seq.{take-append_seam, drop-append_seam}
 use lib.Dec.{leb, le→leb, eqb→eq}
 use Rattle.syntax.specs.Partial.{chain, guarded}
@@ -258,8 +258,8 @@ pub left_kinds : (θ : List Arg) (q : List Kind) → letters_left θ (q ++ map k
 unfolding letters_left
 left_kinds θ q =
     let p = map kind_of θ in
-    let k = length_append q p in
-    let j = length_map θ kind_of in
+    let k = length-append q p in
+    let j = length-map θ kind_of in
     let n : length (q ++ p) - length θ ≡ length q = omega arith in
     let m : length θ ≤ length (q ++ p) = omega arith in
     rw (so_true (leb (length θ) (length (q ++ p))) (le→leb (length θ) (length (q ++ p)) m), n, drop-append_seam q p, same_letters_refl p, take-append_seam q p)

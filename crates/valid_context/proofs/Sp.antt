@@ -1,7 +1,7 @@
 -- The types of sp's items read and written through the array.
 use Prim.Native.Nat.{ℕ, zero, suc, ◌+◌, ◌-◌, ◌*◌, ◌≤◌, ◌<◌}
 use native.Mathlib.Omega.{arith}
-use native.Mathlib.Nat.{add_zero, add-suc, sub-zero, suc-sub-suc}
+use native.Mathlib.Nat.{add-zero, add-suc, sub-zero, suc-sub-suc}
 use native.Mathlib.Numerals.{add-one}
 use mathlib.Core.Path.{◌≡◌, refl, ap, ap₂, sym, ◌∙◌}
 use mathlib.Core.Bool.{Bool, true, false, ◌&&◌, and-false, cond}
@@ -109,7 +109,7 @@ module _ (T : Reading) where
   -- the items above and below a depth
   pub join_is : (sp : List ℕ) (d k : ℕ) → join (sp_above T sp d k) (sp_of T sp d) ≡ sp_of T sp (d + k)
   unfolding sp_above join sp_of
-  join_is sp d zero = rw add_zero
+  join_is sp d zero = rw add-zero
   join_is sp d (suc k) =
       let h = join_is sp d k in
       rw (add-suc d k) (top_by (λ a. join a (sp_of T sp d) ≡ top sp (d + k) (sp_of T sp (d + k))) sp (d + k) (sp_above T sp d k) (λ e. rw (h, e)) (λ e. rw (h, e)))
@@ -168,7 +168,7 @@ module _ (T : Reading) where
   -- junk items on top, one after the other
   pub junks_none : (l : List ℕ) (d : ℕ) → junks 0 (sp_of T l d) ≡ sp_of T l (d + 0)
   unfolding junks
-  junks_none l d = rw add_zero
+  junks_none l d = rw add-zero
 
   pub junks_next : (l₀ l : List ℕ) (d k x e : ℕ) → 2 * (d + k) + 1 < length l → x < first_var → T.type e x ≡ junk → junks k (sp_of T l₀ d) ≡ sp_of T l (d + k) → junks (k + 1) (sp_of T l₀ d) ≡ sp_of T (with_entry l (d + k) x e) (d + (k + 1))
   junks_next l₀ l d k x e h q j r =

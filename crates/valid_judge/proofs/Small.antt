@@ -5,7 +5,7 @@ use mathlib.Core.Path.{◌≡◌, refl, ap, sym, ◌∙◌, subst}
 use mathlib.Core.Bool.{Bool, true, false, cond}
 use mathlib.Core.List.{List}
 use lib.Dec.{eqb, ltb}
-use borrow.Author.Tests.{eqb-true, eqb_false, ltb_true, ltb_false}
+use borrow.Author.Tests.{eqb-true, eqb-false, ltb-true, ltb-false}
 use Rattle.types.specs.Types.{Ty, nil, push, svar, gap, join, items}
 use Rattle.syntax.specs.Syntax.{stack}
 use Rattle.tables.specs.Tables.{cell, row_from, row_at}
@@ -41,13 +41,13 @@ module _ (rows parts : List ℕ) (n : ℕ) (y : Ready rows parts n) (s : (r : �
   var_low r l e = go (ltb r n) (eqb r n) refl refl
     where
       go : (a b : Bool) → ltb r n ≡ a → eqb r n ≡ b → r < n
-      go true b p q = ltb_true r n p
+      go true b p q = ltb-true r n p
       go false true p q =
           let z : ◌≡◌ {A = ℕ} 0 8 = sym y.int_row ∙ ap (λ (x : ℕ). cell 4 rows x 0) (sym (eqb-true r n q)) ∙ e in
           absurd (omega arith)
       go false false p q =
-          let g = ltb_false r n p in
-          let h = eqb_false r n q in
+          let g = ltb-false r n p in
+          let h = eqb-false r n q in
           let i : n + 1 ≡ r = omega arith in
           let z : ◌≡◌ {A = ℕ} 1 8 = sym y.junk_row ∙ ap (λ (x : ℕ). cell 4 rows x 0) i ∙ e in
           absurd (omega arith)
@@ -84,20 +84,20 @@ module _ (rows parts : List ℕ) (n : ℕ) (y : Ready rows parts n) (s : (r : �
     where
       form : (b : Bool) → ltb (cell 4 rows r 0) 8 ≡ b → stack_at rows StkVar (suc r) ≡ Nil
       form true q = unfold stack_with in rw q
-      form false q = let g = ltb_false (cell 4 rows r 0) 8 q in absurd (omega arith)
+      form false q = let g = ltb-false (cell 4 rows r 0) 8 q in absurd (omega arith)
 
   few : ((x : ℕ) → x ≤ n → items (mean_s (tab rows parts) x) ≤ 4096) → (x : ℕ) → x ≤ n + 2 → items (mean_s (tab rows parts) x) ≤ 4096
   few f x l = go (ltb n x) (eqb x (n + 1)) refl refl
     where
       go : (a b : Bool) → ltb n x ≡ a → eqb x (n + 1) ≡ b → items (mean_s (tab rows parts) x) ≤ 4096
-      go false b p q = f x (ltb_false n x p)
+      go false b p q = f x (ltb-false n x p)
       go true true p q =
           let i : x ≡ suc n = eqb-true x (n + 1) q ∙ omega arith in
           let z : items (mean_s (tab rows parts) x) ≡ 0 = ap (λ (h : ℕ). items (mean_s (tab rows parts) h)) i ∙ made_none n (omega (arith, y.int_row)) in
           omega arith
       go true false p q =
-          let g = ltb_true n x p in
-          let h = eqb_false x (n + 1) q in
+          let g = ltb-true n x p in
+          let h = eqb-false x (n + 1) q in
           let i : x ≡ suc (n + 1) = omega arith in
           let z : items (mean_s (tab rows parts) x) ≡ 0 = ap (λ (h : ℕ). items (mean_s (tab rows parts) h)) i ∙ made_none (n + 1) (omega (arith, y.junk_row)) in
           omega arith

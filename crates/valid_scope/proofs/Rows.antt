@@ -9,7 +9,7 @@ use mathlib.Core.Option.{Option, none, some}
 use mathlib.Core.List.{List, [], ◌∷◌, ◌++◌, map, reverse}
 use lib.Dec.{eqb, ltb}
 use lib.ListN.{length, get_or, get_elem?, take, length-reverse}
-use borrow.Author.Tests.{not-true, eqb_true, eq-eqb, ne_eqb, ltb-true, lt-ltb, le-ltb}
+use borrow.Author.Tests.{not-true, eqb-true, eq-eqb, ne_eqb, ltb-true, lt-ltb, le-ltb}
 use Rattle.syntax.specs.Syntax.{Kind, value, stack, Row, row_i, row_n, row_e, row_v, row_x, row_p, row_h, row_u, row_k, row_a, row_c}
 use Rattle.types.specs.Types.{Ty, int, junk, var, tuple, pointer, hidden, code, nil, push, svar, gap, join, items, Arg, arg, of_kind, Use, a_stack, a_tuple, a_file}
 use Rattle.types.specs.Rows.{in_turn, type_at, components, registers, meaning, types_of, is_value, is_of, is_sort, value_row, stack_row, Ref, known_refs, row_refs, all_below, all_of_sort}
@@ -33,7 +33,7 @@ unfolding both
 both_unused u = go (eqb u 0) refl
   where
     go : (b : Bool) → eqb u 0 ≡ b → cond b 0 (cond true u (cond b u 3)) ≡ u
-    go true e = sym (eqb_true u 0 e)
+    go true e = sym (eqb-true u 0 e)
     go false e = refl
 
 both_same : (u : ℕ) → both u u ≡ u
@@ -62,7 +62,7 @@ unfolding both
 both_three u p = rw p (go (eqb u 3) refl)
   where
     go : (c : Bool) → eqb u 3 ≡ c → cond c u 3 ≡ 3
-    go true e = eqb_true u 3 e
+    go true e = eqb-true u 3 e
     go false e = refl
 
 pub both_assoc : (u v w : ℕ) → both u (both v w) ≡ both (both u v) w
@@ -70,15 +70,15 @@ both_assoc u v w = go (eqb u 0) (eqb v 0) (eqb w 0) (eqb u v) (eqb v w) refl ref
   where
     -- u and v the same, w another
     two : (c : Bool) → eqb u w ≡ c → eqb u 0 ≡ false → eqb w 0 ≡ false → both u (both u w) ≡ both u w
-    two true e p q = rw (← (eqb_true u w e)) (ap (both u) (both_same u))
+    two true e p q = rw (← (eqb-true u w e)) (ap (both u) (both_same u))
     two false e p q = rw (both_other u w p q e) (both_three u p)
 
     go : (a b c d e : Bool) → eqb u 0 ≡ a → eqb v 0 ≡ b → eqb w 0 ≡ c → eqb u v ≡ d → eqb v w ≡ e → both u (both v w) ≡ both (both u v) w
-    go true b c d e p q r s t = rw (eqb_true u 0 p) (unfold both in refl)
-    go false true c d e p q r s t = rw (eqb_true v 0 q, both_unused u) (unfold both in refl)
-    go false false true d e p q r s t = rw (eqb_true w 0 r, both_unused v, both_unused (both u v))
-    go false false false true e p q r s t = rw (← (eqb_true u v s), both_same u) (two (eqb u w) refl p r)
-    go false false false false true p q r s t = rw (← (eqb_true v w t), both_same v, both_other u v p q s, three_both)
+    go true b c d e p q r s t = rw (eqb-true u 0 p) (unfold both in refl)
+    go false true c d e p q r s t = rw (eqb-true v 0 q, both_unused u) (unfold both in refl)
+    go false false true d e p q r s t = rw (eqb-true w 0 r, both_unused v, both_unused (both u v))
+    go false false false true e p q r s t = rw (← (eqb-true u v s), both_same u) (two (eqb u w) refl p r)
+    go false false false false true p q r s t = rw (← (eqb-true v w t), both_same v, both_other u v p q s, three_both)
     go false false false false false p q r s t = rw (both_other v w q r t, both_other u v p q s, both_three u p, three_both)
 
 -- ---- lists of items

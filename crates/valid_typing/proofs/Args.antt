@@ -8,7 +8,7 @@ use mathlib.Core.Option.{none}
 use mathlib.Core.List.{List, [], ◌∷◌, ◌++◌, map, map-append, reverse, reverse_aux, reverse-append}
 use lib.Dec.{ltb, eqb, eqb-suc-zero}
 use lib.ListN.{length, get_or, take, drop, set, length-set, drop_of_length-le, length-map, get_or-eq_default}
-use lib.Seq.{length_take_le, take-set-lt, drop-set-lt, drop-cons, get_or-set_same}
+use lib.Seq.{length-take-le, take-set-lt, drop-set-lt, drop-cons, get_or-set_same}
 use borrow.Author.Tests.{lt-ltb, le-ltb, ltb-true, ltb-false, le-leb, lt-leb}
 use Rattle.syntax.specs.Partial.{guarded}
 use Rattle.syntax.specs.Syntax.{Kind, value, stack}
@@ -165,7 +165,7 @@ module _ (n : ℕ) (args : List ℕ) (at c : ℕ) where
   pub back_none : (l : List ℕ) → c ≤ length l → Back l 0
   unfolding span
   back_none l h =
-      let k = length_take_le c l h in
+      let k = length-take-le c l h in
       let q : length (take c l) ≤ c = omega arith in
       rw sub-zero (drop_of_length-le (take c l) q)
 
@@ -174,7 +174,7 @@ module _ (n : ℕ) (args : List ℕ) (at c : ℕ) where
       let p : c - (i + 1) ≡ c - i - 1 = omega arith in
       let o : i + 1 ≡ suc i = omega arith in
       let s : suc (c - i - 1) ≡ c - i = omega arith in
-      let k = length_take_le c l q in
+      let k = length-take-le c l q in
       let m = length-set (take c l) (c - i - 1) x in
       let j : c - i - 1 < length (set (take c l) (c - i - 1) x) = omega arith in
       rw (p, o, take-set-lt c l (c - i - 1) x (omega arith), drop-cons (set (take c l) (c - i - 1) x) (c - i - 1) 0 j, get_or-set_same (take c l) (c - i - 1) x 0 (omega arith), drop-set-lt (suc (c - i - 1)) (take c l) (c - i - 1) x (omega arith), s)

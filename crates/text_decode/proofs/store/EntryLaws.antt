@@ -7,7 +7,7 @@ use mathlib.Core.Option.{none}
 use Prim.Native.Nat.{ℕ, zero, suc, ◌+◌, ◌-◌, ◌<◌, ◌≤◌, zero-le}
 use native.Mathlib.Omega.{arith}
 use native.Mathlib.Nat.{zero-add, add-zero, suc-add, add-suc, not-suc-le-zero}
-use lib.Dec.{eqb, leb, ltb, leb_zero}
+use lib.Dec.{eqb, leb, ltb, leb-zero}
 use lib.ListN.{length, get_or, take, drop}
 use borrow.Author.Tests.{eq-eqb}
 use Rattle.syntax.specs.Syntax.{Operand, halt}
@@ -26,7 +26,7 @@ use Rattle.text_decode.proofs.line.Walk.{fields_next}
 module _ (line : List ℕ) (f code : ℕ) (is : f ≡ 0 + length (first_part 44 (drop 0 line))) (named : code ≡ name_code (take (f - 0) (drop 0 line))) where
   first_fields : fields_of line ≡ fields_from line 0
   unfolding fields_from
-  first_fields = simp leb_zero
+  first_fields = simp leb-zero
 
   pub entry_is : entry_of (fields_of line) ≡ form_at forms code (fields_from line (f + 1))
   entry_is =

@@ -1,6 +1,6 @@
 -- Laws of the names of the forms.
 -- Assumes nothing.
-use Rattle.std.proofs.Common.{◌≡◌, ℕ, zero, suc, ◌+◌, ◌*◌, ◌^◌, ◌<◌, ◌≤◌, Bool, true, false, cond, ◌&&◌, T, eqb, ltb, leb, List, [], ◌∷◌, length, get_or, take, drop, sym, refl, ap, ◌∙◌, subst, suc_le_suc, zero_le, not-suc-le-zero, add-zero, add-suc, add-one, arith, lit<, ltb→lt, leb→le, length-drop, drop_of_length-le, get_or-drop, drop-cons, eq-eqb, ne_eqb, eqb-true}
+use Rattle.std.proofs.Common.{◌≡◌, ℕ, zero, suc, ◌+◌, ◌*◌, ◌^◌, ◌<◌, ◌≤◌, Bool, true, false, cond, ◌&&◌, T, eqb, ltb, leb, List, [], ◌∷◌, length, get_or, take, drop, sym, refl, ap, ◌∙◌, subst, suc-le-suc, zero-le, not-suc-le-zero, add-zero, add-suc, add-one, arith, lit<, ltb→lt, leb→le, length-drop, drop_of_length-le, get_or-drop, drop-cons, eq-eqb, ne_eqb, eqb-true}
 use borrow.Author.Tests.{eqb-false}
 use Rattle.text.specs.Bytes.{bytes, same_bytes}
 use Rattle.text.specs.Grammar.{Named, forms, form_named, entry_of}
@@ -130,7 +130,7 @@ limit (suc n) = limit n * 256
 limit_grows : (n m : ℕ) → n ≤ m → limit n ≤ limit m
 unfolding limit
 limit_grows zero zero h = omega arith
-limit_grows zero (suc m) h = let q = limit_grows zero m zero_le in omega arith
+limit_grows zero (suc m) h = let q = limit_grows zero m zero-le in omega arith
 limit_grows (suc n) zero h = absurd (not-suc-le-zero h)
 limit_grows (suc n) (suc m) h = let q = limit_grows n m (omega arith) in omega arith
 
@@ -223,12 +223,12 @@ module _ (f : List ℕ) (small : (i : ℕ) → get_or f i 0 < 256) (k r : ℕ) (
 
 place_le : (xs : List ℕ) (k : ℕ) → key_place xs k ≤ length xs
 unfolding key_place
-place_le [] k = zero_le
+place_le [] k = zero-le
 place_le (x ∷ xs) k = go (eqb x k) (place_le xs k)
   where
     go : (t : Bool) → key_place xs k ≤ length xs → cond t 0 (suc (key_place xs k)) ≤ suc (length xs)
-    go true h = zero_le
-    go false h = suc_le_suc h
+    go true h = zero-le
+    go false h = suc-le-suc h
 
 pub instr_few : (k : ℕ) → key_place (drop 12 (keys_of forms)) k ≤ 24
 instr_few k = rw instrs_are (place_le instr_keys k)

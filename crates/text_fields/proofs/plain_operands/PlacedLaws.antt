@@ -1,7 +1,7 @@
 -- Laws of plain operands, read by their first byte and the number behind it.
 -- Assumes nothing.
 use Rattle.std.proofs.Common.{◌≡◌, ℕ, ◌+◌, ◌-◌, ◌≤◌, Bool, true, false, cond, ◌&&◌, eqb, leb, List, ◌∷◌, length, get_or, sym, refl, ap, ◌∙◌, add-zero, arith, eq-eqb, ne_eqb, eqb-true, le-leb}
-use mathlib.Core.Option.{Option, none, some, none_ne_some, some-injective}
+use mathlib.Core.Option.{Option, none, some, none-ne-some, some-injective}
 use lib.Seq.{sets}
 use borrow.Author.Tests.{eqb-false}
 use Rattle.syntax.specs.Bits.{modulus, half}
@@ -195,9 +195,9 @@ unfolding number
 number_within low high top s v e h = go (is_decimal s) (leb low (spelled 0 s)) (leb (spelled 0 s) high) refl refl e
   where
     go : (d l u : Bool) → is_decimal s ≡ d → leb low (spelled 0 s) ≡ l → guarded (d && (l && u)) (spelled 0 s) ≡ some v → number low top s ≡ some v
-    go false l u p q w = absurd (none_ne_some v w)
-    go true false u p q w = absurd (none_ne_some v w)
-    go true true false p q w = absurd (none_ne_some v w)
+    go false l u p q w = absurd (none-ne-some v w)
+    go true false u p q w = absurd (none-ne-some v w)
+    go true true false p q w = absurd (none-ne-some v w)
     go true true true p q w =
         let z : spelled 0 s ≡ v = some-injective (spelled 0 s) v w in
         let t : leb (spelled 0 s) top ≡ true = le-leb (spelled 0 s) top (omega arith) in
@@ -207,7 +207,7 @@ digits_some : (f : List ℕ) (v : ℕ) → number 0 (half - 1) f ≡ some v → 
 digits_some f v e h = go (number_none 0 (half - 1) f h ∙ e)
   where
     go : none ≡ some v → ⊥
-    go q = none_ne_some v q
+    go q = none-ne-some v q
 
 plain_is : (f : List ℕ) (b : Base) (l : List ℕ) (at : ℕ) (r : OperandRead) → operand f ≡ some (plain b) → r ≡ record { kind = base_kind b; number = base_number b; count = 0; row = 0 } → OperandIs (operand f) l at r l
 unfolding answer_of args_of

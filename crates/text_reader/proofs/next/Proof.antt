@@ -19,7 +19,7 @@ use contract.Lifetimes.{AllOutlive}
 use contract.Monad.{Fun, fact}
 use contract.Running.{tables, tables_of}
 use types.Kit.{‵, raw, given, some, later, ◌⊛◌, ⋆, ◌$◌, ◌∵◌, !, qed, by, move, keep, drop, use1, use2, split, join, pick, learn, rewrite, fsplit, fsplit3, fjoin, fjoin3, feq_i, suffices, frame, await, done}
-use types.Part.{whole, sub, look_in, store_in}
+use types.Part.{whole, sub, look_in, storeIn}
 use types.Run.{look, init, forget, stop, hop, fld, from, load, of_opd, and_then, no_more, assigns, land, returns, enter, alloc1, alloc0, params1, pass1, pass0, free1, free0}
 use types.SemTy.{Body}
 use sound.WpLaws.{FmC, fm_of, WpFn-mono}
@@ -212,7 +212,7 @@ module _ {M : Type 1} {𝓤 : Ura M} (𝓛 : Logic 𝓤) (at_mem : Memory → SP
         split ! $ move ! (1 ∷ []) $ use1 𝓛 (raw (fact 𝓤 (n ≡ past_lf bytes e))) (past_said e n) $ heard ! (n ≡ past_lf bytes e) (λ lies. split ! $ move ! (1 ∷ []) $ peeks ! usize (Is usize) (shows 𝓛 usize) n (u₂ ∷ []) (λ n-is.
         land ! (from ! (stop !)) (init ! 9 refl ((uint_Lawful 𝓛 w64).typed n _ n-is).0) $ rewrite ! 9 (λ (u : Val). ‵ (fat full_share (ty_int w64) l₅ 0 u)) (ap only n-is.0) refl $ drop ! $
         -- the number is stored, and the line is taken
-        assigns ! (of_opd ! (load ! (from ! (stop !)) (look ! 8 refl))) (from ! (hop ! (look ! 16 refl) (fld ! refl (stop !)))) (store_in ! 3 (sub ! 1 refl (whole !)) (tt, record { fits = n-is.1 })) $
+        assigns ! (of_opd ! (load ! (from ! (stop !)) (look ! 8 refl))) (from ! (hop ! (look ! 16 refl) (fld ! refl (stop !)))) (storeIn ! 3 (sub ! 1 refl (whole !)) (tt, record { fits = n-is.1 })) $
         move ! (1 ∷ []) $ use2 𝓛 (raw ((Part 𝓛 at_mem run).pre (to_part e))) (goes_part e (fits was) e-is.1) $
         calls_at ! fm (Part 𝓛 at_mem run) known-part (to_part e) (and_then ! (load ! (from ! (stop !)) (look ! 13 refl)) (and_then ! (load ! (from ! (stop !)) (look ! 11 refl)) (and_then ! (load ! (from ! (stop !)) (look ! 9 refl)) (no_more !)))) (λ u₃.
         use1 𝓛 (later (some (λ (s : Bor (List ℕ)). ((‵ (flft κ' q') ⊛ ‵ ftrue) ⊛ ‵ ((ShrSlice (named 1) κ' u8).own_val s (u₃ ∷ []))) ⊛ raw (ensured 𝓛 part.ended (part.clauses 𝓛 at_mem run) (κ', tt) (h.text, (h.at, (e, tt))) tt s)))) (id⊢ 𝓤 _) $ await ! tt $ pick ! (λ s.

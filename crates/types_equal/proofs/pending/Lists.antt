@@ -6,9 +6,9 @@ use Prim.Native.Nat.{ℕ, zero, suc, ◌+◌, ◌-◌, ◌*◌, ◌<◌, ◌≤�
 use native.Mathlib.Omega.{arith}
 use native.Mathlib.Nat.{not-suc-le-zero}
 use lib.Dec.{eqb, ltb}
-use lib.ListN.{length, get_or, set, length_set}
+use lib.ListN.{length, get_or, set, length-set}
 use lib.Seq.{get_or-set_same, get_or-set_other}
-use borrow.Author.Tests.{eqb-true, eqb-false, ltb-true, ltb_false}
+use borrow.Author.Tests.{eqb-true, eqb-false, ltb-true, ltb-false}
 use Rattle.syntax.specs.Syntax.{stack}
 use Rattle.types.specs.Types.{Ty, push, join, Arg, meets}
 use Rattle.types.proofs.Filling.{join_assoc}
@@ -32,7 +32,7 @@ power_less a (suc b) h = go (power_less a b) (ltb a b) refl
   where
     go : (a < b → 3 * power a ≤ power b) → (t : Bool) → ltb a b ≡ t → 3 * power a ≤ 3 * power b
     go f true e = let g = f (ltb-true a b e) in omega arith
-    go f false e = let g = ltb_false a b e in let q : a ≡ b = omega arith in subst (λ z. 3 * power a ≤ 3 * power z) q (omega arith)
+    go f false e = let g = ltb-false a b e in let q : a ≡ b = omega arith in subst (λ z. 3 * power a ≤ 3 * power z) q (omega arith)
 
 -- ---- lists that agree in the first n entries
 abbrev pub Agree : ℕ → List ℕ → List ℕ → Type 0
@@ -91,15 +91,15 @@ low_fits m l i e f = go m f (ltb e 32768) refl
   where
     go : (m : ℕ) → Low m l i e → (t : Bool) → ltb e 32768 ≡ t → i ≤ l + room m
     go m f true h = let g = f.0 (ltb-true e 32768 h) in omega arith
-    go zero f false h = absurd (not-suc-le-zero (f.1 (ltb_false e 32768 h)).0)
-    go (suc m) f false h = let g = (f.1 (ltb_false e 32768 h)).2 in let k = ltb_false e 32768 h in omega arith
+    go zero f false h = absurd (not-suc-le-zero (f.1 (ltb-false e 32768 h)).0)
+    go (suc m) f false h = let g = (f.1 (ltb-false e 32768 h)).2 in let k = ltb-false e 32768 h in omega arith
 
 pub low_most : (m l i e : ℕ) → Low m l i e → e ≤ 33282
 low_most m l i e f = go (ltb e 32768) refl
   where
     go : (t : Bool) → ltb e 32768 ≡ t → e ≤ 33282
     go true h = let g = ltb-true e 32768 h in omega arith
-    go false h = (f.1 (ltb_false e 32768 h)).1
+    go false h = (f.1 (ltb-false e 32768 h)).1
 
 pub low_down : (m l i x : ℕ) → Low m l (suc i) x → Low m l i x
 low_down m l i x f = ((λ z. let g = f.0 z in omega arith), (λ z. let g = f.1 z in let u = g.2 in (g.0, g.1, omega arith)))
@@ -151,7 +151,7 @@ module _ (m : ℕ) (ws : List ℕ) (top : ℕ) (out : List ℕ) (n i : ℕ) (e :
         record {
           most = omega arith;
           keeps = λ l p. subst (λ z. Pends m l (set out i x) z) (sym e) (put_pends m l out i x b (λ j q. g.keeps l p j (omega arith)) (f l i (last_low l p)));
-          long = length_set out i x ∙ g.long;
+          long = length-set out i x ∙ g.long;
         }
 
     pub rest_one : Rest m ws top (set out i x) n
@@ -162,7 +162,7 @@ module _ (m : ℕ) (ws : List ℕ) (top : ℕ) (out : List ℕ) (n i : ℕ) (e :
 
   module _ (x y : ℕ) (b : n < length out) (v : Lower m (get_or out i 0) x) (w : Lower m (get_or out i 0) y) where
     fits_both : n < length (set out i y)
-    fits_both = let h = length_set out i y in omega arith
+    fits_both = let h = length-set out i y in omega arith
 
     mass_both : mass (set (set out i y) n x) (n + 1) ≡ power (weight x) + (power (weight y) + mass out i)
     mass_both =
@@ -189,7 +189,7 @@ module _ (m : ℕ) (ws : List ℕ) (top : ℕ) (out : List ℕ) (n i : ℕ) (e :
               let u = last_low l p in
               let s : Pends m l (set out i y) n = subst (λ z. Pends m l (set out i y) z) (sym e) (put_pends m l out i y (omega arith) (λ j r. g.keeps l p j (omega arith)) (low_down m l i y (w.1 l i u))) in
               subst (λ z. Pends m l (set (set out i y) n x) z) (sym q) (put_pends m l (set out i y) n x fits_both s (subst (λ z. Low m l z x) (sym e) (v.1 l i u)));
-          long = length_set (set out i y) n x ∙ length_set out i y ∙ g.long;
+          long = length-set (set out i y) n x ∙ length-set out i y ∙ g.long;
         }
 
 module _ (τ : RowTable) (A : List Arg) (ρ : ℕ → ℕ) (d : ℕ) (m : ℕ) (ws : List ℕ) (top : ℕ) (out : List ℕ) (n i : ℕ) (e : n ≡ suc i) (g : Means τ A ρ d ws top out n) where
@@ -223,7 +223,7 @@ module _ (τ : RowTable) (A : List Arg) (ρ : ℕ → ℕ) (d : ℕ) (m : ℕ) (
   pub means_two : (x y : ℕ) → n < length out → FormOf τ A ρ d m entry (Two x y) → Means τ A ρ d ws top (set (set out i y) n x) (n + 1)
   means_two x y b f =
       let q : n + 1 ≡ suc n = omega arith in
-      let h = length_set out i y in
+      let h = length-set out i y in
       let P : Ty stack = pending_type τ A ρ d out i in
       let M : Bool = pending_meets τ A d out i in
       let s : i < length out = omega arith in

@@ -5,7 +5,7 @@ use mathlib.Core.List.{List, [], ◌∷◌, ◌++◌, map}
 use Prim.Native.Nat.{ℕ, zero, suc, ◌+◌, ◌-◌, ◌*◌, ◌/◌, ◌%◌, ◌<◌, ◌≤◌}
 use native.Mathlib.Omega.{arith}
 use lib.ListN.{length, get_or, set, take, length-map, get_or-map, get_or-append}
-use lib.Seq.{map-set_same, get_or-take, length_take_le}
+use lib.Seq.{map-set_same, get_or-take, length-take-le}
 use borrow.Rule.Slice.PartMut.{put_mid, post_of}
 use Rattle.types_equal.specs.pending.Pending.{half, side, room, Low, Pends, Lower}
 use Rattle.types_equal.proofs.pending.Lists.{Agree, Kept, low_fits, low_most, last_low}
@@ -57,7 +57,7 @@ side_still b ws n w e = map-set_same (half b) ws n w 0 e
 -- ---- a part lent and given back
 pub agree_back : (b : Bool) (n e k : ℕ) (ws ys : List ℕ) → n ≤ e → e ≤ length ws → Agree n (side b ws) (side b (put_mid e k ws ys))
 agree_back b n e k ws ys h q i p =
-    let c = length_take_le e ws q in
+    let c = length-take-le e ws q in
     let r : get_or (put_mid e k ws ys) i 0 ≡ get_or ws i 0 = get_or-append (take e ws) (ys ++ post_of e k ws) 0 i (omega arith) ∙ get_or-take e ws i 0 (omega arith) in
     side_at b (put_mid e k ws ys) i ∙ ap (half b) r ∙ sym (side_at b ws i)
 

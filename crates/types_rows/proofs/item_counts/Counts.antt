@@ -8,7 +8,7 @@ use native.Mathlib.Nat.{not-suc-le-zero}
 use lib.Dec.{eqb, leb}
 use lib.ListN.{length, get_or, set, length-set}
 use lib.Seq.{get_or-set_same, get_or-set_other}
-use borrow.Author.Tests.{eqb-true, eqb-false, leb_true, leb_false}
+use borrow.Author.Tests.{eqb-true, eqb-false, leb-true, leb-false}
 use Rattle.syntax.specs.Syntax.{value, stack}
 use Rattle.types.specs.Types.{Ty, nil, push, svar, join, items}
 use Rattle.types.specs.Rows.{size_of, sizes_of}
@@ -66,7 +66,7 @@ module _ (τ : RowTable) where
           let q : items (mean_s τ (suc r)) ≡ items (build_s (mean_v τ) (mean_s τ) (stack_at τ.rows StkVar (suc r))) = ap items (stack_is τ (suc r)) in
           omega arith
       go false e i =
-          let q : items (mean_s τ (suc r)) ≡ 0 = ap items (stack_is τ (suc r) ∙ ap (build_s (mean_v τ) (mean_s τ)) (kind_value τ (cell 4 τ.rows r 0) (cell 4 τ.rows r 1) (cell 4 τ.rows r 2) (suc r) (leb_false 7 (cell 4 τ.rows r 0) e))) in
+          let q : items (mean_s τ (suc r)) ≡ 0 = ap items (stack_is τ (suc r) ∙ ap (build_s (mean_v τ) (mean_s τ)) (kind_value τ (cell 4 τ.rows r 0) (cell 4 τ.rows r 1) (cell 4 τ.rows r 2) (suc r) (leb-false 7 (cell 4 τ.rows r 0) e))) in
           omega arith
 
   pub items_size : (h : ℕ) → items (mean_s τ h) ≤ size_at τ h
@@ -149,8 +149,8 @@ module _ (before parts : List ℕ) (n : ℕ) where
         same x k u = get_or-set_other after (4 * r + 3) (4 * x + k) v 0 (apart (leb x r) refl) ∙ f.2 x k u
           where
             apart : (w : Bool) → leb x r ≡ w → 4 * x + k ≡ 4 * r + 3 → ⊥
-            apart true g z = let h = leb_true x r g in omega arith
-            apart false g z = let h = leb_false x r g in omega arith
+            apart true g z = let h = leb-true x r g in omega arith
+            apart false g z = let h = leb-false x r g in omega arith
 
         counts : (x : ℕ) → x ≤ r + 1 → items_at (set after (4 * r + 3) v) x ≡ items (mean_s (tab before parts) x)
         counts zero u = f.3 zero (omega arith)
@@ -166,8 +166,8 @@ module _ (before parts : List ℕ) (n : ℕ) where
                 get_or-set_other after (4 * r + 3) (4 * x + 3) v 0 (λ z. p (omega arith)) ∙ f.3 (suc x) (lower_than (leb (suc x) r) refl p)
               where
                 lower_than : (w : Bool) → leb (suc x) r ≡ w → (x ≡ r → ⊥) → suc x ≤ r
-                lower_than true h p = leb_true (suc x) r h
-                lower_than false h p = let k = leb_false (suc x) r h in absurd (p (omega arith))
+                lower_than true h p = leb-true (suc x) r h
+                lower_than false h p = let k = leb-false (suc x) r h in absurd (p (omega arith))
 
     pub filling_last : n ≤ r → n ≤ 65536 → CountsFilled before after parts n
     filling_last l s =

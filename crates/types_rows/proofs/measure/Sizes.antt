@@ -8,7 +8,7 @@ use native.Mathlib.Nat.{not-suc-le-zero, zero-add}
 use lib.Dec.{eqb, leb, ltb}
 use lib.ListN.{length, length-append, get_or, set, get_or-eq_default, get_or-append}
 use lib.Seq.{get_or_at, get_or-set_same, get_or-set_other, set_out}
-use borrow.Author.Tests.{eqb-true, eqb_false, eq-eqb, ne_eqb, leb-true, leb-false, ltb-true, ltb-false, le-leb}
+use borrow.Author.Tests.{eqb-true, eqb-false, eq-eqb, ne_eqb, leb-true, leb-false, ltb-true, ltb-false, le-leb}
 use Rattle.types.specs.Rows.{in_turn, value_row, known_refs, row_refs, total, size_of, sizes_of}
 use Rattle.types.proofs.InTurn.{in_turn_snoc}
 use Rattle.tables.specs.Tables.{RowTable, cell, span, known_of, code_row_at, row_from, row_at, rows_from, rows_in}
@@ -148,7 +148,7 @@ module _ (τ : RowTable) where
               let p : x ≡ h = eqb-true x h k in
               rw p (get_or-set_same sizes h s 0 (let l = leb-false (length sizes) h g in omega arith) ∙ e)
           other false k =
-              let p = eqb_false x h k in
+              let p = eqb-false x h k in
               let q : get_or (set sizes h s) x 0 ≡ get_or sizes x 0 = get_or-set_other sizes h x s 0 p in
               q ∙ m x (λ w. z (q ∙ w))
 

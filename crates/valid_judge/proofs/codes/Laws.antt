@@ -6,7 +6,7 @@ use mathlib.Core.List.{List, ◌∷◌}
 use mathlib.Core.Bool.{Bool, true, false}
 use lib.Dec.{eqb, leb}
 use lib.ListN.{length, get_or, get_or-eq_default}
-use borrow.Author.Tests.{eqb-true, eqb-false, leb-true, leb_false}
+use borrow.Author.Tests.{eqb-true, eqb-false, leb-true, leb-false}
 use Rattle.syntax.specs.Syntax.{Kind, value, Operand, Arith, add, sub, mul, Branch, beq, bneq, bgt, blt, bgte, blte, Instr, aop, bop, mov, ld, st, malloc, getsp, setsp, salloc, sfree, sld, sst, slp, ssp, jmp, halt, unpack}
 use Rattle.types.specs.Rows.{names}
 use Rattle.tables.specs.Tables.{OperandTable, cell, operand_at, operands_at, instr_from, instr_at}
@@ -170,7 +170,7 @@ not_jump k h n = go (leb 9 k) refl
   where
     go : (b : Bool) → leb 9 k ≡ b → k < 9
     go true e = absurd (n (h (leb-true 9 k e)))
-    go false e = leb_false 9 k e
+    go false e = leb-false 9 k e
 
 -- an instruction that is no `unpack` leaves the letters as they are
 pub same_letters_lem : (ι : List ℕ) (ω : OperandTable) (j k : ℕ) → k ≡ cell 8 ι j 0 → (k ≡ 23 → ⊥) → (Δ : List Kind) → letters_after (instr_at ι ω j) Δ ≡ Δ

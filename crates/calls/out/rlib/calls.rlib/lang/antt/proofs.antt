@@ -1,0 +1,10 @@
+pub mod All
+pub mod Lines
+pub mod Samples
+pub mod Startable
+pub mod Tuples
+pub mod Form
+pub mod Kept
+pub mod GoodForm
+pub mod Bits
+pub mod Budgets

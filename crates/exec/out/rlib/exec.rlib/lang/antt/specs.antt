@@ -1,0 +1,4 @@
+pub mod Machine
+pub mod Tests
+pub mod Run
+pub mod Steps

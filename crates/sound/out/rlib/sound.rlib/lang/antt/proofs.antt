@@ -1,0 +1,15 @@
+pub mod Memory
+pub mod Words
+pub mod Heaps
+pub mod Consequences
+pub mod Parts
+pub mod Formed
+pub mod Operands
+pub mod Positions
+pub mod Invariant
+pub mod Step
+pub mod GoodForm
+pub mod Short
+pub mod Running
+pub mod First
+pub mod Demand3

@@ -1,0 +1,4 @@
+pub mod Partial
+pub mod Bits
+pub mod Syntax
+pub mod Fault

@@ -1,0 +1,5 @@
+pub mod Bytes
+pub mod Grammar
+pub mod PassOne
+pub mod Samples
+pub mod Entries

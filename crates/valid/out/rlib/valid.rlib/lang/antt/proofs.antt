@@ -1,0 +1,17 @@
+pub mod Reading
+pub mod Clear
+pub mod Judge
+pub mod Unique
+pub mod Order
+pub mod Accept
+pub mod Tests
+pub mod Numbers
+pub mod Verdicts
+pub mod Bound
+pub mod FirstFault
+pub mod Lines
+pub mod Grammar
+pub mod Shape
+pub mod Bare
+pub mod Unfit
+pub mod Item

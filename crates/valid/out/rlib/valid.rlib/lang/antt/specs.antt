@@ -1,0 +1,9 @@
+pub mod Program
+pub mod Rules
+pub mod Tests
+pub mod PassThree
+pub mod Verdict
+pub mod Claims
+pub mod FirstFault
+pub mod FirstItem
+pub mod Bounds
