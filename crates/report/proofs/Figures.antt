@@ -66,8 +66,8 @@ module _ {Before : ℤ → ℤ → Type 0} {choose : ℤ → ℤ → ℤ} {best 
   best_head z [] = rw (k.alone z) (k.same z)
   best_head z (y ∷ ys) = rw (k.next z y ys) (k.onward (best_head (choose z y) ys) (k.left z y))
 
-  best_tail : (z : ℤ) {zs : List ℤ} {x : ℤ} → Among x zs → Before (best z zs) x
-  best_tail z {x = x} (first {zs = ys}) = rw (k.next z x ys) (k.onward (best_head (choose z x) ys) (k.right z x))
+  best_tail : {x : ℤ} (z : ℤ) {zs : List ℤ} → Among x zs → Before (best z zs) x
+  best_tail {x = x} z (first {zs = ys}) = rw (k.next z x ys) (k.onward (best_head (choose z x) ys) (k.right z x))
   best_tail z (later {y = y} {zs = ys} m) = rw (k.next z y ys) (best_tail (choose z y) m)
 
   best_before : (z : ℤ) (zs : List ℤ) (x : ℤ) → Among x (z ∷ zs) → Before (best z zs) x
