@@ -1,4 +1,4 @@
 pub mod Machine
-pub mod Tests
 pub mod Run
 pub mod Steps
+pub mod Tests

@@ -1,5 +1,5 @@
 -- The machine, one step (document 01, "Machine"; Figures 7 and 8). Type arguments and rows do nothing at run time.
-use Rattle.std.specs.Prelude.{ℕ, suc, ◌+◌, ◌-◌, ◌*◌, ◌%◌, min, Bool, true, false, not, ◌&&◌, cond, List, [], ◌∷◌, ◌++◌, map, leb, ltb, eqb, length, get_or, set, take, replicate}
+use Rattle.std.specs.Prelude.{ℕ, suc, ◌+◌, ◌-◌, ◌*◌, ◌%◌, min, Bool, true, false, ◌&&◌, cond, List, [], ◌∷◌, ◌++◌, map, leb, ltb, eqb, length, get_or, set, take, replicate}
 use Rattle.std.proofs.Math.Option.{Option, none, some}
 use Rattle.std.proofs.Math.ListN.{get_elem?}
 use Rattle.syntax.specs.Bits.{modulus, half}
@@ -122,7 +122,7 @@ compute add x y = (x + y) % modulus
 compute sub x y = (x + (modulus - y % modulus)) % modulus
 compute mul x y = (x * y) % modulus
 
--- the sign of a number: below zero, zero, above zero
+-- the three signs of the branch tests
 pub data Sign : Type 0 where
   negative null positive : Sign
 
@@ -130,32 +130,26 @@ pub data Sign : Type 0 where
 unfoldable pub sign_of : ℕ → Sign
 sign_of n = cond (eqb n 0) null (cond (ltb n half) positive negative)
 
--- the number is zero
-unfoldable pub is_zero : Sign → Bool
-is_zero null = true
-is_zero negative = false
-is_zero positive = false
-
--- it is above zero
-unfoldable pub is_above : Sign → Bool
-is_above positive = true
-is_above negative = false
-is_above null = false
-
--- it is below zero
-unfoldable pub is_below : Sign → Bool
-is_below negative = true
-is_below null = false
-is_below positive = false
-
--- The branch tests, each by "its formula on the sign of the tested number" (document 02, point 4): ‖bop‖ of the paper, as Tests.antt says.
+-- "The branch tests are a constant table of six rows by three signs."
 unfoldable pub taken : Branch → Sign → Bool
-taken beq s = is_zero s
-taken bneq s = not (is_zero s)
-taken bgt s = is_above s
-taken blt s = is_below s
-taken bgte s = not (is_below s)
-taken blte s = not (is_above s)
+taken beq negative = false
+taken beq null = true
+taken beq positive = false
+taken bneq negative = true
+taken bneq null = false
+taken bneq positive = true
+taken bgt negative = false
+taken bgt null = false
+taken bgt positive = true
+taken blt negative = true
+taken blt null = false
+taken blt positive = false
+taken bgte negative = false
+taken bgte null = true
+taken bgte positive = true
+taken blte negative = true
+taken blte null = true
+taken blte positive = false
 
 -- ---- one step
 -- how a step ends a run: at `halt`, "stack full", "heap full", "stuck"

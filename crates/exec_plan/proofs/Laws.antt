@@ -15,7 +15,7 @@ use Rattle.tables.specs.Tables.{cell}
 use Rattle.exec_words.specs.arith.Codes.{arith_of, branch_of}
 use Rattle.exec_words.specs.memory.Lent.{base_kind}
 use Rattle.exec_words.proofs.memory.Laws.{any_default}
-use Rattle.exec_plan.proofs.Table.{every, at}
+use Rattle.exec_words.proofs.arith.Table.{every, at}
 use Rattle.exec_machine.specs.Step.{Tables, tables}
 use Rattle.exec_plan.specs.Plan.{forms, halts, columns, chosen, class_of, fifth_of, form_in, added_of, last_of, put_row, kind_at, column_at, form_for, form_at, goal_at, goal_in, last_at, row_of, stuck_row, Plan}
 

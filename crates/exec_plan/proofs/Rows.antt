@@ -23,7 +23,7 @@ use Rattle.exec_machine.proofs.Low.{low_base}
 use Rattle.exec_machine.proofs.Forms.{moves, mov_moves, unpack_moves, here, nowhere, arith_is, branch_is, jmp_is, moved_is, malloc_is, getsp_is, setsp_is, salloc_is, sfree_is, sld_is, sst_is, slp_is, ssp_is, ld_is, st_is, halt_is}
 use Rattle.exec_plan.specs.Plan.{forms, halts, columns, reads_operand, chosen, code_at, operand_in, count_at, kind_at, number_at, target_at, column_at, class_of, fifth_of, form_in, added_of, last_of, form_for, form_at, goal_at, goal_in, last_at, row_of, stuck_row, Plan, planned}
 use Rattle.exec_plan.proofs.Laws.{all_three, past_form, form_in_lem, fifth_goal, fifth_low, form_back, class_small}
-use Rattle.exec_plan.proofs.Table.{every, row_test, at2}
+use Rattle.exec_words.proofs.arith.Table.{every, row_test, at2}
 use Rattle.exec_words.proofs.arith.Laws.{sub_is_add}
 
 none_true : {X : Type 0} → false ≡ true → X

@@ -3,7 +3,18 @@
 ghost use Rattle.std.specs.Prelude.{◌≡◌, ◌*◌, ◌%◌, ◌^◌, ◌<◌};
 ghost use Rattle.syntax.specs.Bits.{signed};
 ghost use Rattle.exec.specs.Machine.{compute, sign_of, taken};
-ghost use Rattle.exec_words.specs.arith.Codes.{arith_of, branch_of};
+ghost use Rattle.exec_words.specs.arith.Codes.{arith_of, branch_of, sign_at, column};
+
+// "The branch tests are a constant table of six rows by three signs": rows beq, bneq, bgt, blt, bgte, blte, columns negative,
+// zero, positive.
+const BRANCH: [[bool; 3]; 6] = [
+    [false, true, false],
+    [true, false, true],
+    [false, false, true],
+    [true, false, false],
+    [false, true, true],
+    [true, true, false],
+];
 
 fn wide(x: u32) -> u64
     ensures { (result ≡ x) × (result < 2 ^ 32) }
@@ -39,18 +50,34 @@ fn signed(x: u32) -> i32
     }
 }
 
-// Whether the branch of that kind is taken on x, read as signed: kinds 0 to 5 are beq (zero), bneq (not zero), bgt (above zero),
-// blt (below), bgte (not below) and blte (not above); any other is blte.
+// The table's column for x, read as signed.
+fn sign(x: u32) -> usize
+    ensures { result ≡ column (sign_of x) }
+{
+    let z = signed(x);
+    if z < 0 {
+        0
+    } else if z == 0 {
+        1
+    } else {
+        2
+    }
+}
+
+fn is_taken(kind: usize, sign: usize) -> bool
+    requires { (kind < 6) × (sign < 3) }
+    ensures { result ≡ taken (branch_of kind) (sign_at sign) }
+{
+    BRANCH[kind][sign]
+}
+
+// Whether the branch of that kind, in the table's order, is taken on x; a kind past the table is the last.
 pub fn branches(kind: usize, x: u32) -> bool
     ensures { result ≡ taken (branch_of kind) (sign_of x) }
 {
-    let z = signed(x);
-    match kind {
-        0 => z == 0,
-        1 => z != 0,
-        2 => z > 0,
-        3 => z < 0,
-        4 => z >= 0,
-        _ => z <= 0,
+    if kind < 6 {
+        is_taken(kind, sign(x))
+    } else {
+        is_taken(5, sign(x))
     }
 }

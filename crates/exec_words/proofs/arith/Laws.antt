@@ -1,13 +1,12 @@
--- Laws of the operations, of the signed reading, and of the branch tests.
-use Rattle.std.proofs.Common.{◌≡◌, ℕ, zero, suc, ◌+◌, ◌-◌, ◌*◌, ◌%◌, ◌^◌, ◌<◌, ◌≤◌, Bool, not, eqb, ℤ, pos, negsuc, ◌-ℤ◌, sym, refl, ap, ◌∙◌, lt_of_le_of_lt, le_of_lt, mul-le-mul_left, mul-lt-mul_of_pos_right, zero-add, arith, pow_pos, pow-add, to_z-of_z, w32, SFits, to_z, of_z, le-ltb, lt-ltb, ne_eqb}
+-- Laws of the operations, of the signed reading, and of signs.
+use Rattle.std.proofs.Common.{◌≡◌, ℕ, zero, suc, ◌+◌, ◌-◌, ◌*◌, ◌%◌, ◌^◌, ◌<◌, ◌≤◌, Bool, true, false, not, T, ltb, List, [], ◌∷◌, get_or, ℤ, pos, negsuc, ◌-ℤ◌, sym, refl, ap, ◌∙◌, lt_of_le_of_lt, le_of_lt, mul-le-mul_left, mul-lt-mul_of_pos_right, zero-add, arith, pow_pos, pow-add, to_z-of_z, w32, SFits, to_z, of_z, ltb-false, ltb-true, le-ltb, lt-ltb, eq-eqb, ne_eqb}
 use mathlib.Core.Path.{subst⁻¹}
-use lib.Dec.{eqb-suc-zero}
-use lib.Signed.{mag, lt_z, le_z}
-use Rattle.syntax.specs.Bits.{signed}
-use Rattle.syntax.specs.Syntax.{add, sub, Branch, beq, bneq, bgt, blt, bgte, blte}
-use Rattle.exec.specs.Machine.{compute, Sign, sign_of, is_zero, taken}
-use Rattle.exec.proofs.Tests.{OfSign, minus, nought, plus, sign_is, lt_zero, gt_zero, ge_zero, le_zero}
-use Rattle.exec_words.specs.arith.Codes.{arith_of, branch_of}
+use lib.Signed.{mag, lt_z}
+use Rattle.syntax.specs.Bits.{half, signed}
+use Rattle.syntax.specs.Syntax.{add, sub}
+use Rattle.exec.specs.Machine.{compute, Sign, negative, null, positive, sign_of, taken}
+use Rattle.exec_words.specs.arith.Codes.{arith_of, branch_of, sign_at, column}
+use Rattle.exec_words.proofs.arith.Table.{at2}
 
 -- ---- operations
 -- the product of two numbers of k bits has at most k + k
@@ -66,36 +65,99 @@ high x h k =
     let q : 4294967295 - x ≡ 2 ^ 32 - suc x = omega arith in
     to_z-of_z (high_fits x h k) ∙ high_is x h k ∙ simp (le-ltb x (2 ^ 31) h) (ap negsuc q)
 
+-- ---- signs
+-- a number below half of the modulus reads as itself
+module _ (x : ℕ) (z : ℤ) (k : mag z < 2 ^ 31) (e : z ≡ signed x) where
+  abbrev back : ℤ
+  back = to_z w32 (of_z w32 z)
+
+  back_is : back ≡ z
+  back_is = to_z-of_z (record { sfits = k })
+
+  pub sign_negative : lt_z back (pos 0) ≡ true → 0 ≡ column (sign_of x)
+  unfolding signed sign_of column
+  sign_negative t = go (ltb x half) refl
+    where
+      go : (b : Bool) → ltb x half ≡ b → 0 ≡ column (sign_of x)
+      go true q =
+          let f : z ≡ pos x = e ∙ simp q in
+          let u : ltb x 0 ≡ true = ap (λ (y : ℤ). lt_z y (pos 0)) (sym f ∙ sym back_is) ∙ t in
+          let l : x < 0 = ltb-true x 0 u in
+          absurd (omega arith)
+      go false q = let h : half ≤ x = ltb-false x half q in let n : x ≡ 0 → ⊥ = λ p. omega arith in simp (ne_eqb x 0 n, q)
+
+  small : lt_z back (pos 0) ≡ false → x < half
+  unfolding signed
+  small t = go (ltb x half) refl
+    where
+      go : (b : Bool) → ltb x half ≡ b → x < half
+      go true q = ltb-true x half q
+      go false q =
+          let f : z ≡ negsuc (2 ^ 32 - suc x) = e ∙ simp q in
+          let u : ◌≡◌ {A = Bool} true false = ap (λ (y : ℤ). lt_z y (pos 0)) (sym f ∙ sym back_is) ∙ t in
+          absurd (let y : ◌≡◌ {A = ℕ} 0 1 = cc in omega arith)
+
+  bits_are : x < half → of_z w32 z ≡ x
+  unfolding signed
+  bits_are h = let f : z ≡ pos x = e ∙ simp (lt-ltb x half h) in ap (λ (y : ℤ). of_z w32 y) f
+
+  pub sign_null : lt_z back (pos 0) ≡ false → of_z w32 z ≡ 0 → 1 ≡ column (sign_of x)
+  unfolding sign_of column
+  sign_null t n = let h : x < half = small t in simp (eq-eqb x 0 (sym (bits_are h) ∙ n))
+
+  pub sign_positive : lt_z back (pos 0) ≡ false → (of_z w32 z ≡ 0 → ⊥) → 2 ≡ column (sign_of x)
+  unfolding sign_of column
+  sign_positive t n = let h : x < half = small t in simp (ne_eqb x 0 (λ q. n (bits_are h ∙ q)), lt-ltb x half h)
+
 -- ---- branches
--- the tests as code makes them on a signed number: of its bits, or of what the machine reads back from them
-abbrev pub compared : Branch → ℤ → Bool
-compared beq z = eqb (of_z w32 z) 0
-compared bneq z = not (eqb (of_z w32 z) 0)
-compared bgt z = lt_z (pos 0) (to_z w32 (of_z w32 z))
-compared blt z = lt_z (to_z w32 (of_z w32 z)) (pos 0)
-compared bgte z = le_z (pos 0) (to_z w32 (of_z w32 z))
-compared blte z = le_z (to_z w32 (of_z w32 z)) (pos 0)
+abbrev pub table : List (List Bool)
+table =
+    (false ∷ true ∷ false ∷ [])
+    ∷ (true ∷ false ∷ true ∷ [])
+    ∷ (false ∷ false ∷ true ∷ [])
+    ∷ (true ∷ false ∷ false ∷ [])
+    ∷ (false ∷ true ∷ true ∷ [])
+    ∷ (true ∷ true ∷ false ∷ [])
+    ∷ []
 
-zero_bits : {s : Sign} {z : ℤ} → OfSign s z → mag z < 2 ^ 31 → eqb (of_z w32 z) 0 ≡ is_zero s
-unfolding is_zero
-zero_bits (minus k) h = ne_eqb (2 ^ 32 - suc k) 0 (λ e. omega arith)
-zero_bits nought h = refl
-zero_bits (plus k) h = eqb-suc-zero k
+same : Bool → Bool → Bool
+same true b = b
+same false b = not b
 
-compared_is : (o : Branch) {s : Sign} {z : ℤ} → OfSign s z → mag z < 2 ^ 31 → compared o z ≡ taken o s
-unfolding taken
-compared_is beq c h = zero_bits c h
-compared_is bneq c h = ap not (zero_bits c h)
-compared_is bgt c h = rw (to_z-of_z (record { sfits = h })) (gt_zero c)
-compared_is blt c h = rw (to_z-of_z (record { sfits = h })) (lt_zero c)
-compared_is bgte c h = rw (to_z-of_z (record { sfits = h })) (ge_zero c)
-compared_is blte c h = rw (to_z-of_z (record { sfits = h })) (le_zero c)
+same_eq : (a b : Bool) → T (same a b) → a ≡ b
+unfolding same
+same_eq true true t = refl
+same_eq true false t = absurd t
+same_eq false true t = absurd t
+same_eq false false t = refl
 
--- a branch p, which is o, on the number that x reads as
-pub tested : (x : ℕ) {z : ℤ} → mag z < 2 ^ 31 → z ≡ signed x → (o : Branch) {p : Branch} → p ≡ o → compared o z ≡ taken p (sign_of x)
-tested x h e o q = rw q (compared_is o (rw e (sign_is x)) h)
+right : ℕ → ℕ → Bool → Bool
+right k s b = same b (taken (branch_of k) (sign_at s))
 
-pub last_kind : (kind : ℕ) → 5 ≤ kind → branch_of kind ≡ blte
+-- a test at each of the eighteen entries, which antt computes
+pub taken_is : (k s : ℕ) → k < 6 → s < 3 → get_or (get_or table k []) s false ≡ taken (branch_of k) (sign_at s)
+unfolding right same taken branch_of sign_at
+taken_is k s hk hs = same_eq (get_or (get_or table k []) s false) (taken (branch_of k) (sign_at s)) (at2 false 3 right table tt k s hk hs)
+
+column_small : (s : Sign) → column s < 3
+unfolding column
+column_small negative = omega arith
+column_small null = omega arith
+column_small positive = omega arith
+
+pub in_table : {k : ℕ} (x : ℕ) → k ≡ column (sign_of x) → k < 3
+in_table x e = let h = column_small (sign_of x) in omega arith
+
+sign_back : (s : Sign) → sign_at (column s) ≡ s
+unfolding sign_at column
+sign_back negative = refl
+sign_back null = refl
+sign_back positive = refl
+
+pub as_taken : {r : Bool} (kind x : ℕ) {k : ℕ} → k ≡ column (sign_of x) → r ≡ taken (branch_of kind) (sign_at k) → r ≡ taken (branch_of kind) (sign_of x)
+as_taken kind x e h = h ∙ ap (λ (j : ℕ). taken (branch_of kind) (sign_at j)) e ∙ ap (λ (s : Sign). taken (branch_of kind) s) (sign_back (sign_of x))
+
+pub last_kind : (kind : ℕ) → 6 ≤ kind → branch_of 5 ≡ branch_of kind
 unfolding branch_of
 last_kind zero h = absurd (omega arith)
 last_kind (suc zero) h = absurd (omega arith)

@@ -18,7 +18,13 @@ branch_of (suc (suc (suc zero))) = blt
 branch_of (suc (suc (suc (suc zero)))) = bgte
 branch_of (suc (suc (suc (suc (suc k))))) = blte
 
--- a sign's place among the goals of a branch, in the machine's own rows
+-- the table's columns
+unfoldable pub sign_at : ℕ → Sign
+sign_at zero = negative
+sign_at (suc zero) = null
+sign_at (suc (suc k)) = positive
+
+-- a sign's column in the table, as `sign_at` reads it
 unfoldable pub column : Sign → ℕ
 column negative = 0
 column null = 1
