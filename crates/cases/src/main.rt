@@ -5,6 +5,8 @@
 // through the day's report, and compares the line that is written with the packed one, byte by byte: into memory that is longer than the
 // line, whose bytes past it must stay, into memory of just its length, and into memory one byte shorter, which must be refused and left as
 // it was. A case or a day that differs is printed by its name, and at the end how many there are.
+#![tactic(auto)]
+
 ghost use Rattle.std.specs.Prelude.{◌<◌, ◌≤◌, length};
 ghost use Rattle.io.specs.Counts.{IsPrefixLen};
 

@@ -3,6 +3,8 @@
 // 2). Nothing is asked. `check` puts its working memory on the stack, some 438 KB for a large text (module attempt of
 // valid_check); `check_in` is lent it, whatever it holds (module lent): where it is too short it answers 16, line 0, and nothing is changed;
 // else what it holds afterwards is free.
+#![tactic(auto)]
+
 ghost use Rattle.std.specs.Prelude.{◌≡◌, ℕ, List, length};
 ghost use Rattle.valid.specs.Verdict.{check};
 ghost use Rattle.valid_verdict.specs.Answers.{verdict_is};

@@ -4,6 +4,8 @@
 // not, the lent state is as it was. Asked: `plan`, which is to hold the machine's own rows, eight entries longer than the instructions'
 // section. Module attempt puts working memory on the stack, module lent takes it from the caller. rk and rn are the registers' kinds and
 // numbers, sk and sn the stack's, hk and hn the heap's; `place` says how much is in use.
+#![tactic(auto)]
+
 pub mod attempt;
 pub mod lent;
 

@@ -4,6 +4,8 @@
 // nothing bars from starting (`Unbarred`), and `plan`, which is to hold the machine's own rows, long enough for one more than there are
 // instructions.
 // rk and rn are the registers' kinds and numbers, sk and sn the stack's, hk and hn the heap's.
+#![tactic(auto)]
+
 ghost use Rattle.std.specs.Prelude.{◌≡◌, List, ℕ, ◌≤◌};
 ghost use Rattle.std.proofs.Math.Option.{none};
 ghost use Rattle.text.specs.Samples.{samples_of};

@@ -2,6 +2,8 @@
 // as an outcome, and the budget that a run is given.
 // Promised: each is what crate exec says of it. Nothing is asked.
 // rk and rn are the registers' kinds and numbers.
+#![tactic(auto)]
+
 ghost use Rattle.std.specs.Prelude.{◌≡◌, List, ℕ};
 ghost use Rattle.exec.specs.Machine.{at};
 ghost use Rattle.exec.specs.Run.{stopped, answer_of, outcome, budget};

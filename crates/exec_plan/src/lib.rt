@@ -1,6 +1,8 @@
 // The machine's own table of a program, made once for a run: a row of eight numbers for each instruction, its operand and its goals
 // resolved, and behind them a row that is stuck. `predecode` promises each row, as `row_of` has it (specs/Plan.antt). What a row does
 // is what the instruction does (proofs/Rows.antt: `next_is`).
+#![tactic(auto)]
+
 ghost use Rattle.std.specs.Prelude.{◌≡◌, cond, [], ◌∷◌, ℕ, ◌+◌, ◌-◌, ◌*◌, ◌<◌, ◌≤◌, ltb, eqb, length, get_or, set};
 ghost use Rattle.exec.specs.Machine.{sign_of, taken};
 ghost use Rattle.exec_words.specs.arith.Codes.{branch_of};

@@ -2,6 +2,8 @@
 // text fits the image that is lent, which every text does where it has `Space`. Where it fits, what bars the program from starting, as
 // `barred` of crate exec has it, or else that the tables represent the program to the machine and fit it (`Fit` of crate exec_machine: few
 // instructions, registers r1 to r8, operands that stand in the tables), and how many samples it wants. Nothing is asked.
+#![tactic(auto)]
+
 ghost use Rattle.std.specs.Prelude.{◌≡◌, true, cond, List, ◌≤◌, eqb, length};
 ghost use Rattle.syntax.specs.Syntax.{value, Instr};
 ghost use Rattle.syntax.proofs.Least.{least_of};

@@ -3,6 +3,8 @@
 // represent. Asked: registers, stack and heap as long as the limits, tables that decoding has seen to (`Fit`), and a run that only comes
 // to states with each handle in a register at a tuple's start (`Safe`).
 // rk and rn are the registers' kinds and numbers, sk and sn the stack's, hk and hn the heap's.
+#![tactic(auto)]
+
 ghost use Rattle.std.specs.Prelude.{◌≡◌, List, ℕ, ◌-◌, ◌*◌, ◌≤◌, ltb};
 ghost use Rattle.exec.specs.Machine.{Bodies};
 ghost use Rattle.exec.specs.Run.{run};

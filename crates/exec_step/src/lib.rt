@@ -4,6 +4,8 @@
 // are made from, budget or none. Asked: registers, stack and heap as long as the limits, a row that names registers, and operands that
 // stand in the tables, and that a handle in a register is at a tuple's start. rk and rn are the registers' kinds and numbers, sk and sn the
 // stack's, hk and hn the heap's; h is the depth, u the words of the heap in use.
+#![tactic(auto)]
+
 pub mod heap;
 pub mod moved;
 pub mod registers;

@@ -3,6 +3,8 @@
 // `start` and `resume` put their working memory on the stack: a text of at most 2,048 bytes is tried in a small image; one that does not
 // fit it goes to the large one (module attempt of exec_call). Module lent has the same two with working memory from the caller.
 // rk and rn are the registers' kinds and numbers, sk and sn the stack's, hk and hn the heap's; `place` says how much is in use.
+#![tactic(auto)]
+
 pub mod lent;
 
 ghost use Rattle.std.specs.Prelude.{◌≡◌};

@@ -1,3 +1,4 @@
+#![tactic(auto)]
 // The decoded program as one image: its tables are sections of one lent slice, at places that its length decides. Promised: the places,
 // which stand one behind the other within the slice (proofs/Laws.antt: `ordered`). Nothing is asked, and nothing is set beforehand. There
 // are five layouts: for a slice that is too short to hold a text, no room at all; for small texts; and for every text; the last two with

@@ -2,6 +2,8 @@
 // prepared for pass three (module prepare). Promised: whether the text fits the image that is lent, which every text does where it has
 // `Space`. Where it fits, the fault of passes one and two, as crate valid has them, or else that the tables stand for the program of the
 // text, with what these passes have seen of it. Nothing is asked.
+#![tactic(auto)]
+
 pub mod prepare;
 
 ghost use Rattle.std.specs.Prelude.{◌≡◌, true, ℕ, ◌-◌, ◌≤◌, length};

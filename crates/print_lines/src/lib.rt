@@ -1,6 +1,8 @@
 // The lines that the check program and the run program print, written into lent memory.
 // Promised: the line of the answer as crate print has it (`verdict_line`, `answer_line`), at the start of the memory, if it has room for the
 // whole of it, and bytes past it stay; else the memory is left as it was (`written`); and that 64 bytes are enough. Nothing is asked.
+#![tactic(auto)]
+
 ghost use Rattle.std.specs.Prelude.{◌≡◌, [], ◌∷◌, ◌++◌, ◌+◌, ◌≤◌, length, take};
 ghost use Rattle.exec.specs.Run.{halted_after};
 ghost use Rattle.print.specs.Decimal.{decimal};

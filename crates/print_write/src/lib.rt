@@ -2,6 +2,8 @@
 // Promised: the memory holds what is put, up to the place that is answered, behind what it held before, and what is past it stays
 // (specs/Put.antt: `Puts`); of a line, what `written` of crate print says. Asked, of what is put alone: that there is room for it, 20 bytes
 // for a number and 21 for a signed one.
+#![tactic(auto)]
+
 ghost use Rattle.std.specs.Prelude.{◌≡◌, ◌+◌, ◌%◌, ◌≤◌, ◌<◌, length, drop};
 ghost use Rattle.syntax.specs.Bits.{signed};
 ghost use Rattle.print.specs.Decimal.{digit, decimal, signed_decimal};

@@ -1,5 +1,7 @@
 // Walks the text on standard input by the reader of lines, compares each line with the one that the line finder gives, and prints how many
 // lines there are and how many agree. All agree: `agreeing` promises the count of the lines.
+#![tactic(auto)]
+
 ghost use Rattle.std.specs.Prelude.{◌≡◌, cond, length};
 ghost use Rattle.text.specs.Bytes.{same_bytes, lines_of};
 

@@ -2,3 +2,5 @@
 // of every report (specs/Claims.antt), and worked days (specs/Worked.antt). Definitions, and the proofs of the claims: a line is read as
 // the stop that it was printed for and no other is (proofs/Stops.antt), every stop that a start answers is such a line (proofs/Starts.antt),
 // the figures hold (proofs/Figures.antt), and the rest (proofs/Claims.antt).
+#![tactic(auto)]
+

@@ -2,6 +2,8 @@
 // Promised: the answer is that of `report` of crate report, on every text (specs/Answers.antt: `report_is`). Nothing is asked.
 // Inside, an integer is kept with 2^31 added, so that all are 0 to 2^32 - 1: sums, order and the quotient rounded down are those of
 // unsigned numbers, and 2^31 is taken away at the end.
+#![tactic(auto)]
+
 pub mod line;
 
 ghost use Rattle.std.specs.Prelude.{◌≡◌, ◌<◌, min, max};

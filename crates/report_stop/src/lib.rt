@@ -1,5 +1,7 @@
 // One line of a day: the stop that it tells, as a day's report counts it.
 // Promised: the answer is that of `stop_of` of crate report on the line's bytes (specs/Told.antt: `told`). Nothing is asked.
+#![tactic(auto)]
+
 ghost use Rattle.std.specs.Prelude.{◌≡◌, not, [], ◌∷◌, ℕ};
 ghost use Rattle.syntax.specs.Partial.{chain};
 ghost use Rattle.text.specs.Bytes.{same_bytes, number};

@@ -3,6 +3,8 @@
 // Promised, on every input: the numbers and the whole lent state are those of check, `starting` and `continuing`; crate stal_numbers has
 // the number and the values of each case. Nothing is asked. They put their working memory on the stack; module lent has the same three with
 // working memory from the caller. rk and rn are the registers' kinds and numbers, sk and sn the stack's, hk and hn the heap's.
+#![tactic(auto)]
+
 pub mod day;
 pub mod lent;
 

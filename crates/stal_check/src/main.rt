@@ -1,5 +1,7 @@
 // The check program: reads a program's text from standard input and prints `accept,blocks,instructions` or `refuse,number,line`. Promised
 // (`check_line`), on every text: the bytes to be printed are the line of the verdict of crate valid (`verdict_line` of crate print).
+#![tactic(auto)]
+
 ghost use Rattle.std.specs.Prelude.{◌≡◌, ◌≤◌, length, take};
 ghost use Rattle.valid.specs.Verdict.{check};
 ghost use Rattle.print.specs.Lines.{verdict_line};

@@ -1,6 +1,8 @@
 // What the library tells of a day's report and of written lines, as numbers, and the answers that its numbers stand for; for crate stal.
 // Promised: a report's code, line and seven figures (specs/Day.antt), a written line's code and length (specs/Line.antt), and the answer
 // that crate stal_numbers reads off the numbers of a call. Nothing is asked.
+#![tactic(auto)]
+
 ghost use Rattle.std.specs.Prelude.{◌≡◌, List, ◌++◌, ℕ, ◌≤◌, length, drop};
 ghost use Rattle.exec_outcome.specs.Answers.{answer_is};
 ghost use Rattle.valid_verdict.specs.Answers.{verdict_is};

@@ -1,6 +1,8 @@
 // The answers of check, start and continue as numbers, for crate stal: a code, and the values that document 01 gives for it.
 // Promised: the numbers that specs/Numbers.antt has for each case, also where they are put at places of the caller's; the answer can be
 // read off them (specs/Back.antt). Nothing is asked.
+#![tactic(auto)]
+
 ghost use Rattle.std.specs.Prelude.{◌≡◌};
 ghost use Rattle.valid_verdict.specs.Answers.{verdict_is};
 ghost use Rattle.exec_outcome.specs.Answers.{answer_is};

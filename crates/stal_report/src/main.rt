@@ -1,5 +1,7 @@
 // The report program: reads a day's stop lines from standard input and prints the day's report, or `refuse,17,line`. Promised
 // (`report_line`), on every text: the bytes to be printed are the line of the text's report (`report_line`, `report` of crate report).
+#![tactic(auto)]
+
 ghost use Rattle.std.specs.Prelude.{◌≡◌, ◌≤◌, length, take};
 ghost use Rattle.report.specs.Day.{report, report_line};
 

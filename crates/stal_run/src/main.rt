@@ -1,6 +1,8 @@
 // The run program: reads program.txt and samples.txt from the current folder, starts with a budget of 1,000,000 and prints how the run
 // stopped, or the refusal. A file that cannot be opened counts as empty. Promised (`run_line`), on every text and samples: the bytes to be
 // printed are the line of the answer to such a start (`starting` of crate exec, `answer_line` of crate print).
+#![tactic(auto)]
+
 ghost use Rattle.std.specs.Prelude.{◌≡◌, ◌≤◌, length, take};
 ghost use Rattle.io.specs.Counts.{IsPrefixLen};
 ghost use Rattle.exec.specs.Run.{starting};

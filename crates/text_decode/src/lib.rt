@@ -2,6 +2,8 @@
 // line (state). This is pass one. Promises: whether the text fits the image that is lent, which every text does where it has `Room`.
 // Where it fits, the answer names the fault of pass one that document 01 gives; where there is none, the image's tables stand for the text
 // (`ReadIs` of specs/Decoded.antt). Nothing is asked.
+#![tactic(auto)]
+
 pub mod line;
 pub mod state;
 pub mod store;

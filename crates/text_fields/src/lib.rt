@@ -1,6 +1,8 @@
 // Fields of a line: numbers (module numbers), names and letters (names), operands: plain ones (plain_operands), and here packages and those
 // that carry type arguments and a resulting row. Promises: each answer, and what is written into lent memory, is what crate text says of
 // the field, on every input; nothing is written past the end of what is lent. Asks: that the place of the field is in the line.
+#![tactic(auto)]
+
 pub mod names;
 pub mod numbers;
 pub mod plain_operands;

@@ -1,6 +1,8 @@
 // Lines of a text, found as parts of the caller's bytes: where a line ends, and line n.
 // Promises: the answers are those of `split` and `lines_of` of crate text, on every input; the laws that a loop over
 // all lines, or over the parts of a line, goes by are in proofs/Parts.antt.
+#![tactic(auto)]
+
 ghost use Rattle.std.specs.Prelude.{◌≡◌, ◌||◌, ◌+◌, ◌≤◌, eqb, length, drop};
 ghost use Rattle.text.specs.Bytes.{lines_of};
 ghost use Rattle.text_lines.specs.Parts.{comma, lf, first_part, field_in, InLine, line_at, NextLine, LastEnd};

@@ -3,6 +3,8 @@
 // text_lines. Promises: what is handed back is the line at the position by `lines_of` of crate text, on every input; after n lines from the
 // start that is line n (`reads_line` of proofs/Reading). The borrow checker covers no function over such a struct, so each is proved by a
 // walk of its MIR, by hand. `read` and `read_all` have plain parameters, so whoever calls them needs no walk.
+#![tactic(auto)]
+
 ghost use Rattle.std.specs.Prelude.{◌≡◌, ◌-◌, length, take, drop, set};
 ghost use Rattle.text_reader.specs.Reading.{past_lf, line_from, next_from, ended_at, moved, ReadAll};
 

@@ -6,6 +6,8 @@
 // be equal. Promised: the test `same` of crate types of the two types, and that no argument is of the wrong kind where it fills. Asked:
 // that there are at most 514 rows, which bounds what is pending, at most 64 environments, and 1,543 words for what is pending, whatever
 // they hold. Row numbers are links, as in crate types_rows.
+#![tactic(auto)]
+
 pub mod filling;
 pub mod names;
 pub mod pending;

@@ -1,6 +1,8 @@
 // Pass two over the tables of a decoded text: what each line names exists, is lower and of its sort (modules row_refs, instr_refs, refs),
 // and no row's size is over 4,096 (module measure of types_rows, which keeps the sizes of the rows before). Promised: the lowest line with
 // a fault and its least fault, as `pass_two` of crate types has them. Asked: that the starts of blocks rise (crate text_decode).
+#![tactic(auto)]
+
 pub mod instr_refs;
 pub mod refs;
 pub mod row_refs;

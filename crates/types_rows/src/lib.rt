@@ -4,6 +4,8 @@
 // and links fall from a row to what it names. Past d binders of its own a row's first m variables may be filled by arguments; later ones
 // come down by m, may be variables of an environment (module variables), and go up by `by`. What a row means is defined in
 // specs/Read.antt; proofs/Bridge.antt: that is the type that document 01 gives it.
+#![tactic(auto)]
+
 pub mod item_counts;
 pub mod measure;
 pub mod size;

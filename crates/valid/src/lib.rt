@@ -4,3 +4,5 @@
 // numbers it refuses, and that sp keeps its bound (specs/Claims.antt); and that where pass three decides, the line is the
 // first that the rules do not type (specs/FirstFault.antt) and the item named is the first of its target that does not fit
 // (specs/FirstItem.antt). What the grammar allows of a line is in specs/Bounds.antt. Definitions and theorems only.
+#![tactic(auto)]
+

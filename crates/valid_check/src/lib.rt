@@ -2,6 +2,8 @@
 // equal types be one (crate valid_share), type it (crate valid_pass_three), and answer (crate valid_verdict). Promised: whether the text
 // fits the image, and if it does, the answer of check. Asked: room for the typing of a block. Module attempt puts working memory on the
 // stack, module lent takes it from the caller.
+#![tactic(auto)]
+
 pub mod attempt;
 pub mod lent;
 

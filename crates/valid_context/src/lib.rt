@@ -5,6 +5,8 @@
 // specs/Context.antt. Each function here is a premise of pass three (crate valid) that reads or changes only these, and promises that
 // premise's equation for every T, and that no environment is held that was not there. Module premises has what pass three relies on and
 // how it answers.
+#![tactic(auto)]
+
 pub mod premises;
 
 ghost use Rattle.std.specs.Prelude.{◌≡◌, ℕ, ◌+◌, ◌-◌, ◌*◌, ◌≤◌, ◌<◌, length, get_or};

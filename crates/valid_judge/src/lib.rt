@@ -6,6 +6,8 @@
 // the block's unpacks have opened so far. Promised: the least fault that `judge` of crate valid gives the instruction, 0 if it has none,
 // and then the types and the letters after it, sp within 64 items, and the environment of the package that it opens, if it is an unpack;
 // for fault 10 at a branch or jump the first item that does not fit, and 100 for none. The tables are sections of one image (crate image).
+#![tactic(auto)]
+
 pub mod codes;
 pub mod heap;
 pub mod jumps;

@@ -2,6 +2,8 @@
 // entry of valid_scope), and its instructions (module body). Behind a line with a fault nothing is looked at, so the first one found is the
 // lowest. Promised: the lowest line with a fault, its least fault and, for 10 at a jump or branch, the first item that does not fit, as
 // `pass_three` of crate valid has them. Asked: what crate load leaves in the tables.
+#![tactic(auto)]
+
 pub mod body;
 
 ghost use Rattle.std.specs.Prelude.{◌≡◌, List, ◌+◌, ◌≤◌, eqb};

@@ -6,6 +6,8 @@
 // Promises: `find_all` makes tables that are right for the types of the rows (`Scoped`, specs/Scoped.antt), and writes nothing else; from
 // such tables `formed` answers whether the type of a row is well-formed under the letters given (`formed_arg` of crate valid). Laws for
 // callers: proofs/Callers.antt.
+#![tactic(auto)]
+
 pub mod entry;
 pub mod variables;
 

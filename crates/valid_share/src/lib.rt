@@ -4,6 +4,8 @@
 // two have seen hold of it as before (`Shared`); of the image only the two sections of the new table are written. Asked: room, the tables
 // of module prepare of load, and that passes one and two found no fault in the rows. Which rows are compared is found by hashes (module
 // row_hash), of which nothing is promised: a row is named for another only if they compare equal.
+#![tactic(auto)]
+
 pub mod rename;
 pub mod row_hash;
 

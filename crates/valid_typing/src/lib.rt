@@ -7,6 +7,8 @@
 // bases, operands), the components of a tuple (components, plain_components) and targets (target). A function that reads more tables than
 // the rows' is lent the image that they are sections of (crate image), and reads the rows as the checker shares them. One that compares
 // rows is lent `pending`, where crate types_equal keeps what is still to be compared.
+#![tactic(auto)]
+
 pub mod bases;
 pub mod components;
 pub mod operands;

@@ -1,6 +1,8 @@
 // What check answers, and the answer by what pass three found.
 // Promised: where passes one and two refuse nothing, an answer that is the verdict of crate valid (specs/Answers.antt: `verdict_is`), given
 // a finding that is pass three's refusal and the counts of blocks and instructions. Nothing is asked.
+#![tactic(auto)]
+
 pub mod finding;
 
 ghost use Rattle.std.specs.Prelude.{◌≡◌, List, ℕ, length};

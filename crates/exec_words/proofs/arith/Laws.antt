@@ -63,7 +63,7 @@ pub high : (x : ℕ) → 2 ^ 31 ≤ x → x < 2 ^ 32 → to_z w32 (of_z w32 (neg
 unfolding signed
 high x h k =
     let q : 4294967295 - x ≡ 2 ^ 32 - suc x = omega arith in
-    to_z-of_z (high_fits x h k) ∙ high_is x h k ∙ simp (le-ltb x (2 ^ 31) h) (ap negsuc q)
+    to_z-of_z {w = w32} (high_fits x h k) ∙ high_is x h k ∙ simp (le-ltb x (2 ^ 31) h) (ap negsuc q)
 
 -- ---- signs
 -- a number below half of the modulus reads as itself
@@ -72,7 +72,7 @@ module _ (x : ℕ) (z : ℤ) (k : mag z < 2 ^ 31) (e : z ≡ signed x) where
   back = to_z w32 (of_z w32 z)
 
   back_is : back ≡ z
-  back_is = to_z-of_z (record { sfits = k })
+  back_is = to_z-of_z {w = w32} (record { sfits = k })
 
   pub sign_negative : lt_z back (pos 0) ≡ true → 0 ≡ column (sign_of x)
   unfolding signed sign_of column

@@ -1,0 +1,7 @@
+use Rattle.exec.specs.Machine.{at}
+use Rattle.exec_words.proofs.memory.Laws.{word_is_lem}
+use Rattle.exec_words.proofs.memory.at.Goals as goal
+
+pub returns : goal.returns
+unfolding at
+returns c = word_is_lem _ (search) (search)

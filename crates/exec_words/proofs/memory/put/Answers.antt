@@ -1,0 +1,9 @@
+use Rattle.exec.specs.Machine.{put}
+use Rattle.exec_words.proofs.memory.put.Goals as goal
+
+pub returns : goal.returns
+unfolding put
+returns c =
+    let k = c.put_kind.ensures in
+    let n = c.put_number.ensures in
+    λ i. record { kinds = k i; numbers = n i }
