@@ -76,20 +76,84 @@ def parse_args(s):
             while j<n and not s[j].isspace() and s[j] not in '({)}' : j+=1
             args.append(s[i:j]); i=j
     return args
+ALIAS={}
 PLACE=re.compile(r'^tie\.((?:After|At|Then|Else|Start|In|Join|Arm)[^\s()]*)(\s.*)?$',re.S)
 def place_of_type(t):
     t=t.strip()
     if t.startswith('(') and t.endswith(')'): t=t[1:-1].strip()
+    if t in ALIAS: return ALIAS[t]
     m=PLACE.match(t)
     return m.group(1) if m else None
 report=[]
 def convert(pdir):
     path=pdir[len(crate.rstrip('/'))+len('/proofs/'):]
     src=open(pdir+'/Proof.antt').read()
+    if os.path.basename(path).startswith('+'):
+        return convert_cycle(path,src)
     if 'proofs.%s.Tie as tie'%path.replace('/','.') not in src:
         report.append(path+': no tie, skipped'); return None
     L=lts_for(path)
     if L is None: report.append(path+': no names'); return None
+    return convert_text(path,src,L,'','c')
+def convert_cycle(path,src):
+    als=re.findall(r'use \S+\.Lts-(\S+) as (\S+)',src) or re.findall(r'use \S+\.Lts(?:-(\S+))? as (\S+)',src)
+    acc={'Answers.antt':[], 'Invariants.antt':[]}
+    for f,al in als:
+        key=[k for k in J if k.startswith('Rattle-%s-proofs.%s.Lts'%(cname,path.replace('/','.'))) and k.endswith('Lts-'+f)] or [k for k in J if k=='Rattle-%s-proofs.%s.Lts'%(cname,path.replace('/','.'))]
+        if not key: report.append(path+': no names for '+f); continue
+        L=J[key[0]]
+        t=re.sub(re.escape(al)+r"\.([A-Za-z][\w-]*)((?:\s+\([\w-]+ t\)){2}\s+[\w-]+\.Post(?:\s+[a-z]\w*_(?:Inv|μ)_\w+)*)?",r'tie.\1',src)
+        # aliases of places
+        for m in re.findall(r'(?m)^abbrev ([\w-]+) : ℕ → Type 0\n\1 t =\s*(tie\.[\w-]+)\s*$',t):
+            t=re.sub(r'(?m)^abbrev '+re.escape(m[0])+r' : ℕ → Type 0\n.*(?:\n .*)*\n?','',t)
+            t=re.sub(r'(?<![\w-])'+re.escape(m[0])+r' t(?![\w-])',m[1],t)
+        items=split_items(t); keep=[]
+        names=set()
+        for k,x in decls(items):
+            if k=='use': keep.append(x)
+            if k=='decl' and ('tie.' in x.sig) and not x.sig.startswith('ℕ →'):
+                names.add(x.name)
+        out=[]
+        for k,x in decls(items):
+            if k=='decl' and x.name in names: out.append('\n'.join(x.raw))
+        t='\n'.join(keep)+'\n\n'+'\n\n'.join(out)
+        t=re.sub(r'\(t : ℕ\)\s*(→\s*)?','',t)
+        for n in names: t=re.sub(r'(?<![\w-])'+re.escape(n)+r' t(?![\w-])',n,t)
+        r=convert_text(path,t,L,f+'-','t c')
+        for q in acc:
+            if q in r: acc[q].append(r[q])
+    res={}
+    for q,ts in acc.items():
+        if not ts: continue
+        us=[];body=[]
+        for t in ts:
+            for l in t.split('\n'):
+                if l.startswith('use '):
+                    if l not in us: us.append(l)
+                else: body.append(l)
+        # merge uses of the same module
+        mods={}
+        for u in us:
+            m=re.match(r'use (\S+)\.\{(.*)\}$',u)
+            if m:
+                mods.setdefault(m.group(1),[])
+                for x in m.group(2).split(', '):
+                    if x not in mods[m.group(1)]: mods[m.group(1)].append(x)
+            else: mods[u]=None
+        us=[('use %s.{%s}'%(k,', '.join(v)) if v is not None else k) for k,v in mods.items()]
+        us=[u for u in us if 'as goal' not in u and not re.search(r'\.(Reads|Kinds|Lts\S*) as ',u) and '{close}' not in u and '{statement}' not in u]+['use Rattle.%s.proofs.%s.%s as goal'%(cname,path.replace('/','.'),'Goals' if q[0]=='A' else 'Given')]
+        res[q]='\n'.join(us)+'\n'+'\n'.join(body)
+    mu=re.findall(r'(?m)^abbrev μ_(\w+) : .*\nμ_\w+ κs a = (.*)$',src)
+    for f,b in mu:
+        ps=[v for L in J.values() if isinstance(L,dict) and isinstance(L.get('params'),dict) for q,v in L['params'].items() if q.endswith('::'+f)]
+        if ps:
+            b=re.sub(r'(?<![\w.])a((?:\.1)*)\.0',lambda m:'l.'+ps[0][m.group(1).count('1')],b)
+        if 'decreases-' in b or True:
+            q0=res.get('Invariants.antt','')
+            if not q0.startswith('use Rattle.std.proofs.Common.{◌+◌, ◌*◌}'): res['Invariants.antt']='use Rattle.std.proofs.Common.{◌+◌, ◌*◌}\n'+(q0 or 'use Rattle.%s.proofs.%s.Given as goal\n'%(cname,path.replace('/','.')))
+        res['Invariants.antt']=res.get('Invariants.antt','use Rattle.%s.proofs.%s.Given as goal\n'%(cname,path.replace('/','.')))+f'\nabbrev pub decreases-{f} : goal.decreases-{f}\ndecreases-{f} l = {b}\n'
+    return res
+def convert_text(path,src,L,prefix,cargs):
     # fold modules
     items=split_items(src)
     ds=decls(items)
@@ -106,6 +170,11 @@ def convert(pdir):
         if 'tie.' in d.sig or params or any('tie.' in c for c in d.clauses):
             d.params=params; helpers[d.name]=d; order.append(d.name); return
         keep.append('\n'.join(d.raw)); order.append(None); d.kept=True
+    ALIAS.clear()
+    for k,x in list(ds):
+        if k=='decl' and x.sig=='Type 0' and len(x.clauses)==1:
+            a_,b_=clause_parts(x.clauses[0],x.name); pl=place_of_type(b_)
+            if pl and not a_: ALIAS[x.name]=pl; ds.remove((k,x))
     for k,x in ds:
         if k=='use': uses.append(x)
         elif k=='comment': pass
@@ -141,6 +210,8 @@ def convert(pdir):
         return None
     places={p[0]:p for p in L['places']}
     pnorm={norm(p):p for p in places}
+    idx_place={p[0]:i for i,p in enumerate(L['places'])}
+    q2old={p[0]:p[2][0] for p in L['places']}
     def chain(p):
         out=[]
         while p: 
@@ -155,11 +226,11 @@ def convert(pdir):
         nf=norm(f)
         for p in ch:
             o,n=places[p][2]
-            if o and norm(o)==nf: return n,places[p][3]
+            if o and norm(o)==nf: return n,places[p][3],p
         for p in places:
             o,n=places[p][2]
-            if o and norm(o)==nf: return n,places[p][3]
-        return None,None
+            if o and norm(o)==nf: return n,places[p][3],p
+        return None,None,None
     unknown=set()
     def fields(var_place,rest):
         """rest: '.a.b.c' -> new text"""
@@ -169,9 +240,18 @@ def convert(pdir):
         if not comps: return ''
         f=comps[0]; out=[]; fn=None
         if f=='pre': out=['requires']; comps=comps[1:]
+        elif f=='fits': out=['ranges']; comps=comps[1:]
         elif f in ('args','ranges','requires','well_formed','utf8','auto'): out=[f]; comps=comps[1:]; 
         else:
-            n,fn=step(var_place,f)
+            n,fn,q=step(var_place,f)
+            if n is None and f.endswith('_lem'): f=f[:-4]; n,fn,q=step(var_place,f)
+            arm=L['arms'][idx_place[q]] if q else None
+            hit=None
+            if arm:
+                for new,old,pth in arm[2]:
+                    if old==q2old[q] and comps[1:1+len(pth)]==pth and (hit is None or len(pth)>len(hit[1])): hit=(new,pth)
+            if hit:
+                return '.'+'.'.join([arm[0],hit[0]]+comps[1+len(hit[1]):])
             if n is None:
                 unknown.add(f); out=[f.replace('-','_') if False else f]
             else: out=[n]
@@ -193,8 +273,8 @@ def convert(pdir):
                     while j<len(comps) and comps[j]=='1': ix+=1; j+=1
                     if j<len(comps) and comps[j]=='0':
                         ps=params[fn]
-                        if k in('new','kept') and ix<len(ps):
-                            comps=['auto' if k=='kept' else k,ps[ix]]+comps[j+1:]
+                        if k in('new','kept','last') and ix<len(ps):
+                            comps=['auto' if k=='kept' else 'new',ps[ix]]+comps[j+1:]
                         else: comps=[k+'!%d'%ix]+comps[j+1:]
         return '.'+'.'.join(out+comps)
     for h in helpers.values():
@@ -203,33 +283,44 @@ def convert(pdir):
     for h in helpers.values():
         if len(h.clauses)==1:
             a,b=clause_parts(h.clauses[0],h.name)
-            if b is not None and b.strip() in('search','search rules') and place_of_type(h.sig.split('→')[-1]) and 'tie.' in h.sig.split('→')[0]: hop.add(h.name)
+            if b is not None and place_of_type(h.sig.split('→')[-1]): hop.add(h.name)
     def hop_target(name): return place_of_type(helpers[name].sig.split('→')[-1])
-    def strip_hops(t):
+    modhop={x for x in hop if helpers[x].params and '→' not in helpers[x].sig}
+    def strip_hops(t,inmod=False):
         # (hop arg) / hop arg -> arg
         if not hop: return t
-        names='|'.join(re.escape(x) for x in sorted(hop,key=len,reverse=True))
+        hp=[x for x in hop if not (inmod and x in modhop)]
+        if not hp: return t
+        names='|'.join(re.escape(x) for x in sorted(hp,key=len,reverse=True))
         for _ in range(12):
             t2=re.sub(r'(?<![\w.-])(?:'+names+r')\s+('+W+r'(?:\.[\w.-]+)?|\((?:[^()]|\([^()]*\))*\))',r'\1',t)
             t2=re.sub(r'\(('+W+r')\)',lambda m: m.group(0) if m.group(1) in ('search','refl','cc','tt') else m.group(1),t2)
             if t2==t: break
             t=t2
         return t
-    def rewrite(body,goalplace,recs):
+    def rewrite(body,goalplace,recs,inmod=False):
         """recs: var->place; replace 'let x : tie.P = search in' and uses"""
         recs=dict(recs)
         # remove record lets
         def rl(m):
             recs[m.group(1)]=pnorm.get(norm(m.group(2)),m.group(2)); return ''
-        body=re.sub(r'let ('+W+r') : tie\.((?:After|At|Then|Else|Start|In|Join|Arm)\S*)((?:\s+(?!=)\S+)*?) = search in\s*',rl,body)
+        for al in ALIAS: body=re.sub(r'(let '+W+r' : )'+re.escape(al)+r' =',lambda m: m.group(1)+'tie.'+ALIAS[al]+' =',body)
+        body=re.sub(r'let ('+W+r') : tie\.((?:After|At|Then|Else|Start|In|Join|Arm)\S*)((?:\s+(?!=)\S+)*?) = search(?: rules| needs)? in\s*',rl,body)
         # let s = hop arg in
         def hl(m):
             recs[m.group(1)]=pnorm.get(norm(hop_target(m.group(2))),None); return ''
         if hop:
             names='|'.join(re.escape(x) for x in hop)
             body=re.sub(r'let ('+W+r') = ('+names+r')\s+(?:'+W+r'|\((?:[^()]|\([^()]*\))*\)) in\s*',hl,body)
-        body=strip_hops(body)
+        body=strip_hops(body,inmod)
+        for _ in range(6):
+            m=re.search(r'let ('+W+r') = ('+W+r'\.'+W+r'\.given(?:\.[01](?:\.[01])*)?) in\s*',body)
+            if not m: m=re.search(r'let ('+W+r') = ('+W+r'(?:\.[^\s(){}.;,@]+)+\.given(?:\.[01]+)*) in\s*',body)
+            if not m: break
+            tail=re.sub(r"(?<![\w.'₀-₉-])"+re.escape(m.group(1))+r"(?![\w'₀-₉-])",m.group(2),body[m.end():])
+            body=body[:m.start()]+tail
         # aliases: let a = s.args in  -> leave
+        for hn in hop: recs.setdefault(hn,pnorm.get(norm(hop_target(hn) or ''),None))
         names='|'.join(re.escape(x) for x in sorted(recs,key=len,reverse=True))
         def rv(m):
             v,rest=m.group(1),m.group(2)
@@ -273,7 +364,7 @@ def convert(pdir):
     def val_let(n):
         recs,ty,others,b,unf,extra,nrec,nown=vals[n]
         if unf: report.append(f'{path}: helper {n} unfolding {unf}')
-        ty=rewrite(ty,None,recs); b2=rewrite(b,None,recs)
+        ty=rewrite(ty,None,recs,bool(helpers[n].params)); b2=rewrite(b,None,recs,bool(helpers[n].params))
         ty=drop_c(ty); b2=drop_c(b2)
         lam=('λ '+' '.join(others)+'. ') if others else ''
         return f'let {n} : {ty} = {lam}{b2} in'
@@ -297,12 +388,13 @@ def convert(pdir):
         b=drop_c(b)
         b=re.sub(r'\bsearch needs\b','search rules',b)
         ls=[val_let(n) for n in needed(b)]
+        goal=prefix+goal
         s=f'pub {goal} : goal.{goal}\n'
         if unf: s+=unf+'\n'
         if ls: 
             body='\n'.join('    '+x for x in ls)+'\n    '+b
-            s+=f'{goal} c =\n{body}'
-        else: s+=f'{goal} c =\n    {b}' if '\n' in b or len(b)>100 else f'{goal} c = {b}'
+            s+=f'{goal} {cargs} =\n{body}'
+        else: s+=f'{goal} {cargs} =\n    {b}' if '\n' in b or len(b)>100 else f'{goal} {cargs} = {b}'
         answers.append((goal,s))
     trivial={'search','search rules','search needs','omega arith'}
     for d in goals:
@@ -311,11 +403,9 @@ def convert(pdir):
             report.append(f'{path}: need {d.need} not found; have {[o for o,n in needs]}'); g='UNKNOWN-'+d.need
         if len(d.clauses)!=1: report.append(f'{path}: goal {g}: {len(d.clauses)} clauses'); continue
         a,b=clause_parts(d.clauses[0],d.name)
-        if a not in('c','c κs','_','_ _','c _'): report.append(f'{path}: goal {g}: args {a}')
-        if b in trivial: continue
-        first=a.split()[0]
-        if first!='c': b='let c0 = c in '+b if False else b
-        emit(g,b,d.unf)
+        if a.replace('t c','c') not in('c','c κs','_','_ _','c _'): report.append(f'{path}: goal {g}: args {a}')
+        if b in trivial and not d.unf: continue
+        emit(g,b if b!='search' or not d.unf else 'search rules',d.unf)
     # inline spec args
     if spec is not None and spec.clauses:
         a,b=clause_parts(spec.clauses[0],spec.name)
@@ -362,7 +452,7 @@ def convert(pdir):
         for x,(k,v) in zip(an,want): sub[x]='l.initial.'+v if k=='initial' else 'l.'+v
         def sb(m): return sub.get(m.group(0),m.group(0))
         b2=re.sub(r"(?<![.\w'₀-₉-])[^\s(){}.;,@\"«»`]+",sb,b)
-        invs.append(f'abbrev pub {kind}-{n} : goal.{kind}-{n}\n{kind}-{n} l =\n    {b2}' if len(b2)>90 or '\n' in b2 else f'abbrev pub {kind}-{n} : goal.{kind}-{n}\n{kind}-{n} l = {b2}')
+        invs.append(f'abbrev pub {kind}-{prefix}{n} : goal.{kind}-{prefix}{n}\n{kind}-{prefix}{n} l =\n    {b2}' if len(b2)>90 or '\n' in b2 else f'abbrev pub {kind}-{prefix}{n} : goal.{kind}-{prefix}{n}\n{kind}-{prefix}{n} l = {b2}')
     if unknown: report.append(f'{path}: unknown steps {sorted(unknown)}')
     def uselines(text,extra):
         out=[]
