@@ -27,7 +27,7 @@ use exec_ready::Ready;
 use image::Places;
 
 // Whether a text fits the image, and the outcome if it does.
-#[derive(Drop)]
+#[derive(Clone, Copy)]
 pub struct Tried {
     pub fits: bool,
     pub outcome: Outcome,

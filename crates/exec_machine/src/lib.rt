@@ -4,7 +4,7 @@
 
 
 // How many stack and heap words are in use, and the next instruction, counted from 0 over all blocks.
-#[derive(Drop)]
+#[derive(Clone, Copy)]
 pub struct Place {
     pub depth: u32,
     pub used: usize,
@@ -12,7 +12,7 @@ pub struct Place {
 }
 
 // Why a run stops.
-#[derive(Drop)]
+#[derive(Clone, Copy)]
 pub enum Stop {
     Halted,
     StackFull,

@@ -15,7 +15,7 @@ ghost use Rattle.exec_outcome.specs.Answers.{answer_is, outcome_is, refused_at};
 use exec_machine::{Place, Stop};
 
 // A refusal with its number and line; or how a run stopped, with the steps made, a halt with r1's kind and number too.
-#[derive(Drop)]
+#[derive(Clone, Copy)]
 pub enum Answer {
     Refused(usize, usize),
     Halted(usize, u8, u32),
@@ -26,7 +26,7 @@ pub enum Answer {
 }
 
 // An answer, and how much of the lent state is in use then.
-#[derive(Drop)]
+#[derive(Clone, Copy)]
 pub struct Outcome {
     pub answer: Answer,
     pub place: Place,

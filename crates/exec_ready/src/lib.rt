@@ -23,7 +23,7 @@ use image::Places;
 
 // Whether the text fits the image; the fault that bars the program and its line, 0 and 0 for none; then how many blocks and instructions
 // there are, and how many samples are wanted.
-#[derive(Drop)]
+#[derive(Clone, Copy)]
 pub struct Ready {
     pub fits: bool,
     pub fault: usize,

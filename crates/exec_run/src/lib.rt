@@ -17,7 +17,7 @@ use exec_machine::{Place, Stop};
 use exec_step::moved::Moved;
 
 // How a run ends, with the steps made and the place reached.
-#[derive(Drop)]
+#[derive(Clone, Copy)]
 pub enum Outcome {
     Paused(usize, Place),
     Ended(Stop, usize, Place),

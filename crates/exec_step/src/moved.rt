@@ -12,7 +12,7 @@ use exec_machine::Stop;
 use exec_words::memory::{Word, set};
 
 // The next row's place, the depth and the words of the heap in use; no step for want of budget; or the instruction stops.
-#[derive(Drop)]
+#[derive(Clone, Copy)]
 pub enum Moved {
     To(usize, u32, usize),
     Paused,

@@ -22,7 +22,7 @@ pub const HEIGHT: u8 = 3;
 pub const JUNK: u8 = 4;
 
 // A word: its kind, and its number.
-#[derive(Drop)]
+#[derive(Clone, Copy)]
 pub struct Word {
     pub kind: u8,
     pub number: u32,

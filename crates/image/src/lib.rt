@@ -9,7 +9,7 @@ ghost use Rattle.std.specs.Prelude.{◌≡◌};
 ghost use Rattle.image.specs.Layout.{places_of, no_places, small_places, small_shared_places, large_places, large_shared_places};
 
 // Where each section starts; it ends where the next starts.
-#[derive(Drop)]
+#[derive(Clone, Copy)]
 pub struct Places {
     pub rows: usize,
     pub blocks: usize,
@@ -25,7 +25,7 @@ pub struct Places {
 }
 
 // How many rows, blocks and instructions a text has.
-#[derive(Drop)]
+#[derive(Clone, Copy)]
 pub struct Counts {
     pub rows: usize,
     pub blocks: usize,

@@ -23,7 +23,7 @@ use types_pass_two::refs::Found;
 
 // Whether the text fits the image; the fault of passes one and two and its line, 0 and 0 for none; then how many rows, blocks and
 // instructions there are.
-#[derive(Drop)]
+#[derive(Clone, Copy)]
 pub struct Loaded {
     pub fits: bool,
     pub fault: usize,

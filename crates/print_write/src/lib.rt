@@ -71,7 +71,7 @@ pub fn put_signed(n: u64, out: &mut [u8], at: usize) -> usize
 }
 
 // How many bytes were written; or the memory is too short, and nothing was.
-#[derive(Drop)]
+#[derive(Clone, Copy)]
 pub enum Written {
     Bytes(usize),
     Short,

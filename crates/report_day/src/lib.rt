@@ -17,7 +17,7 @@ ghost use Rattle.report_day.specs.Tally.{lifted, tally, plus, after, Small, figu
 use report_stop::Stop;
 
 // The seven figures. Total, smallest, largest and quotient are 64 bits, read as signed.
-#[derive(Drop)]
+#[derive(Clone, Copy)]
 pub struct Figures {
     pub count: u64,
     pub others: u64,
@@ -29,7 +29,7 @@ pub struct Figures {
 }
 
 // Refused with 17 at a line; no integer, and so many other stops; or the figures.
-#[derive(Drop)]
+#[derive(Clone, Copy)]
 pub enum Answer {
     Refused(usize),
     NoInteger(u64),
@@ -37,7 +37,7 @@ pub enum Answer {
 }
 
 // What is kept of the integers read so far: how many, their sum, the smallest and the largest, each with 2^31 added.
-#[derive(Drop)]
+#[derive(Clone, Copy)]
 struct Tally {
     count: u64,
     sum: u64,

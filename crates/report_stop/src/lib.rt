@@ -12,7 +12,7 @@ ghost use Rattle.report_stop.specs.Told.{told, kind_in};
 use text_fields::numbers::Number;
 
 // A halt with an integer, as its bits; any other stop; no stop at all.
-#[derive(Drop)]
+#[derive(Clone, Copy)]
 pub enum Stop {
     Integer(u32),
     Other,

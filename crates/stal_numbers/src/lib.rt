@@ -12,7 +12,7 @@ use exec_machine::Place;
 use exec_outcome::Answer;
 
 // Check's answer in numbers: 0, blocks and instructions, or a fault's number, its line and the first item that does not fit, 100 for none.
-#[derive(Drop)]
+#[derive(Clone, Copy)]
 pub struct Verdict {
     pub code: usize,
     pub first: usize,
@@ -20,7 +20,7 @@ pub struct Verdict {
 }
 
 // A run's answer in numbers: a fault's number and line, or a stop and the steps, a halt with r1's kind and number.
-#[derive(Drop)]
+#[derive(Clone, Copy)]
 pub struct Reply {
     pub code: usize,
     pub first: usize,

@@ -57,7 +57,7 @@ const FORMS: [u32; 36] = [
 ];
 
 // What FORMS says of a form: the kinds of its plain fields, and the most operands.
-#[derive(Drop)]
+#[derive(Clone, Copy)]
 pub struct Form {
     pub a: u16,
     pub b: u16,
@@ -67,7 +67,7 @@ pub struct Form {
 }
 
 // A plain field's number, and where the field ends.
-#[derive(Drop)]
+#[derive(Clone, Copy)]
 pub struct Slot {
     pub ok: bool,
     pub value: u16,
@@ -75,7 +75,7 @@ pub struct Slot {
 }
 
 // The numbers of a form's plain fields, 0 for those that it has not, and where the last one ends.
-#[derive(Drop)]
+#[derive(Clone, Copy)]
 pub struct Slots {
     pub ok: bool,
     pub a: u16,
@@ -86,7 +86,7 @@ pub struct Slots {
 }
 
 // How many operands or components were read, if all of them could be, how many arguments they carry, and where the line ends.
-#[derive(Drop)]
+#[derive(Clone, Copy)]
 pub struct Count {
     pub ok: bool,
     pub count: u16,
@@ -96,7 +96,7 @@ pub struct Count {
 
 // What a line's fields say: the numbers of a form's plain fields, how many operands follow, how many arguments they carry, and where the
 // line ends. Of U a and b are where its components start and how many there are; of C they are its stack and where its registers start.
-#[derive(Drop)]
+#[derive(Clone, Copy)]
 pub struct Said {
     pub ok: bool,
     pub a: u16,

@@ -13,7 +13,7 @@ use image::Places;
 
 // Whether the text fits the image; the fault of pass one and its line, 0 and 0 for none; then how many rows, blocks and instructions
 // there are.
-#[derive(Drop)]
+#[derive(Clone, Copy)]
 pub struct Read {
     pub fits: bool,
     pub fault: u8,

@@ -14,7 +14,7 @@ use crate::line::Said;
 use image::Places;
 
 // How many places of the image's tables are in use.
-#[derive(Drop)]
+#[derive(Clone, Copy)]
 pub struct Used {
     pub rows: usize,
     pub blocks: usize,
@@ -24,7 +24,7 @@ pub struct Used {
 }
 
 // What a line is: an instruction with the numbers of its operands and of their arguments, the last of a block apart.
-#[derive(Drop)]
+#[derive(Clone, Copy)]
 pub enum Line {
     NoForm,
     Row,
@@ -34,7 +34,7 @@ pub enum Line {
 }
 
 // The same, and where the line ends if it is of some form.
-#[derive(Drop)]
+#[derive(Clone, Copy)]
 pub struct LineRead {
     pub line: Line,
     pub next: usize,

@@ -12,7 +12,7 @@ ghost use Rattle.text_lines.specs.Parts.{field_in, InLine};
 ghost use Rattle.text_fields.specs.numbers.Numbers.{number_of, digit_of, up_to, zero_led, no_scan, DigitIs, ScanIs};
 
 // A number, or none.
-#[derive(Drop)]
+#[derive(Clone, Copy)]
 pub enum Number {
     Value(u32),
     Bad,
@@ -169,7 +169,7 @@ pub(crate) fn index(s: &[u8]) -> Number
 }
 
 // A number read from a place of a line on, and where its field ends.
-#[derive(Drop)]
+#[derive(Clone, Copy)]
 pub struct Scan {
     pub ok: bool,
     pub value: u32,

@@ -10,7 +10,7 @@ ghost use Rattle.text_fields.specs.plain_operands.Pieces.{skip_of, low_of, high_
 
 // An operand's answer: its kind (0 register, 1 literal, 2 label; 4, 5, 6 a package of such; 3 where the field is no operand), its base's
 // number, the count of its arguments, and the resulting row.
-#[derive(Drop)]
+#[derive(Clone, Copy)]
 pub struct OperandRead {
     pub kind: u16,
     pub number: u32,
@@ -19,7 +19,7 @@ pub struct OperandRead {
 }
 
 // The same, read from a place of a line on, and where its field ends.
-#[derive(Drop)]
+#[derive(Clone, Copy)]
 pub struct Placed {
     pub read: OperandRead,
     pub next: usize,

@@ -9,7 +9,7 @@ ghost use Rattle.std.specs.Prelude.{◌≡◌, ◌-◌, length, take, drop, set}
 ghost use Rattle.text_reader.specs.Reading.{past_lf, line_from, next_from, ended_at, moved, ReadAll};
 
 // A lent text, and where in it the next line starts.
-#[derive(Drop)]
+#[derive(Clone, Copy)]
 pub struct Reader<'a> {
     pub text: &'a [u8],
     pub at: usize,

@@ -12,7 +12,7 @@ ghost use Rattle.types_equal.specs.names.Names.{Stands, Both};
 use crate::stack_pairs::Context;
 
 // What stands for the environments of the two sides; `right` is 0 if there are no tables of them.
-#[derive(Drop)]
+#[derive(Clone, Copy)]
 pub struct Sides {
     pub left: usize,
     pub right: usize,

@@ -15,7 +15,7 @@ const GIVEN: usize = 32768;
 
 // What the rows of a side are read in: past d binders the first m variables are filled by arguments, later ones are variables of
 // environment env, raised by `by`.
-#[derive(Drop)]
+#[derive(Clone, Copy)]
 pub struct Setting {
     pub m: u32,
     pub by: u32,
@@ -25,7 +25,7 @@ pub struct Setting {
 
 // What an entry leads to: no items; another entry; two; a value row on top of an entry, in the context or of an argument; a variable.
 // `Misfit`: an argument of the wrong kind would fill a variable.
-#[derive(Drop)]
+#[derive(Clone, Copy)]
 pub enum Form {
     Skip,
     One(usize),
@@ -37,7 +37,7 @@ pub enum Form {
 }
 
 // The next item, a value row or a variable, and how many entries are pending then.
-#[derive(Drop)]
+#[derive(Clone, Copy)]
 pub enum Next {
     End,
     OwnNext(usize, usize),

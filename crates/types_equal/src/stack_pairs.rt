@@ -17,7 +17,7 @@ use types_rows::Stk;
 // The context of the two sides: the first m variables of the left row past d are filled by arguments, later ones are variables of the
 // environment env, raised by `by`; the variables of the right row past d2 are variables of env2. Of 32 bits each, since comparisons nest
 // and each level keeps a copy.
-#[derive(Drop)]
+#[derive(Clone, Copy)]
 pub struct Context {
     pub m: u32,
     pub by: u32,
@@ -112,7 +112,7 @@ pub(crate) fn inside(envs: &[u16], k: Context, filled: bool) -> Context
 
 // What is left to compare of two stacks: nothing, they are equal; nothing, they are not; what is pending after an equal variable; two
 // value rows, the left one in its context or of an argument, each with what is pending behind it.
-#[derive(Drop)]
+#[derive(Clone, Copy)]
 pub enum Duo {
     Over,
     Unlike,

@@ -13,7 +13,7 @@ use types_rows::{Slot, Val};
 
 // What is left to compare of two value rows: nothing, they are equal; nothing, they are not; components; stacks; the stacks and registers
 // of code with the same letters; value rows, the left one that of an argument that fills the left row, or both inside packages.
-#[derive(Drop)]
+#[derive(Clone, Copy)]
 pub enum Pair {
     Same,
     Differ,
@@ -24,7 +24,7 @@ pub enum Pair {
 }
 
 // Two code types: the stack x and where the registers start, p, of the left one, y and q of the right one.
-#[derive(Drop)]
+#[derive(Clone, Copy)]
 pub struct Bodies {
     pub x: usize,
     pub p: usize,
@@ -33,7 +33,7 @@ pub struct Bodies {
 }
 
 // n parts from p on the left and from q on the right: registers if `file`, else components.
-#[derive(Drop)]
+#[derive(Clone, Copy)]
 pub struct Span {
     pub file: bool,
     pub p: u16,
@@ -42,7 +42,7 @@ pub struct Span {
 }
 
 // What is left to compare of two parts: no row and no row for two gaps.
-#[derive(Drop)]
+#[derive(Clone, Copy)]
 pub enum Heads {
     Apart,
     Both(usize, usize),

@@ -15,7 +15,7 @@ use crate::instr_refs::instr_fault;
 use crate::row_refs::block_fault;
 
 // A fault's number and its line; 0 and 0 for none.
-#[derive(Drop)]
+#[derive(Clone, Copy)]
 pub struct Found {
     pub number: usize,
     pub line: usize,

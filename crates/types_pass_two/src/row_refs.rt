@@ -11,7 +11,7 @@ ghost use Rattle.types_pass_two.specs.row_refs.Rows.{row_refs_faults};
 ghost use Rattle.types_pass_two.specs.row_refs.Least.{ref_least, refs_least, part_refs, list_refs};
 
 // What an entry of a list of rows is: a tuple's component, a code row's register (0, or one more than the row), an argument.
-#[derive(Drop)]
+#[derive(Clone, Copy)]
 pub enum Part {
     Component,
     Register,

@@ -20,7 +20,7 @@ ghost use Rattle.types_rows.specs.declared.Stk.TheVariants.{StkVar};
 use crate::variables::Free;
 
 // A value row; a row of another sort is junk. A variable is placed: it stays one, or it is filled by argument j.
-#[derive(Drop)]
+#[derive(Clone, Copy)]
 pub enum Val {
     Int,
     Junk,
@@ -35,7 +35,7 @@ pub enum Val {
 }
 
 // A stack row; a row of another sort has no items.
-#[derive(Drop)]
+#[derive(Clone, Copy)]
 pub enum Stk {
     Nil,
     StkVar(usize),
@@ -45,14 +45,14 @@ pub enum Stk {
 }
 
 // A tuple's component, or a register.
-#[derive(Drop)]
+#[derive(Clone, Copy)]
 pub enum Slot {
     Gap,
     Known(usize),
 }
 
 // An item of a stack: a value row, or a stack variable.
-#[derive(Drop)]
+#[derive(Clone, Copy)]
 pub enum Item {
     NoItem,
     ValItem(usize),
@@ -60,21 +60,21 @@ pub enum Item {
 }
 
 // Item `at` of stack row `row`.
-#[derive(Drop)]
+#[derive(Clone, Copy)]
 pub struct Place {
     pub row: usize,
     pub at: usize,
 }
 
 // A row, and the environment that it was read in.
-#[derive(Drop)]
+#[derive(Clone, Copy)]
 pub struct Held {
     pub row: usize,
     pub env: usize,
 }
 
 // A place further down that has the items looked for, or none.
-#[derive(Drop)]
+#[derive(Clone, Copy)]
 pub enum Step {
     Stay,
     Down(usize, usize),

@@ -6,7 +6,7 @@ ghost use Rattle.std.specs.Prelude.{◌≡◌, true, ℕ, ◌+◌, ◌≤◌, �
 ghost use Rattle.types_rows.specs.Environments.{var_in, name_at, name_in, shifted, free_at, EnvironmentIn};
 
 // What a row is to an environment: a row that has nothing to do with it, or a free variable, and the variable that stands for it.
-#[derive(Drop)]
+#[derive(Clone, Copy)]
 pub enum Free {
     Other,
     Named(usize),

@@ -29,7 +29,7 @@ use valid_verdict::Answer;
 use valid_verdict::finding::Finding;
 
 // Whether the text fits the image, and the answer if it does.
-#[derive(Drop)]
+#[derive(Clone, Copy)]
 pub struct Tried {
     pub fits: bool,
     pub answer: Answer,

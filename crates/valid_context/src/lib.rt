@@ -19,7 +19,7 @@ ghost use Rattle.valid.specs.Tests.{item_at, replaced, under};
 ghost use Rattle.valid_context.specs.Context.{Reading, linked, regs_of, sp_of, sp_above, are_values, with_entry, EnvsIn};
 
 // A link, and its environment.
-#[derive(Drop)]
+#[derive(Clone, Copy)]
 pub struct Link {
     pub link: usize,
     pub env: usize,

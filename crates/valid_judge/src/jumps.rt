@@ -17,7 +17,7 @@ use valid_scope::BlockLetters;
 use valid_typing::target::Fitted;
 
 // A branch: the register that it tests, and its operand.
-#[derive(Drop)]
+#[derive(Clone, Copy)]
 pub struct Tested {
     pub register: usize,
     pub operand: usize,

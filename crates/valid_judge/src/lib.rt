@@ -37,14 +37,14 @@ use valid_scope::BlockLetters;
 use valid_typing::target::Fitted;
 
 // An instruction: its place in the table, and its code.
-#[derive(Drop)]
+#[derive(Clone, Copy)]
 pub struct InstrForm {
     pub at: usize,
     pub code: usize,
 }
 
 // Where a block is: an instruction of the table, and how many items sp has before it.
-#[derive(Drop)]
+#[derive(Clone, Copy)]
 pub struct Reached {
     pub instr: usize,
     pub depth: usize,
@@ -52,7 +52,7 @@ pub struct Reached {
 
 // The least fault, 0 if there is none; the first item that does not fit, 100 if there is none; how many items sp has after the line; one
 // more than the environment of the package that the line opens, 0 if it opens none.
-#[derive(Drop)]
+#[derive(Clone, Copy)]
 pub struct Judgement {
     pub fault: usize,
     pub item: usize,

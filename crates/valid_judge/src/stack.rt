@@ -21,7 +21,7 @@ use types_rows::{Held, Val};
 use valid_scope::BlockLetters;
 
 // The least fault, 0 if there is none, and then how many items sp has.
-#[derive(Drop)]
+#[derive(Clone, Copy)]
 pub struct Moved {
     pub fault: usize,
     pub depth: usize,

@@ -30,7 +30,7 @@ use valid_scope::BlockLetters;
 use valid_typing::Typed;
 
 // ssp d i s t: the pointer's register, the item, the register that is stored, and the row that is given.
-#[derive(Drop)]
+#[derive(Clone, Copy)]
 pub struct PointerStore {
     pub pointer: usize,
     pub item: usize,

@@ -22,7 +22,7 @@ use valid_scope::BlockLetters;
 use valid_typing::{Listed, Typed};
 
 // The least fault, 0 if there is none, and then one more than the environment of the package that is opened.
-#[derive(Drop)]
+#[derive(Clone, Copy)]
 pub struct Opened {
     pub fault: usize,
     pub opened: usize,

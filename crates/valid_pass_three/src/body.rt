@@ -32,7 +32,7 @@ use valid_verdict::finding::Finding;
 
 // A block of a code row: the row's link, its stack's, where its registers start; its instructions from first to end - 1, of which
 // instruction i stands on line base + i.
-#[derive(Drop)]
+#[derive(Clone, Copy)]
 pub struct CodeBlock {
     pub link: usize,
     pub stack: usize,
@@ -43,7 +43,7 @@ pub struct CodeBlock {
 }
 
 // Its instructions alone, one after the other, and how many items sp has before the first.
-#[derive(Drop)]
+#[derive(Clone, Copy)]
 pub struct BodyLines {
     pub first: usize,
     pub end: usize,

@@ -21,7 +21,7 @@ use crate::BlockLetters;
 use types_rows::{Slot, Val};
 
 // What r1 is as the entry's: fit or not, and how many components it has.
-#[derive(Drop)]
+#[derive(Clone, Copy)]
 pub struct Samples {
     pub fit: bool,
     pub count: usize,

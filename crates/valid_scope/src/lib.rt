@@ -29,7 +29,7 @@ use image::Places;
 
 // The letters in force: how many hidden variables there are, one for each unpack before (document 02, point 3); then the block's letters,
 // how many there are and where they start in the table of parts, in the order of their variables.
-#[derive(Drop)]
+#[derive(Clone, Copy)]
 pub struct BlockLetters {
     pub hidden: usize,
     pub count: usize,
@@ -96,7 +96,7 @@ fn clear(uses: &mut [u16], from: usize, to: usize)
 }
 
 // The kind of a row and its two numbers.
-#[derive(Drop)]
+#[derive(Clone, Copy)]
 struct Form {
     kind: usize,
     first: usize,

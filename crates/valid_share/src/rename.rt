@@ -10,7 +10,7 @@ ghost use Rattle.valid_share.specs.rename.Renamed.{first_of, new_a, new_b, new_s
 use image::Places;
 
 // The entries of a row.
-#[derive(Drop)]
+#[derive(Clone, Copy)]
 struct Entries {
     kind: u16,
     a: u16,

@@ -40,7 +40,7 @@ use types_rows::{Held, Item, Stk, Val};
 use valid_scope::BlockLetters;
 
 // What a premise answers: its least fault, or 0 and a row, with the environment that it was read in.
-#[derive(Drop)]
+#[derive(Clone, Copy)]
 pub struct Typed {
     pub fault: usize,
     pub row: usize,
@@ -48,7 +48,7 @@ pub struct Typed {
 }
 
 // A code row: its link, its stack's link, and where its registers start.
-#[derive(Drop)]
+#[derive(Clone, Copy)]
 pub struct Coded {
     pub is: bool,
     pub link: usize,
@@ -57,7 +57,7 @@ pub struct Coded {
 }
 
 // Operands of the table that stand one behind the other: the first, and how many.
-#[derive(Drop)]
+#[derive(Clone, Copy)]
 pub struct Listed {
     pub first: usize,
     pub count: usize,

@@ -24,7 +24,7 @@ use types_rows::Held;
 use valid_scope::BlockLetters;
 
 // A base with arguments: its kind and number, where its arguments start in the table and how many, and the resulting row.
-#[derive(Drop)]
+#[derive(Clone, Copy)]
 pub struct BaseArgs {
     pub kind: usize,
     pub number: usize,

@@ -23,7 +23,7 @@ use valid_context::Link;
 use valid_scope::BlockLetters;
 
 // The least fault of a target, 0 for none, and for fault 10 the first item that does not fit, else 100.
-#[derive(Drop)]
+#[derive(Clone, Copy)]
 pub struct Fitted {
     pub fault: usize,
     pub item: usize,

@@ -3,7 +3,7 @@
 ghost use Rattle.std.specs.Prelude.{◌≡◌};
 
 // A fault's number and line, 0 and 0 for none, and the first item that does not fit, 100 for none.
-#[derive(Drop)]
+#[derive(Clone, Copy)]
 pub struct Finding {
     pub number: usize,
     pub line: usize,

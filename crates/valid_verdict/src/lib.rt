@@ -16,7 +16,7 @@ use crate::finding::Finding;
 
 // Accepted with the counts of blocks and instructions; refused with number and line; refused with 10 at a jump or branch, with the line
 // and the first item that does not fit (0 for sp, 1 to 8 for a register, 99 for the resulting row).
-#[derive(Drop)]
+#[derive(Clone, Copy)]
 pub enum Answer {
     Accepted(usize, usize),
     Refused(usize, usize),
