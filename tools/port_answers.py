@@ -29,7 +29,7 @@ def decls(items):
     out=[]; 
     for it in items:
         if it.startswith('--'): out.append(('comment',it)); continue
-        if it.startswith('use ') or it.startswith('pub use'): out.append(('use',it)); continue
+        if it.startswith('use ') or it.startswith('pub use '): out.append(('use',it)); continue
         if it.startswith('module _'): out.append(('module',it)); continue
         m=re.match(r'((?:pub |abbrev |unfoldable )*)('+W+r')\s*:\s',it)
         if m:
@@ -85,6 +85,11 @@ def place_of_type(t):
     m=PLACE.match(t)
     return m.group(1) if m else None
 report=[]
+SRC=''.join(open(os.path.join(d,f)).read() for d,_,fs in os.walk(crate+'/src') for f in fs if f.endswith('.rt'))
+def plain_not(step):
+    name=re.sub(r'-\d+$','',step[len('if-not-'):].split('-')[0])
+    v=len(re.findall(r'if !'+re.escape(name)+r'\s*(?:\{|&&|\|\|)',SRC)); w=len(re.findall(r'if !'+re.escape(name)+r'[.(]',SRC))
+    return v>0 and w==0 if not (v and w) else None
 def convert(pdir):
     path=pdir[len(crate.rstrip('/'))+len('/proofs/'):]
     src=open(pdir+'/Proof.antt').read()
@@ -94,6 +99,9 @@ def convert(pdir):
         report.append(path+': no tie, skipped'); return None
     L=lts_for(path)
     if L is None: report.append(path+': no names'); return None
+    for nm,body in re.findall(r'(?m)^abbrev ([\w-]+) : Type 0\n\1 =\s*(tie\.[^\n]*(?:\n [^\n]*)*)',src):
+        src=re.sub(r'(?m)^abbrev '+re.escape(nm)+r' : Type 0\n.*(?:\n .*)*\n?','',src)
+        src=re.sub(r'(?<![\w.-])'+re.escape(nm)+r'(?![\w-])',' '.join(body.split()),src)
     return convert_text(path,src,L,'','c')
 def convert_cycle(path,src):
     als=re.findall(r'use \S+\.Lts-(\S+) as (\S+)',src) or re.findall(r'use \S+\.Lts(?:-(\S+))? as (\S+)',src)
@@ -239,8 +247,13 @@ def convert_text(path,src,L,prefix,cargs):
         while comps and comps[0]=='before': comps=comps[1:]
         if not comps: return ''
         f=comps[0]; out=[]; fn=None
-        if f=='pre': out=['requires']; comps=comps[1:]
+        if f=='pre':
+            out=['requires']; comps=comps[1:]
+            if prefix:
+                if comps and comps[0]=='1': comps=comps[1:]
+                else: out=['decreases']; comps=comps[1:]
         elif f=='fits': out=['ranges']; comps=comps[1:]
+        elif f=='good': out=['well_formed']; comps=comps[1:]
         elif f in ('args','ranges','requires','well_formed','utf8','auto'): out=[f]; comps=comps[1:]; 
         else:
             n,fn,q=step(var_place,f)
@@ -314,8 +327,8 @@ def convert_text(path,src,L,prefix,cargs):
             body=re.sub(r'let ('+W+r') = ('+names+r')\s+(?:'+W+r'|\((?:[^()]|\([^()]*\))*\)) in\s*',hl,body)
         body=strip_hops(body,inmod)
         for _ in range(6):
-            m=re.search(r'let ('+W+r') = ('+W+r'\.'+W+r'\.given(?:\.[01](?:\.[01])*)?) in\s*',body)
-            if not m: m=re.search(r'let ('+W+r') = ('+W+r'(?:\.[^\s(){}.;,@]+)+\.given(?:\.[01]+)*) in\s*',body)
+            m=re.search(r'let ('+W+r') = ('+W+r'\.'+W+r'\.(?:given|last|new|kept)(?:\.[01])*) in\s*',body)
+            if not m: m=re.search(r'let ('+W+r') = ('+W+r'(?:\.[^\s(){}.;,@]+)+\.(?:given|last|new|kept)(?:\.[01])*) in\s*',body)
             if not m: break
             tail=re.sub(r"(?<![\w.'₀-₉-])"+re.escape(m.group(1))+r"(?![\w'₀-₉-])",m.group(2),body[m.end():])
             body=body[:m.start()]+tail
@@ -324,7 +337,14 @@ def convert_text(path,src,L,prefix,cargs):
         names='|'.join(re.escape(x) for x in sorted(recs,key=len,reverse=True))
         def rv(m):
             v,rest=m.group(1),m.group(2)
-            if rest: return 'c'+fields(recs[v],rest)
+            if rest:
+                r='c'+fields(recs[v],rest)
+                q=re.match(r'^c\.(if-not-[^.]*)\.(true|false)$',r)
+                if q:
+                    pn=plain_not(q.group(1)); old='n' if re.search(r'\.(taken|left)$',rest) else 'raw'
+                    if pn is None: report.append(f'{path}: {r}: variable or field?')
+                    if pn: return '(ap not %s)'%r
+                return r
             return 'c'
         if names:
             body=re.sub(r"(?<![\w.'₀-₉-])("+names+r")(?![\w'₀-₉-])((?:\.[^\s(){}.;,@\"«»`]+)*)",rv,body)
@@ -333,7 +353,7 @@ def convert_text(path,src,L,prefix,cargs):
         return body
     tiearg=re.compile(r'tie\.')
     # value helpers
-    vals={}
+    vals={}; IMP={}
     for n in helpers:
         if n in hop: continue
         h=helpers[n]
@@ -351,12 +371,20 @@ def convert_text(path,src,L,prefix,cargs):
         # signature args
         rest=sig
         for an in argn:
-            m=re.match(r'\s*[({](\S+)\s*:\s*(tie\.[^()]*?)[)}]\s*→\s*',rest)
+            m=re.match(r'\s*[({](\S+)\s*:\s*(tie\.[^()]*?)[)}]\s*(?:→\s*)?',rest)
             m2=re.match(r'\s*(tie\.[^→()]*?)\s*→\s*',rest)
             if m and place_of_type(m.group(2)): recs[an]=pnorm.get(norm(place_of_type(m.group(2))),None); recs[m.group(1)]=recs[an]; rest=rest[m.end():]; own.append(True); continue
             if m2 and place_of_type(m2.group(1)): recs[an]=pnorm.get(norm(place_of_type(m2.group(1))),None); rest=rest[m2.end():]; own.append(True); continue
             own.append(False); break
         others=argn[len([x for x in own if x]):]
+        imp=0
+        while True:
+            m=re.match(r'\s*\{([^:{}]*)\s*:\s*([^{}]*)\}\s*(→\s*)?',rest)
+            if not m: break
+            ns=m.group(1).split(); imp+=len(ns); rest='('+' '.join(ns)+' : '+m.group(2)+') → '+rest[m.end():]
+            if imp>len(ns): break
+            others=ns+others
+        if imp: IMP[n]=imp
         vals[n]=(recs,rest,others,b,h.unf,extra,nrec,len([x for x in own if x]))
         if extra: report.append(f'{path}: helper {n} has extra module params {extra}')
     out=[]
@@ -371,7 +399,7 @@ def convert_text(path,src,L,prefix,cargs):
     def drop_c(t):
         # value helper applied to c: `image c` -> `image`
         for n in vals:
-            t=re.sub(r'(?<![\w.-])'+re.escape(n)+r'((?:\s+c)+)(?![\w.-])',n,t)
+            t=re.sub(r'(?<![\w.-])'+re.escape(n)+r'((?:\s+c)+)(?![\w.-])',n+' _'*IMP.get(n,0),t)
         return re.sub(r'\(('+W+r')\)',lambda m: m.group(0) if m.group(1) not in vals else m.group(1),t)
     def needed(t):
         got=[]
@@ -386,6 +414,8 @@ def convert_text(path,src,L,prefix,cargs):
     def emit(goal,body,unf):
         b=rewrite(body,asked.get(goal),{'c':asked.get(goal)})
         b=drop_c(b)
+        b=re.sub(r'not-(?:true|false) (?:_|[^\s()]+|\([^()]*\)) \(ap not (c\.if-not-[^\s()]*\.(?:true|false))\)',r'\1',b)
+        b=re.sub(r'\((c\.if-not-[^\s()]*)\)',r'\1',b)
         b=re.sub(r'\bsearch needs\b','search rules',b)
         ls=[val_let(n) for n in needed(b)]
         goal=prefix+goal
@@ -478,6 +508,9 @@ def convert_text(path,src,L,prefix,cargs):
             body='\n\n'.join(keep+[s for g,s in answers])
             extra=f'use Rattle.{cname}.proofs.{path.replace("/",".")}.Goals as goal'
             us=uselines(body,extra)
+            if re.search(r'not-(true|false) _ c',body) and not re.search(r'not-(true|false)[,}]',us): us='use borrow.Author.Tests.{not-true, not-false}\n'+us
+            if re.search(r'\(ap not ',body) and not re.search(r'[{, ]ap[,}]',us): us='use Rattle.std.proofs.Common.{ap}\n'+us
+            if re.search(r'\(ap not ',body) and not re.search(r'[{, ]not[,}]',us): us='use Rattle.std.proofs.Common.{not}\n'+us
             if re.search(r'(?<![\w.-])rules(?![\w-])',body) and not re.search(r'[{, ]rules[,}]',us): us='use Rattle.std.proofs.Common.{rules}\n'+us
             if re.search(r'(?<![\w.-])arith(?![\w-])',body) and not re.search(r'[{, ]arith[,}]',us): us='use Rattle.std.proofs.Common.{arith}\n'+us
             res['Answers.antt']=us+'\n\n'+body+'\n'
