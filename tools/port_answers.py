@@ -88,7 +88,7 @@ report=[]
 SRC=''.join(open(os.path.join(d,f)).read() for d,_,fs in os.walk(crate+'/src') for f in fs if f.endswith('.rt'))
 def plain_not(step):
     name=re.sub(r'-\d+$','',step[len('if-not-'):].split('-')[0])
-    v=len(re.findall(r'if !'+re.escape(name)+r'\s*(?:\{|&&|\|\|)',SRC)); w=len(re.findall(r'if !'+re.escape(name)+r'[.(]',SRC))
+    v=len(re.findall(r'if !'+re.escape(name)+r'\s*(?:\{|&&|\|\||\()',SRC)); w=len(re.findall(r'if !'+re.escape(name)+r'[.]',SRC))
     return v>0 and w==0 if not (v and w) else None
 def convert(pdir):
     path=pdir[len(crate.rstrip('/'))+len('/proofs/'):]
@@ -319,6 +319,7 @@ def convert_text(path,src,L,prefix,cargs):
             recs[m.group(1)]=pnorm.get(norm(m.group(2)),m.group(2)); return ''
         for al in ALIAS: body=re.sub(r'(let '+W+r' : )'+re.escape(al)+r' =',lambda m: m.group(1)+'tie.'+ALIAS[al]+' =',body)
         body=re.sub(r'let ('+W+r') : tie\.((?:After|At|Then|Else|Start|In|Join|Arm)\S*)((?:\s+(?!=)\S+)*?) = search(?: rules| needs)? in\s*',rl,body)
+        body=re.sub(r'let ('+W+r') : tie\.(?:After|At|Then|Else|Start|In|Join|Arm)\S*(?:\s+(?!=)\S+)*? = (?!search)',r'let \1 = ',body)
         # let s = hop arg in
         def hl(m):
             recs[m.group(1)]=pnorm.get(norm(hop_target(m.group(2))),None); return ''
