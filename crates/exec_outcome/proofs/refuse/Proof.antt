@@ -1,9 +1,0 @@
-use mathlib.Core.Path.{refl}
-use Rattle.exec_outcome.proofs.refuse.Statement.{statement}
-use Rattle.exec_outcome.proofs.refuse.Tie as tie
-
-returns : tie.Need-returns
-returns c = refl
-
-pub refuse_spec : {M : Type 1} → statement M
-refuse_spec = tie.close (tie.spec returns)
