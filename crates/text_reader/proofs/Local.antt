@@ -5,7 +5,7 @@
 use Prim.Native.Nat.{ℕ}
 use mathlib.Core.List.{List, [], ◌∷◌}
 use seplogic.Ra.Ura.{Ura}
-use seplogic.Ra.TreeShare.{full_share}
+use base.Fraction.{full_share}
 use mir.Syntax.{named, erased}
 use mir.Val.{Val}
 use base.Logic.{ent, sep}
@@ -31,14 +31,14 @@ B κ = T.the_row (α κ)
 module _ {M : Type 1} {𝓤 : Ura M} (𝓛 : Logic 𝓤) (κ : Lft) (r : Reader) (l : ℕ) where
   open 𝓛 use {H}
 
-  pub lies_there : (u : Val) → ent 𝓤 (sep 𝓤 (H.at full_share (T'.mir erased) l 0 u) (sem 𝓛 ((B κ).own r (u ∷ [])))) (sem 𝓛 ((mem (B κ)).own_at r l 0))
+  pub lies_there : (u : Val) → ent 𝓤 (sep 𝓤 (H.at full_share (T'.mir erased) l 0 u) (sem 𝓛 ((B κ).own_val r (u ∷ [])))) (sem 𝓛 ((mem (B κ)).own_at r l 0))
   unfolding part_of
   lies_there u =
-      qed 𝓛 (‵ (fat full_share (T'.mir erased) l 0 u) ∷ ‵ ((B κ).own r (u ∷ [])) ∷ []) ∵
+      qed 𝓛 (‵ (fat full_share (T'.mir erased) l 0 u) ∷ ‵ ((B κ).own_val r (u ∷ [])) ∷ []) ∵
       use1 𝓛 (‵ (cell_at full_share (B κ).mir (u ∷ []) l 0)) (𝓛.laws.at_raw full_share (T'.mir erased) l 0 u) $ fjoin ! $
-      fpack ! (List Val) (λ us. fsep (cell_at full_share (B κ).mir us l 0) ((B κ).own r us)) (u ∷ []) $ done !
+      fpack ! (List Val) (λ us. fsep (cell_at full_share (B κ).mir us l 0) ((B κ).own_val r us)) (u ∷ []) $ done !
 
-  pub taken_up : ent 𝓤 (sem 𝓛 ((mem (B κ)).own_at r l 0)) (sep 𝓤 (H.at full_share (T'.mir erased) l 0 (T'.lowered r)) (sem 𝓛 ((B κ).own r (T'.lowered r ∷ []))))
+  pub taken_up : ent 𝓤 (sem 𝓛 ((mem (B κ)).own_at r l 0)) (sep 𝓤 (H.at full_share (T'.mir erased) l 0 (T'.lowered r)) (sem 𝓛 ((B κ).own_val r (T'.lowered r ∷ []))))
   unfolding part_of
   taken_up =
       qed 𝓛 (‵ ((mem (B κ)).own_at r l 0) ∷ []) ∵ fpick ! (λ vs. fsplit ! $

@@ -8,8 +8,6 @@ use native.Mathlib.Nat.{not-suc-le-zero, add-zero}
 use lib.Dec.{leb, ltb}
 use lib.ListN.{length, get_or, take}
 use borrow.Author.Tests.{le-leb, lt-leb, ltb-true}
-use types.Run.{OneOf, miss}
-use denote.Enum.Declared.{tag_of}
 use Rattle.syntax.specs.Partial.{guarded}
 use Rattle.syntax.specs.Syntax.{Kind, value, stack}
 use Rattle.types.specs.Types.{Ty, int, junk, var, tuple, pointer, hidden, code, nil, push, svar, gap, variable, below, Act, walk, Arg, place, filling, fill, fits_kind, meets, filled, a_stack, Wf}
@@ -17,12 +15,11 @@ use Rattle.types.specs.Equal.{same, same_letters}
 use Rattle.types.specs.Rows.{type_at, types_of, all_below}
 use Rattle.types.proofs.Equal.{and_inv}
 use Rattle.types.proofs.Filling.{Side, lo, hi, side, below_lt, below_ge, fuse, walk_variable}
-use Rattle.tables.specs.Tables.{RowTable, span, letter_of, letters_at, rows_in}
+use Rattle.tables.specs.Tables.{RowTable, span, letter_of, rows_in}
 use Rattle.types_rows.specs.declared.Val.{Val}
 use Rattle.types_rows.specs.declared.Val.TheVariants.{Int, Junk, ValVar, ValFill, Tuple, Pointer, Code, Hidden}
 use Rattle.types_rows.specs.Read.{lower, value_at, parts_of, mean_v, mean_s, placed, acting, lift, value_under, stack_under, parts_under, code_of, arg_of, args_of, place_v, OkV}
 use Rattle.types_rows.specs.Environments.{var_in, read_in, shifted}
-use Rattle.types_rows.specs.contracts.Val.{the_type}
 use Rattle.types_rows.proofs.Laws.{no_arg, type_v, value_read}
 use Rattle.types_rows.proofs.Bridge.{arg_at}
 use Rattle.types_rows.proofs.Environments.{acting_low, acting_high, read_var, shifted_plain}
@@ -192,11 +189,11 @@ module _ (τ : RowTable) (args : List ℕ) (ρ : ℕ → ℕ) (l r x p y q m a b
       (sym (and_swap (same (stack_under τ A ρ (a - m) x) (mean_s τ y)) (same (parts_under τ A ρ (a - m) true l p 8) (parts_of (mean_v τ) τ.parts true r q 8)) (meets A (a - m) (mean_s τ x)) (meets A (a - m) (parts_of (mean_v τ) τ.parts true l p 8))))
 
 -- ---- rows that are no code rows
-abbrev pub others : List ℕ
-others = 0 ∷ 1 ∷ 2 ∷ 3 ∷ 4 ∷ 5 ∷ 7 ∷ []
+abbrev pub NoCode : Val → Type 0
+NoCode n = (x p : ℕ) → n ≡ Code x p → ⊥
 
 module _ (τ : RowTable) (A : List Arg) (E : List ℕ) (e : ℕ) where
-  other_left : (l : ℕ) (u : Ty value) (n : Val) → OkV 0 l n → OneOf others (tag_of the_type n) → false ≡ fills_to A (read_in E e (type_v τ [] (lift 0) 0 l n)) u
+  other_left : (l : ℕ) (u : Ty value) (n : Val) → OkV 0 l n → NoCode n → false ≡ fills_to A (read_in E e (type_v τ [] (lift 0) 0 l n)) u
   unfolding fills_to read_in walk
   other_left l u Int o k = refl
   other_left l u Junk o k = refl
@@ -204,7 +201,7 @@ module _ (τ : RowTable) (A : List Arg) (E : List ℕ) (e : ℕ) where
   other_left l u (ValFill h) o k = absurd (not-suc-le-zero o)
   other_left l u (Tuple p c) o k = refl
   other_left l u (Pointer x) o k = refl
-  other_left l u (Code x p) o k = absurd (miss others 6 tt k)
+  other_left l u (Code x p) o k = absurd (k x p refl)
   other_left l u (Hidden x) o k = refl
 
   -- a code type is no other type
@@ -215,7 +212,7 @@ module _ (τ : RowTable) (A : List Arg) (E : List ℕ) (e : ℕ) where
       sym (ap (λ z. leb (length A) (length q) && z) (full_is u (code k (fill (length k) A a) (fill (length k) A s)) (meets A (length k) a && meets A (length k) s) ∙ ap (λ z. z && (meets A (length k) a && meets A (length k) s)) (h k (fill (length k) A a) (fill (length k) A s)))
       ∙ and_false (leb (length A) (length q)))
 
-  other_right : (q : List Kind) (a s : Ty stack) (r : ℕ) (w : Val) → OkV 0 r w → OneOf others (tag_of the_type w) → false ≡ fills_to A (code q a s) (type_v τ [] (lift 0) 0 r w)
+  other_right : (q : List Kind) (a s : Ty stack) (r : ℕ) (w : Val) → OkV 0 r w → NoCode w → false ≡ fills_to A (code q a s) (type_v τ [] (lift 0) 0 r w)
   unfolding same
   other_right q a s r Int o k = code_not q a s int (λ k b c. refl)
   other_right q a s r Junk o k = code_not q a s junk (λ k b c. refl)
@@ -223,7 +220,7 @@ module _ (τ : RowTable) (A : List Arg) (E : List ℕ) (e : ℕ) where
   other_right q a s r (ValFill h) o k = absurd (not-suc-le-zero o)
   other_right q a s r (Tuple p c) o k = code_not q a s (tuple (parts_under τ [] (lift 0) 0 false r p c)) (λ k b c. refl)
   other_right q a s r (Pointer x) o k = code_not q a s (pointer (stack_under τ [] (lift 0) 0 x)) (λ k b c. refl)
-  other_right q a s r (Code x p) o k = absurd (miss others 6 tt k)
+  other_right q a s r (Code x p) o k = absurd (k x p refl)
   other_right q a s r (Hidden x) o k = code_not q a s (hidden (value_under τ [] (lift 0) 1 x)) (λ k b c. refl)
 
 -- ---- the form n of row l
@@ -235,10 +232,10 @@ module _ (τ : RowTable) (l : ℕ) {n : Val} (f : n ≡ value_at τ.rows (place_
   code_form_lem {x} {p} h = form ∙ ap (type_v τ [] (lift 0) 0 l) h ∙ plain_code τ 0 l x p
 
   module _ (A : List Arg) (E : List ℕ) (e : ℕ) where
-    pub fill_left : (u : Ty value) → OkV 0 l n → OneOf others (tag_of the_type n) → false ≡ fills_to A (read_in E e (mean_v τ l)) u
+    pub fill_left : (u : Ty value) → OkV 0 l n → NoCode n → false ≡ fills_to A (read_in E e (mean_v τ l)) u
     fill_left u o k = other_left τ A E e l u n o k ∙ ap (λ z. fills_to A (read_in E e z) u) (sym form)
 
-    pub fill_right : (h x p : ℕ) {t : Ty value} → t ≡ code_of τ h x p → OkV 0 l n → OneOf others (tag_of the_type n) → false ≡ fills_to A (read_in E e t) (mean_v τ l)
+    pub fill_right : (h x p : ℕ) {t : Ty value} → t ≡ code_of τ h x p → OkV 0 l n → NoCode n → false ≡ fills_to A (read_in E e t) (mean_v τ l)
     unfolding read_in
     fill_right h x p g o k =
         other_right τ A E e (letters_from τ.parts (p + 9) (get_or τ.parts (p + 8) 0)) _ _ l n o k ∙ ap₂ (fills_to A) (sym (ap (read_in E e) g ∙ read_letters τ (var_in E e) h x p (get_or τ.parts (p + 8) 0) refl)) (sym form)

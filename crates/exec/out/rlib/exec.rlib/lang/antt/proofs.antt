@@ -1,6 +1,0 @@
-pub mod Tests
-pub mod Budgets
-pub mod Barred
-pub mod Calls
-pub mod Steps
-pub mod Numbers

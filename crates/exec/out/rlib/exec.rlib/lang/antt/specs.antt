@@ -1,4 +1,0 @@
-pub mod Machine
-pub mod Tests
-pub mod Run
-pub mod Steps

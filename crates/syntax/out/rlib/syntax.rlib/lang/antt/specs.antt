@@ -1,4 +1,0 @@
-pub mod Partial
-pub mod Bits
-pub mod Syntax
-pub mod Fault

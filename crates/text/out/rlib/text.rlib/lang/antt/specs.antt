@@ -1,5 +1,0 @@
-pub mod Bytes
-pub mod Grammar
-pub mod PassOne
-pub mod Samples
-pub mod Entries

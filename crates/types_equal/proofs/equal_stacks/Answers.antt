@@ -1,0 +1,26 @@
+use mathlib.Core.Path.{sym}
+use Rattle.types_rows.specs.Read.{tab}
+use Rattle.types_equal.proofs.Items.{spare_kept, length_first}
+use Rattle.types_equal.proofs.Plain.{link_few, tabled_plain, spare_plain, stacks_are}
+use borrow.Author.Rules.{rules}
+use Rattle.types_equal.proofs.equal_stacks.Goals as goal
+
+pub slice_bounds-eq_stack-end-3 : goal.slice_bounds-eq_stack-end-3
+slice_bounds-eq_stack-end-3 c = sym (length_first 1543 c.args.pending.now c.requires.1)
+
+pub eq_stack-requires : goal.eq_stack-requires
+eq_stack-requires c =
+    let fw = c.requires.0 in
+    let a = link_few (tab c.args.rows.now c.args.parts.now) c.args.rows.now c.args.n c.link_of-x.result c.args.l c.link_of-x.ensures in
+    let b = link_few (tab c.args.rows.now c.args.parts.now) c.args.rows.now c.args.n c.link_of-y.result c.args.r c.link_of-y.ensures in (
+      tabled_plain (tab c.args.rows.now c.args.parts.now) c.args.rows.now c.args.n c.link_of-x.result
+          c.link_of-y.result c.args.l c.args.r fw c.link_of-x.ensures c.link_of-y.ensures,
+      search rules,
+      spare_kept 0
+          c.link_of-x.result c.link_of-y.result _ _ (spare_plain (tab c.args.rows.now c.args.parts.now) c.args.rows.now
+          c.args.n c.link_of-x.result c.link_of-y.result c.args.l c.args.r fw c.link_of-x.ensures c.link_of-y.ensures)
+          (length_first 1543 c.args.pending.now c.requires.1),
+    )
+
+pub returns : goal.returns
+returns c = stacks_are _ _ _ _ _ _ _ c.link_of-x.ensures c.link_of-y.ensures c.eq_stack.ensures

@@ -1,9 +1,0 @@
-pub mod Program
-pub mod Rules
-pub mod Tests
-pub mod PassThree
-pub mod Verdict
-pub mod Claims
-pub mod FirstFault
-pub mod FirstItem
-pub mod Bounds
