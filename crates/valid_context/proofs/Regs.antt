@@ -2,7 +2,7 @@
 use Prim.Native.Nat.{ℕ, zero, suc, ◌+◌, ◌*◌, ◌≤◌, ◌<◌}
 use native.Mathlib.Omega.{arith}
 use native.Mathlib.Nat.{add-zero}
-use mathlib.Core.Path.{◌≡◌, refl, ap, ap₂, ◌∙◌}
+use mathlib.Core.Path.{◌≡◌, refl, ap, ap₂, ◌∙◌, subst}
 use mathlib.Core.Option.{none, some}
 use mathlib.Core.List.{List}
 use lib.ListN.{length}
@@ -64,23 +64,29 @@ module _ (T : Reading) where
   put_down e zero d t a b q = rw q
   put_down e (suc u) d t a b q = rw q
 
+  first_put : (l : List ℕ) (i n e t : ℕ) → 2 * i + 1 < length l → replaced (regs_from T l i (suc n)) 0 (T.type e t) ≡ some (regs_from T (with_entry l i (suc t) e) i (suc n))
+  unfolding regs_from
+  first_put l i n e t p =
+      let m : List ℕ = with_entry l i (suc t) e in
+      let rest : regs_from T m (suc i) n ≡ regs_from T l (suc i) n = regs_agree m l (suc i) (suc i) n (λ k c r u. put_other l i (suc t) e (suc i + k) c (omega arith) u) in
+      rw (put_first l i (suc t) e p, put_second l i (suc t) e p, rest) (put_top (cell 2 l i 1) (cell 2 l i 0) e t (regs_from T l (suc i) n))
+
   -- a link written
   pub regs_put : (l : List ℕ) (i n d e t : ℕ) → d < n → 2 * (i + d) + 1 < length l → replaced (regs_from T l i n) d (T.type e t) ≡ some (regs_from T (with_entry l (i + d) (suc t) e) i n)
   unfolding regs_from
   regs_put l i zero d e t h q = absurd (omega arith)
   regs_put l i (suc n) zero e t h q =
-      let z : i + 0 ≡ i = omega arith in
-      let p : 2 * i + 1 < length l = rw z at q in
-      let m : List ℕ = with_entry l i (suc t) e in
-      let rest : regs_from T m (suc i) n ≡ regs_from T l (suc i) n = regs_agree m l (suc i) (suc i) n (λ k c r u. put_other l i (suc t) e (suc i + k) c (omega arith) u) in
-      rw (z, put_first l i (suc t) e p, put_second l i (suc t) e p, rest) (put_top (cell 2 l i 1) (cell 2 l i 0) e t (regs_from T l (suc i) n))
+      let z : i ≡ i + 0 = omega arith in
+      subst (λ (k : ℕ). replaced (regs_from T l i (suc n)) 0 (T.type e t) ≡ some (regs_from T (with_entry l k (suc t) e) i (suc n))) z
+      (first_put l i n e t (omega arith))
   regs_put l i (suc n) (suc d) e t h q =
-      let z : i + suc d ≡ suc i + d = omega arith in
+      let z : suc i + d ≡ i + suc d = omega arith in
       let m : List ℕ = with_entry l (suc i + d) (suc t) e in
       let top : cell 2 m i 0 ≡ cell 2 l i 0 = put_other l (suc i + d) (suc t) e i 0 (omega arith) (omega arith) in
       let env : cell 2 m i 1 ≡ cell 2 l i 1 = put_other l (suc i + d) (suc t) e i 1 (omega arith) (omega arith) in
-      rw (z, top, env) (put_down (cell 2 l i 1) (cell 2 l i 0) d (T.type e t) (regs_from T l (suc i) n) (regs_from T m (suc i) n)
-      (regs_put l (suc i) n d e t (omega arith) (omega arith)))
+      subst (λ (k : ℕ). replaced (regs_from T l i (suc n)) (suc d) (T.type e t) ≡ some (regs_from T (with_entry l k (suc t) e) i (suc n))) z
+      (rw (top, env) (put_down (cell 2 l i 1) (cell 2 l i 0) d (T.type e t) (regs_from T l (suc i) n) (regs_from T m (suc i) n)
+      (regs_put l (suc i) n d e t (omega arith) (omega arith))))
 
   put_none : (e x d : ℕ) (t : Ty value) (a : Ty stack) → replaced a d t ≡ none → replaced (on_link T e x a) (suc d) t ≡ none
   unfolding replaced

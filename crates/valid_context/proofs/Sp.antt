@@ -3,7 +3,7 @@ use Prim.Native.Nat.{ℕ, zero, suc, ◌+◌, ◌-◌, ◌*◌, ◌≤◌, ◌<�
 use native.Mathlib.Omega.{arith}
 use native.Mathlib.Nat.{add-zero, add-suc, sub-zero, suc-sub-suc}
 use native.Mathlib.Numerals.{add-one}
-use mathlib.Core.Path.{◌≡◌, refl, ap, ap₂, sym, ◌∙◌}
+use mathlib.Core.Path.{◌≡◌, refl, ap, ap₂, sym, ◌∙◌, subst}
 use mathlib.Core.Bool.{Bool, true, false, ◌&&◌, and-false, cond}
 use mathlib.Core.Option.{Option, none, some}
 use mathlib.Core.List.{List}
@@ -146,14 +146,23 @@ module _ (T : Reading) where
       go true false e = rw e
       go false b e = refl
 
+  put_last : (sp : List ℕ) (d row env : ℕ) → 2 * d + 1 < length sp → row < first_var → replaced (sp_of T sp (suc d)) 0 (T.type env row) ≡ guarded (are_values sp (suc d) 1) (sp_of T (with_entry sp d row env) (suc d))
+  unfolding are_values sp_of
+  put_last sp d row env p q =
+      rw (put_first sp d row env p, put_second sp d row env p, sp_set sp d d row env (omega arith), lt-ltb row first_var q)
+      (unfold replaced in top_by (λ a. replaced a 0 (T.type env row) ≡ guarded (ltb (cell 2 sp d 0) first_var && true) (push (T.type env row) (sp_of T sp d))) sp d (sp_of T sp d) (λ e. rw e) (λ e. rw e))
+
   pub put_is : (sp : List ℕ) (d i row env : ℕ) → 2 * d ≤ length sp → row < first_var → replaced (sp_of T sp d) i (T.type env row) ≡ guarded (are_values sp d (suc i)) (sp_of T (with_entry sp (d - suc i) row env) d)
   unfolding are_values sp_of
   put_is sp zero i row env h q = unfold replaced in refl
   put_is sp (suc d) zero row env h q =
-      let p : 2 * d + 1 < length sp = omega arith in
-      rw (suc-sub-suc, sub-zero, put_first sp d row env p, put_second sp d row env p, sp_set sp d d row env (omega arith), lt-ltb row first_var q)
-      (unfold replaced in top_by (λ a. replaced a 0 (T.type env row) ≡ guarded (ltb (cell 2 sp d 0) first_var && true) (push (T.type env row) (sp_of T sp d))) sp d (sp_of T sp d) (λ e. rw e) (λ e. rw e))
-  put_is sp (suc d) (suc i) row env h q = rw suc-sub-suc (go (are_values sp d (suc i)) refl (put_is sp d i row env (omega arith) q))
+      let z : d ≡ suc d - 1 = omega arith in
+      subst (λ (k : ℕ). replaced (sp_of T sp (suc d)) 0 (T.type env row) ≡ guarded (are_values sp (suc d) 1) (sp_of T (with_entry sp k row env) (suc d))) z
+      (put_last sp d row env (omega arith) q)
+  put_is sp (suc d) (suc i) row env h q =
+      let z : d - suc i ≡ suc d - suc (suc i) = sym (suc-sub-suc d (suc i)) in
+      subst (λ (k : ℕ). replaced (sp_of T sp (suc d)) (suc i) (T.type env row) ≡ guarded (are_values sp (suc d) (suc (suc i))) (sp_of T (with_entry sp k row env) (suc d))) z
+      (go (are_values sp d (suc i)) refl (put_is sp d i row env (omega arith) q))
     where
       l : List ℕ
       l = with_entry sp (d - suc i) row env
