@@ -7,8 +7,6 @@ use mathlib.Core.Bool.{Bool, true, false, ◌&&◌, not, cond}
 use mathlib.Core.List.{List, [], ◌∷◌, ◌++◌, map}
 use lib.Dec.{eqb, ltb}
 use lib.ListN.{get_or}
-use types.Run.{OneOf, miss}
-use denote.Enum.Declared.{tag_of}
 use borrow.Author.Tests.{ne_eqb, eq-eqb, eqb-true, ltb-true}
 use Rattle.syntax.specs.Syntax.{Kind, value, stack, Instr}
 use Rattle.syntax.specs.Fault.{number_of, lowest, given}
@@ -22,7 +20,6 @@ use Rattle.types_rows.specs.declared.Val.{Val}
 use Rattle.types_rows.specs.declared.Val.TheVariants.{Int, Junk, ValVar, ValFill, Tuple, Pointer, Code, Hidden}
 use Rattle.types_rows.specs.declared.Slot.{Slot}
 use Rattle.types_rows.specs.declared.Slot.TheVariants.{Known}
-use Rattle.types_rows.specs.contracts.Val.{the_type}
 use Rattle.types_rows.proofs.Laws.{lower_low, plain_value, value_is, never}
 use Rattle.types_rows.proofs.Bridge.{type_at_lem, arg_at}
 use Rattle.valid.specs.Program.{Block, as_code, block_of}
@@ -223,6 +220,10 @@ module _ (rows parts : List ℕ) (h x p : ℕ) (xs : List Instr) where
   entry_fit k j s b e z f c y d t g =
       entry_is true true b (sym (eq-eqb k 0 z) ∙ binds k e) (sym (eq-eqb j 0 y) ∙ holds_none j f c) (ap (λ (a : Bool). a && b) (sym t) ∙ registers_fit s b d g)
 
+-- ---- rows that are no code rows
+abbrev pub NoCode : Val → Type 0
+NoCode w = (x p : ℕ) → w ≡ Code x p → ⊥
+
 -- ---- the block of a row
 module _ (rows parts : List ℕ) (n c h : ℕ) {v : Val} (e : h ≡ lower (n + 1) c) (f : v ≡ value_at rows (place_v 0 (lift 0) 0) h) where
   row_type_lem : {w : Val} → v ≡ w → type_at value (types_of (rows_in (tab rows parts) n)) c ≡ build_v (mean_v (tab rows parts)) (mean_s (tab rows parts)) parts h w
@@ -234,7 +235,7 @@ module _ (rows parts : List ℕ) (n c h : ℕ) {v : Val} (e : h ≡ lower (n + 1
   unfolding block_of as_code
   block_is xs q = ap (λ (t : Ty value). block_of t xs) (row_type_lem q)
 
-  no_block : (w : Val) (xs : List Instr) → OneOf (0 ∷ 1 ∷ 2 ∷ 3 ∷ 4 ∷ 5 ∷ 7 ∷ []) (tag_of the_type w) → block_of (build_v (mean_v (tab rows parts)) (mean_s (tab rows parts)) parts h w) xs ≡ record { letters = []; sp = nil; regs = nil; body = xs }
+  no_block : (w : Val) (xs : List Instr) → NoCode w → block_of (build_v (mean_v (tab rows parts)) (mean_s (tab rows parts)) parts h w) xs ≡ record { letters = []; sp = nil; regs = nil; body = xs }
   unfolding block_of as_code
   no_block Int xs k = refl
   no_block Junk xs k = refl
@@ -243,13 +244,13 @@ module _ (rows parts : List ℕ) (n c h : ℕ) {v : Val} (e : h ≡ lower (n + 1
   no_block (Tuple p o) xs k = refl
   no_block (Pointer y) xs k = refl
   no_block (Hidden y) xs k = refl
-  no_block (Code y p) xs k = absurd (miss (0 ∷ 1 ∷ 2 ∷ 3 ∷ 4 ∷ 5 ∷ 7 ∷ []) 6 tt k)
+  no_block (Code y p) xs k = absurd (k y p refl)
 
-  pub other_block : (xs : List Instr) → OneOf (0 ∷ 1 ∷ 2 ∷ 3 ∷ 4 ∷ 5 ∷ 7 ∷ []) (tag_of the_type v) → block_of (type_at value (types_of (rows_in (tab rows parts) n)) c) xs ≡ record { letters = []; sp = nil; regs = nil; body = xs }
+  pub other_block : (xs : List Instr) → NoCode v → block_of (type_at value (types_of (rows_in (tab rows parts) n)) c) xs ≡ record { letters = []; sp = nil; regs = nil; body = xs }
   other_block xs k = ap (λ (t : Ty value). block_of t xs) (row_type_lem refl) ∙ no_block v xs k
 
   -- no code row: 7
-  pub other_fault : (first : Bool) (xs : List Instr) → OneOf (0 ∷ 1 ∷ 2 ∷ 3 ∷ 4 ∷ 5 ∷ 7 ∷ []) (tag_of the_type v) → 7 ≡ least_of (block_faults first (block_of (type_at value (types_of (rows_in (tab rows parts) n)) c) xs))
+  pub other_fault : (first : Bool) (xs : List Instr) → NoCode v → 7 ≡ least_of (block_faults first (block_of (type_at value (types_of (rows_in (tab rows parts) n)) c) xs))
   unfolding block_faults is_formed items least_of given number_of lowest is_entry same_letters same entry_regs declared
   other_fault first xs k = go first ∙ ap (λ (B : Block). least_of (block_faults first B)) (sym (other_block xs k))
     where
@@ -257,7 +258,7 @@ module _ (rows parts : List ℕ) (n c h : ℕ) {v : Val} (e : h ≡ lower (n + 1
       go true = refl
       go false = refl
 
-  pub other_samples : (xs : List Instr) → OneOf (0 ∷ 1 ∷ 2 ∷ 3 ∷ 4 ∷ 5 ∷ 7 ∷ []) (tag_of the_type v) → 0 ≡ declared (block_of (type_at value (types_of (rows_in (tab rows parts) n)) c) xs).regs
+  pub other_samples : (xs : List Instr) → NoCode v → 0 ≡ declared (block_of (type_at value (types_of (rows_in (tab rows parts) n)) c) xs).regs
   unfolding declared
   other_samples xs k = ap (λ (B : Block). declared B.regs) (sym (other_block xs k))
 

@@ -1,0 +1,8 @@
+use Rattle.valid_scope.proofs.variables.Laws.{letter_v, letter_s}
+use Rattle.valid_scope.proofs.variables.letter.Goals as goal
+
+pub returns-then-x-eq0 : goal.returns-then-x-eq0
+returns-then-x-eq0 c = letter_v _ (search)
+
+pub returns : goal.returns
+returns c = letter_s _ (search)
