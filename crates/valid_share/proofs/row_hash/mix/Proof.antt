@@ -1,9 +1,0 @@
-use Rattle.valid_share.proofs.row_hash.Laws.{below}
-use borrow.Author.Rules.{rules}
-use Rattle.valid_share.proofs.row_hash.mix.Statement.{statement}
-use Rattle.valid_share.proofs.row_hash.mix.Tie as tie
-
-pub mix_spec : {M : Type 1} → statement M
-mix_spec =
-    tie.close (tie.spec (λ c κs. search) (λ c κs. search) (λ c. record { fits = below 32 (search) (search) }) (λ c κs. search)
-    (λ c. search rules) (λ c. search rules) (λ c. search))
