@@ -7,8 +7,6 @@ use mathlib.Core.Bool.{Bool, true, false, cond}
 use mathlib.Core.Option.{none, some, none-ne-some}
 use mathlib.Core.List.{List, [], ◌∷◌}
 use lib.ListN.{get_or}
-use types.Run.{OneOf, miss}
-use denote.Enum.Declared.{tag_of}
 use Rattle.syntax.specs.Partial.{guarded}
 use Rattle.syntax.specs.Syntax.{Kind, value, stack}
 use Rattle.types.specs.Types.{Ty, int, junk, var, tuple, pointer, hidden, code, nil}
@@ -21,7 +19,6 @@ use Rattle.valid.specs.PassThree.{Judged, ◌▹◌, or_fault, known, integer_at
 use Rattle.types_rows.specs.Read.{tab, lower, lift, value_with, value_at, place_v, OkV, build_v, mean_v, mean_s, parts_of}
 use Rattle.types_rows.specs.declared.Val.{Val}
 use Rattle.types_rows.specs.declared.Val.TheVariants.{Int, Junk, ValVar, ValFill, Tuple, Pointer, Code, Hidden}
-use Rattle.types_rows.specs.contracts.Val.{the_type}
 use Rattle.types_rows.proofs.Laws.{lower_low, plain_value, value_is}
 use Rattle.types_rows.proofs.Bridge.{type_at_lem, type_in_lem}
 use Rattle.types_rows.specs.Environments.{read_in}
@@ -127,9 +124,9 @@ part_past v ps h p (suc c) (suc i) l = part_past v ps h (suc p) c i (omega arith
 
 -- forms that are not the one that is asked for
 module _ (E : List ℕ) (e : ℕ) (v : ℕ → Ty value) (s : ℕ → Ty stack) (ps : List ℕ) (h : ℕ) where
-  pub other_int : (x : Val) → OneOf (1 ∷ 2 ∷ 3 ∷ 4 ∷ 5 ∷ 6 ∷ 7 ∷ []) (tag_of the_type x) → as_int (read_in E e (build_v v s ps h x)) ≡ none
+  pub other_int : (x : Val) → (x ≡ Int → ⊥) → as_int (read_in E e (build_v v s ps h x)) ≡ none
   unfolding as_int
-  other_int Int k = absurd (miss (1 ∷ 2 ∷ 3 ∷ 4 ∷ 5 ∷ 6 ∷ 7 ∷ []) 0 tt k)
+  other_int Int k = absurd (k refl)
   other_int Junk k = rw (read_junk E e)
   other_int (ValVar j) k = rw (read_var E e j)
   other_int (ValFill j) k = rw (read_junk E e)
@@ -138,29 +135,29 @@ module _ (E : List ℕ) (e : ℕ) (v : ℕ → Ty value) (s : ℕ → Ty stack) 
   other_int (Code x p) k = rw (read_code E e (letters_at ps p) (s x) (parts_of v ps true h p 8))
   other_int (Hidden x) k = rw (read_hidden E e (v x))
 
-  pub other_tuple : (x : Val) → OneOf (0 ∷ 1 ∷ 2 ∷ 3 ∷ 5 ∷ 6 ∷ 7 ∷ []) (tag_of the_type x) → as_tuple (read_in E e (build_v v s ps h x)) ≡ none
+  pub other_tuple : (x : Val) → ((p c : ℕ) → x ≡ Tuple p c → ⊥) → as_tuple (read_in E e (build_v v s ps h x)) ≡ none
   unfolding as_tuple
   other_tuple Int k = rw (read_int E e)
   other_tuple Junk k = rw (read_junk E e)
   other_tuple (ValVar j) k = rw (read_var E e j)
   other_tuple (ValFill j) k = rw (read_junk E e)
-  other_tuple (Tuple p c) k = absurd (miss (0 ∷ 1 ∷ 2 ∷ 3 ∷ 5 ∷ 6 ∷ 7 ∷ []) 4 tt k)
+  other_tuple (Tuple p c) k = absurd (k p c refl)
   other_tuple (Pointer x) k = rw (read_pointer E e (s x))
   other_tuple (Code x p) k = rw (read_code E e (letters_at ps p) (s x) (parts_of v ps true h p 8))
   other_tuple (Hidden x) k = rw (read_hidden E e (v x))
 
-  pub other_pointer : (x : Val) → OneOf (0 ∷ 1 ∷ 2 ∷ 3 ∷ 4 ∷ 6 ∷ 7 ∷ []) (tag_of the_type x) → as_pointer (read_in E e (build_v v s ps h x)) ≡ none
+  pub other_pointer : (x : Val) → ((y : ℕ) → x ≡ Pointer y → ⊥) → as_pointer (read_in E e (build_v v s ps h x)) ≡ none
   unfolding as_pointer
   other_pointer Int k = rw (read_int E e)
   other_pointer Junk k = rw (read_junk E e)
   other_pointer (ValVar j) k = rw (read_var E e j)
   other_pointer (ValFill j) k = rw (read_junk E e)
   other_pointer (Tuple p c) k = rw (read_tuple E e (parts_of v ps false h p c))
-  other_pointer (Pointer x) k = absurd (miss (0 ∷ 1 ∷ 2 ∷ 3 ∷ 4 ∷ 6 ∷ 7 ∷ []) 5 tt k)
+  other_pointer (Pointer x) k = absurd (k x refl)
   other_pointer (Code x p) k = rw (read_code E e (letters_at ps p) (s x) (parts_of v ps true h p 8))
   other_pointer (Hidden x) k = rw (read_hidden E e (v x))
 
-  pub other_code : (x : Val) → OneOf (0 ∷ 1 ∷ 2 ∷ 3 ∷ 4 ∷ 5 ∷ 7 ∷ []) (tag_of the_type x) → as_code (read_in E e (build_v v s ps h x)) ≡ none
+  pub other_code : (x : Val) → ((y p : ℕ) → x ≡ Code y p → ⊥) → as_code (read_in E e (build_v v s ps h x)) ≡ none
   unfolding as_code
   other_code Int k = rw (read_int E e)
   other_code Junk k = rw (read_junk E e)
@@ -168,10 +165,10 @@ module _ (E : List ℕ) (e : ℕ) (v : ℕ → Ty value) (s : ℕ → Ty stack) 
   other_code (ValFill j) k = rw (read_junk E e)
   other_code (Tuple p c) k = rw (read_tuple E e (parts_of v ps false h p c))
   other_code (Pointer x) k = rw (read_pointer E e (s x))
-  other_code (Code x p) k = absurd (miss (0 ∷ 1 ∷ 2 ∷ 3 ∷ 4 ∷ 5 ∷ 7 ∷ []) 6 tt k)
+  other_code (Code x p) k = absurd (k x p refl)
   other_code (Hidden x) k = rw (read_hidden E e (v x))
 
-  pub other_hidden : (x : Val) → OneOf (0 ∷ 1 ∷ 2 ∷ 3 ∷ 4 ∷ 5 ∷ 6 ∷ []) (tag_of the_type x) → as_hidden (read_in E e (build_v v s ps h x)) ≡ none
+  pub other_hidden : (x : Val) → ((y : ℕ) → x ≡ Hidden y → ⊥) → as_hidden (read_in E e (build_v v s ps h x)) ≡ none
   unfolding as_hidden
   other_hidden Int k = rw (read_int E e)
   other_hidden Junk k = rw (read_junk E e)
@@ -180,7 +177,7 @@ module _ (E : List ℕ) (e : ℕ) (v : ℕ → Ty value) (s : ℕ → Ty stack) 
   other_hidden (Tuple p c) k = rw (read_tuple E e (parts_of v ps false h p c))
   other_hidden (Pointer x) k = rw (read_pointer E e (s x))
   other_hidden (Code x p) k = rw (read_code E e (letters_at ps p) (s x) (parts_of v ps true h p 8))
-  other_hidden (Hidden x) k = absurd (miss (0 ∷ 1 ∷ 2 ∷ 3 ∷ 4 ∷ 5 ∷ 6 ∷ []) 7 tt k)
+  other_hidden (Hidden x) k = absurd (k x refl)
 
 -- the form that is asked for
 module _ (rows parts : List ℕ) (n t h : ℕ) {v : Val} (q : h ≡ lower (n + 3) t) (f : v ≡ value_at rows (place_v 0 (lift 0) 0) h) where
@@ -218,19 +215,19 @@ module _ (rows parts : List ℕ) (n t h : ℕ) {v : Val} (q : h ≡ lower (n + 3
     unfolding as_code
     is_code {x} {p} g = rw (read_form g, read_code E e (letters_at parts p) (mean_s (tab rows parts) x) (parts_of (mean_v (tab rows parts)) parts true h p 8))
 
-    pub not_int : OneOf (1 ∷ 2 ∷ 3 ∷ 4 ∷ 5 ∷ 6 ∷ 7 ∷ []) (tag_of the_type v) → as_int read ≡ none
+    pub not_int : (v ≡ Int → ⊥) → as_int read ≡ none
     not_int k = ap as_int (read_form refl) ∙ other_int E e (mean_v (tab rows parts)) (mean_s (tab rows parts)) parts h v k
 
-    pub not_tuple : OneOf (0 ∷ 1 ∷ 2 ∷ 3 ∷ 5 ∷ 6 ∷ 7 ∷ []) (tag_of the_type v) → as_tuple read ≡ none
+    pub not_tuple : ((p c : ℕ) → v ≡ Tuple p c → ⊥) → as_tuple read ≡ none
     not_tuple k = ap as_tuple (read_form refl) ∙ other_tuple E e (mean_v (tab rows parts)) (mean_s (tab rows parts)) parts h v k
 
-    pub not_pointer : OneOf (0 ∷ 1 ∷ 2 ∷ 3 ∷ 4 ∷ 6 ∷ 7 ∷ []) (tag_of the_type v) → as_pointer read ≡ none
+    pub not_pointer : ((y : ℕ) → v ≡ Pointer y → ⊥) → as_pointer read ≡ none
     not_pointer k = ap as_pointer (read_form refl) ∙ other_pointer E e (mean_v (tab rows parts)) (mean_s (tab rows parts)) parts h v k
 
-    pub not_code : OneOf (0 ∷ 1 ∷ 2 ∷ 3 ∷ 4 ∷ 5 ∷ 7 ∷ []) (tag_of the_type v) → as_code read ≡ none
+    pub not_code : ((y p : ℕ) → v ≡ Code y p → ⊥) → as_code read ≡ none
     not_code k = ap as_code (read_form refl) ∙ other_code E e (mean_v (tab rows parts)) (mean_s (tab rows parts)) parts h v k
 
-    pub not_hidden : OneOf (0 ∷ 1 ∷ 2 ∷ 3 ∷ 4 ∷ 5 ∷ 6 ∷ []) (tag_of the_type v) → as_hidden read ≡ none
+    pub not_hidden : ((y : ℕ) → v ≡ Hidden y → ⊥) → as_hidden read ≡ none
     not_hidden k = ap as_hidden (read_form refl) ∙ other_hidden E e (mean_v (tab rows parts)) (mean_s (tab rows parts)) parts h v k
 
 -- the type itself, which every environment reads so

@@ -1,0 +1,8 @@
+use Rattle.valid_typing.proofs.Args.{letter_stack, letter_value}
+use Rattle.valid_typing.proofs.letter_fits.Goals as goal
+
+pub returns-then-stack : goal.returns-then-stack
+returns-then-stack c = letter_stack _ _ (search)
+
+pub returns : goal.returns
+returns c = letter_value _ _ (search)
