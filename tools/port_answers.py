@@ -88,7 +88,7 @@ report=[]
 SRC=''.join(open(os.path.join(d,f)).read() for d,_,fs in os.walk(crate+'/src') for f in fs if f.endswith('.rt'))
 def plain_not(step):
     name=re.sub(r'-\d+$','',step[len('if-not-'):].split('-')[0])
-    v=len(re.findall(r'if !'+re.escape(name)+r'\s*(?:\{|&&|\|\||\()',SRC)); w=len(re.findall(r'if !'+re.escape(name)+r'[.]',SRC))
+    v=len(re.findall(r'if !(?:\w+::)*'+re.escape(name)+r'\s*(?:\{|&&|\|\||\()',SRC)); w=len(re.findall(r'if !(?:\w+::)*'+re.escape(name)+r'[.]',SRC))
     return v>0 and w==0 if not (v and w) else None
 def convert(pdir):
     path=pdir[len(crate.rstrip('/'))+len('/proofs/'):]
@@ -127,7 +127,7 @@ def convert_cycle(path,src):
         t='\n'.join(keep)+'\n\n'+'\n\n'.join(out)
         t=re.sub(r'\(t : ℕ\)\s*(→\s*)?','',t)
         for n in names: t=re.sub(r'(?<![\w-])'+re.escape(n)+r' t(?![\w-])',n,t)
-        r=convert_text(path,t,L,f+'-','t c')
+        r=convert_text(path,t,L,f+'-' if len(als)>1 else '','t c')
         for q in acc:
             if q in r: acc[q].append(r[q])
     res={}
@@ -249,7 +249,7 @@ def convert_text(path,src,L,prefix,cargs):
         f=comps[0]; out=[]; fn=None
         if f=='pre':
             out=['requires']; comps=comps[1:]
-            if prefix:
+            if cargs!='c':
                 if comps and comps[0]=='1': comps=comps[1:]
                 else: out=['decreases']; comps=comps[1:]
         elif f=='fits': out=['ranges']; comps=comps[1:]
@@ -434,13 +434,15 @@ def convert_text(path,src,L,prefix,cargs):
             report.append(f'{path}: need {d.need} not found; have {[o for o,n in needs]}'); g='UNKNOWN-'+d.need
         if len(d.clauses)!=1: report.append(f'{path}: goal {g}: {len(d.clauses)} clauses'); continue
         a,b=clause_parts(d.clauses[0],d.name)
-        if a.replace('t c','c') not in('c','c κs','_','_ _','c _'): report.append(f'{path}: goal {g}: args {a}')
+        ex=[x for x in a.replace('t c','c').split()[1:] if x not in('κs','_')]
+        if ex: b='λ '+' '.join(ex)+'. '+b
+        if a.split()[0] not in('c','t','_'): report.append(f'{path}: goal {g}: args {a}')
         if b in trivial and not d.unf: continue
         emit(g,b if b!='search' or not d.unf else 'search rules',d.unf)
     # inline spec args
     if spec is not None and spec.clauses:
         a,b=clause_parts(spec.clauses[0],spec.name)
-        m=re.match(r'\s*tie\.close \(tie\.spec(.*)\)\s*$',b,re.S)
+        b=re.sub(r'(?m)^\s*--.*$','',b); m=re.match(r'\s*tie\.close\s*\(\s*tie\.spec(.*)\)\s*$',b,re.S)
         if m:
             args=parse_args(m.group(1))
             args=[x for x in args if not re.match(r'^(invariant|decreases)',x) and x not in [d.name for d in inv.values()]]
