@@ -2,4 +2,3 @@
 // starting, continuing and budgets (specs/Run.antt); a run as steps made one after the other (specs/Steps.antt). Definitions, and the
 // laws: budgets add, a run is its steps and no others, a call's refusal has a number from 1 to 16 (proofs/).
 #![tactic(auto)]
-

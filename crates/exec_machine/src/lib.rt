@@ -2,7 +2,6 @@
 // each program that the tables represent (proofs/Exec.antt: `step_is`).
 #![tactic(auto)]
 
-
 // How many stack and heap words are in use, and the next instruction, counted from 0 over all blocks.
 #[derive(Clone, Copy)]
 pub struct Place {

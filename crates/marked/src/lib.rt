@@ -2,4 +2,3 @@
 // (specs/Marked.antt); likewise cases of packages, document 02's point 3 (specs/Packages.antt): theorems about the definitions, by
 // computation. And T as an instance of demand 3's premises (specs/Instance.antt).
 #![tactic(auto)]
-

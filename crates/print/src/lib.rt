@@ -2,4 +2,3 @@
 // a line is written into lent memory (specs/Written.antt). Definitions, and the proofs that what is printed of a number is read as it and
 // nothing else is (proofs/Decimal.antt, proofs/Signed.antt).
 #![tactic(auto)]
-

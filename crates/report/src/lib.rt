@@ -3,4 +3,3 @@
 // the stop that it was printed for and no other is (proofs/Stops.antt), every stop that a start answers is such a line (proofs/Starts.antt),
 // the figures hold (proofs/Figures.antt), and the rest (proofs/Claims.antt).
 #![tactic(auto)]
-

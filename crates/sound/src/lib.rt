@@ -2,4 +2,3 @@
 // continuings of an accepted text (specs/Claim.antt), proved in proofs/Demand3.antt; what follows from the claim alone, told
 // without types (specs/Consequences.antt, proofs/Consequences.antt). Definitions and theorems only.
 #![tactic(auto)]
-

@@ -2,4 +2,3 @@
 // (specs/Grammar.antt), pass one and what the text says (specs/PassOne.antt), and the way back to lines (specs/Entries.antt).
 // Definitions, and the law that a text without a fault in pass one is its rows and blocks (proofs/).
 #![tactic(auto)]
-

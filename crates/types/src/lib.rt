@@ -2,4 +2,3 @@
 // type arguments; a computed test for equality (specs/Equal.antt); rows to types, sizes and pass two (specs/Rows.antt).
 // Definitions, and the laws of filling (proofs/).
 #![tactic(auto)]
-

@@ -5,4 +5,3 @@
 // first that the rules do not type (specs/FirstFault.antt) and the item named is the first of its target that does not fit
 // (specs/FirstItem.antt). What the grammar allows of a line is in specs/Bounds.antt. Definitions and theorems only.
 #![tactic(auto)]
-

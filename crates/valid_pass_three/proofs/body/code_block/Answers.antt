@@ -44,8 +44,7 @@ unfolding part
 body-requires c =
     let count_is : c.item_count-depth.result ≡ items (mean_s (row_table c.args.p c.args.image.now) c.args.x.stack) = let q = c.requires in
     c.item_count-depth.ensures.0 ∙ counted_to (row_table c.args.p c.args.image.now) (c.args.c.rows + 2) q.0.tables.ready.counted c.args.x.stack (omega (arith, q.3.row, q.3.below)) in
-    let q = c.requires in
-    (
+    let q = c.requires in (
       q.0,
       q.1,
       record {
