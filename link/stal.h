@@ -1,4 +1,4 @@
-/* stal.h: the proved checker and machine for STAL programs, for C on x86-64 (libstal.a, made by `rt staticlib stal`).
+/* stal.h: the proved checker and machine for STAL programs, for C on x86-64 (libstal.a, made by `rt lib` in crates/stal).
  *
  * Two kinds of calls, with the same answers:
  *   stal_check_with, stal_start_with, stal_continue_with       for firmware: they are lent working memory (stal_memory, 438 KB, static in

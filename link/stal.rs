@@ -1,4 +1,4 @@
-//! The proved checker and machine for STAL programs, safe to call from Rust (libstal.a, made by `rt staticlib stal`; x86-64). No
+//! The proved checker and machine for STAL programs, safe to call from Rust (libstal.a, made by `rt lib` in crates/stal; x86-64). No
 //! allocation, no static state, `core` only: firmware may include this file as it is. Slices and `&mut` meet everything that the boundary
 //! asks (not null, aligned, as long as they say, no overlap), and state and working memory have the lengths that are wanted, so nothing is
 //! left to test. Two kinds of calls, with the same answers: `check_with`, `start_with` and `resume_with` are lent working memory and need
