@@ -8,12 +8,12 @@
 #![tactic(auto)]
 
 ghost use Rattle.std.specs.Prelude.{◌<◌, ◌≤◌, length};
-ghost use Rattle.io.specs.Counts.{IsPrefixLen};
 
 use exec_machine::Place;
 use exec_outcome::Outcome;
-use libc::STDOUT_FILENO;
 use print_write::Written;
+use std::rt::Files;
+use std::{io, str};
 use valid_verdict::Answer;
 
 const FILES: u8 = 40;
@@ -32,7 +32,7 @@ const BEFORE: u8 = 165;
 
 // What was compared so far, and where the present case is: its name's and its samples' bytes in the file, the length of its text, words
 // lent, and the lent state's place beside the wanted one.
-#[derive(Drop)]
+#[derive(Clone, Copy)]
 struct Bench {
     cases: usize,
     checks: usize,
@@ -827,24 +827,18 @@ fn compared(b: Bench, words: bool) -> Bench {
 }
 
 // ---- all cases
-fn print(s: &[u8]) {
-    io::write_all(STDOUT_FILENO, s);
-}
-
-fn print_number(n: usize) {
-    io::print_decimal(STDOUT_FILENO, n as u64);
-}
-
 // Prints a case's name if there is a difference more than before.
-fn report(before: usize, after: usize, name: &[u8]) {
+fn report(rt: &impl Print, before: usize, after: usize, name: &[u8]) -> io::Result<()> {
     if before < after {
-        print(b"differs: ");
-        print(name);
+        rt.write_all(b"differs: ")?;
+        rt.write_all(name)?;
     }
+    Ok(())
 }
 
 // The line at `at`, and the bytes below it; a case that differs is printed.
 fn try_at(
+    rt: &impl Print,
     s: &[u8],
     at: usize,
     b: Bench,
@@ -853,7 +847,7 @@ fn try_at(
     numbers: &mut [u32],
     wk: &mut [u8],
     wn: &mut [u32],
-) -> Bench
+) -> io::Result<Bench>
     requires { at < length s.now }
 {
     let line = line_at(s, at);
@@ -863,12 +857,13 @@ fn try_at(
     let samples = part(s, a.samples, a.samples_end);
     let c = try_call(line, part(text, 0, a.text), samples, a, kinds, numbers);
     let next = compare(line, c, kinds, numbers, wk, wn);
-    report(b.differences, next.differences, line_at(s, next.name));
-    next
+    report(rt, b.differences, next.differences, line_at(s, next.name))?;
+    Ok(next)
 }
 
 // The cases of a file.
 fn try_cases(
+    rt: &impl Print,
     s: &[u8],
     start: Bench,
     text: &mut [u8],
@@ -876,60 +871,50 @@ fn try_cases(
     numbers: &mut [u32],
     wk: &mut [u8],
     wn: &mut [u32],
-) -> Bench {
+) -> io::Result<Bench> {
     let mut b = start;
     let mut at = 0;
     while at < s.len() {
-        b = try_at(s, at, b, text, kinds, numbers, wk, wn);
+        b = try_at(rt, s, at, b, text, kinds, numbers, wk, wn)?;
         at = next_line(s, at);
     }
-    b
+    Ok(b)
 }
 
 // The cases of bytes read from a file.
-fn try_bytes(s: &[u8], b: Bench) -> Bench {
+fn try_bytes(rt: &impl Print, s: &[u8], b: Bench) -> io::Result<Bench> {
     let mut text = [0u8; 200000];
     let mut kinds = [0u8; WORDS];
     let mut numbers = [0u32; WORDS];
     let mut wk = [0u8; WORDS];
     let mut wn = [0u32; WORDS];
-    try_cases(s, b, &mut text, &mut kinds, &mut numbers, &mut wk, &mut wn)
-}
-
-// The bytes of the file at the start of buf, and how many there are: none where it cannot be opened.
-fn load(path: &[u8], buf: &mut [u8]) -> usize
-    ensures { IsPrefixLen result buf.new }
-{
-    let fd = os::open_read(path);
-    if fd < 0 {
-        return none(buf);
-    }
-    let n = io::read_full(fd, buf);
-    libc::close(fd);
-    n
-}
-
-fn none(buf: &[u8]) -> usize
-    ensures { IsPrefixLen result buf.now }
-{
-    io::count(0, buf)
+    try_cases(
+        rt,
+        s,
+        b,
+        &mut text,
+        &mut kinds,
+        &mut numbers,
+        &mut wk,
+        &mut wn,
+    )
 }
 
 // The cases of the file with that name.
-fn try_named(path: &[u8], b: Bench) -> Bench {
+fn try_named(rt: &(impl Files + Print), path: &str, b: Bench) -> io::Result<Bench> {
     let mut buf = [0u8; 196608];
-    let n = load(path, &mut buf);
-    try_bytes(&buf[..n], b)
+    let n = read_input::load(rt, path, &mut buf)?;
+    try_bytes(rt, &buf[..n], b)
 }
 
 // The cases of file i.
-fn try_file(i: u8, b: Bench) -> Bench
+fn try_file(rt: &(impl Files + Print), i: u8, b: Bench) -> io::Result<Bench>
     requires { i < 100 }
 {
     let mut path = *b"cases00.txt";
     path[5] = 48 + i / 10;
     path[6] = 48 + i % 10;
-    try_named(&path, b)
+    try_named(rt, str::from_utf8(&path).unwrap(), b)
 }
 
 fn no_bench() -> Bench {
@@ -952,40 +937,32 @@ fn no_bench() -> Bench {
 }
 
 // The cases of all files.
-fn try_files() -> Bench {
+fn try_files(rt: &(impl Files + Print)) -> io::Result<Bench> {
     let mut b = no_bench();
     let mut i = 0;
     while i < FILES {
-        b = try_file(i, b);
+        b = try_file(rt, i, b)?;
         i += 1;
     }
-    b
+    Ok(b)
 }
 
-fn print_cases(b: Bench) {
-    print_number(b.cases);
-    print(b" cases: ");
-    print_number(b.checks);
-    print(b" checks, ");
-    print_number(b.calls);
-    print(b" calls, ");
-    print_number(b.states);
-    print(b" states compared, ");
-    print_differences(b.differences);
+fn print_cases(rt: &impl Print, b: Bench) -> io::Result<()> {
+    print!(rt; "{} cases: {} checks, ", b.cases, b.checks)?;
+    print!(rt; "{} calls, {} states compared, ", b.calls, b.states)?;
+    print_differences(rt, b.differences)
 }
 
-fn print_days(b: Bench) {
-    print_number(b.days);
-    print(b" days, ");
-    print_differences(b.differences);
+fn print_days(rt: &impl Print, b: Bench) -> io::Result<()> {
+    print!(rt; "{} days, ", b.days)?;
+    print_differences(rt, b.differences)
 }
 
-fn print_differences(n: usize) {
-    print_number(n);
-    print(b" differ\n");
+fn print_differences(rt: &impl Print, n: usize) -> io::Result<()> {
+    println!(rt; "{n} differ")
 }
 
-fn main() {
-    print_cases(try_files());
-    print_days(try_named(b"days.txt", no_bench()));
+fn main(rt: HostRuntime) -> io::Result<()> {
+    print_cases(&rt, try_files(&rt)?)?;
+    print_days(&rt, try_named(&rt, "days.txt", no_bench())?)
 }

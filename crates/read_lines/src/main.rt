@@ -5,7 +5,7 @@
 ghost use Rattle.std.specs.Prelude.{◌≡◌, cond, length};
 ghost use Rattle.text.specs.Bytes.{same_bytes, lines_of};
 
-use libc::{STDIN_FILENO, STDOUT_FILENO};
+use std::io;
 
 // Whether two lines hold the same bytes.
 fn same(a: &[u8], b: &[u8]) -> bool
@@ -55,19 +55,10 @@ fn count(text: &[u8]) -> usize
     text_reader::read_all(text, &mut places)
 }
 
-fn print(s: &[u8]) {
-    io::write_all(STDOUT_FILENO, s);
-}
-
-fn print_number(n: usize) {
-    io::print_decimal(STDOUT_FILENO, n as u64);
-}
-
-fn main() {
+fn main(rt: HostRuntime) -> io::Result<()> {
     let mut text = [0u8; 65537];
-    let n = io::read_full(STDIN_FILENO, &mut text);
-    print_number(count(&text[..n]));
-    print(b" lines, ");
-    print_number(agreeing(&text[..n]));
-    print(b" agree\n");
+    let n = read_input::read_full(&mut rt.stdin(), &mut text)?;
+    let lines = count(&text[..n]);
+    let agree = agreeing(&text[..n]);
+    println!(rt; "{lines} lines, {agree} agree")
 }

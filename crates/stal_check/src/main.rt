@@ -6,8 +6,9 @@ ghost use Rattle.std.specs.Prelude.{◌≡◌, ◌≤◌, length, take};
 ghost use Rattle.valid.specs.Verdict.{check};
 ghost use Rattle.print.specs.Lines.{verdict_line};
 
-use libc::{STDIN_FILENO, STDOUT_FILENO};
 use print_write::Written;
+use std::io;
+use std::io::Write;
 use valid_verdict::Answer;
 
 // Writes the line of the verdict on a text, and says how many bytes it has.
@@ -23,10 +24,10 @@ fn check_line(text: &[u8], out: &mut [u8]) -> usize
 }
 
 // One byte more than a program may have: a longer text is refused for its length, however long.
-fn main() {
+fn main(rt: HostRuntime) -> io::Result<()> {
     let mut text = [0u8; 65537];
-    let n = io::read_full(STDIN_FILENO, &mut text);
+    let n = read_input::read_full(&mut rt.stdin(), &mut text)?;
     let mut line = [0u8; 64];
     let k = check_line(&text[..n], &mut line);
-    io::write_all(STDOUT_FILENO, &line[0..k]);
+    rt.stdout().write_all(&line[0..k])
 }

@@ -5,8 +5,9 @@
 ghost use Rattle.std.specs.Prelude.{◌≡◌, ◌≤◌, length, take};
 ghost use Rattle.report.specs.Day.{report, report_line};
 
-use libc::{STDIN_FILENO, STDOUT_FILENO};
 use print_write::Written;
+use std::io;
+use std::io::Write;
 
 // Writes the line of a day's report, and says how many bytes it has.
 fn report_line(text: &[u8], out: &mut [u8]) -> usize
@@ -21,10 +22,10 @@ fn report_line(text: &[u8], out: &mut [u8]) -> usize
 
 // One byte more than 500 of the longest stop lines have: these bytes decide every report, however long the input is (crate report,
 // specs/Claims.antt: `Decided`).
-fn main() {
+fn main(rt: HostRuntime) -> io::Result<()> {
     let mut text = [0u8; 17001];
-    let n = io::read_full(STDIN_FILENO, &mut text);
+    let n = read_input::read_full(&mut rt.stdin(), &mut text)?;
     let mut line = [0u8; 160];
     let k = report_line(&text[..n], &mut line);
-    io::write_all(STDOUT_FILENO, &line[0..k]);
+    rt.stdout().write_all(&line[0..k])
 }

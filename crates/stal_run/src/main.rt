@@ -4,34 +4,15 @@
 #![tactic(auto)]
 
 ghost use Rattle.std.specs.Prelude.{◌≡◌, ◌≤◌, length, take};
-ghost use Rattle.io.specs.Counts.{IsPrefixLen};
 ghost use Rattle.exec.specs.Run.{starting};
 ghost use Rattle.print.specs.Lines.{answer_line};
 ghost use Rattle.stal_run.specs.Fresh.{fresh};
 
 use exec_machine::Place;
 use exec_outcome::Answer;
-use libc::STDOUT_FILENO;
 use print_write::Written;
-
-// The bytes of the file at the start of buf, and how many there are: none where it cannot be opened.
-fn load(path: &[u8], buf: &mut [u8]) -> usize
-    ensures { IsPrefixLen result buf.new }
-{
-    let fd = os::open_read(path);
-    if fd < 0 {
-        return none(buf);
-    }
-    let n = io::read_full(fd, buf);
-    libc::close(fd);
-    n
-}
-
-fn none(buf: &[u8]) -> usize
-    ensures { IsPrefixLen result buf.now }
-{
-    io::count(0, buf)
-}
+use std::io;
+use std::io::Write;
 
 // Writes the line of the answer to a start, and says how many bytes it has.
 fn run_line(text: &[u8], samples: &[u8], out: &mut [u8]) -> usize
@@ -61,12 +42,12 @@ fn run_line(text: &[u8], samples: &[u8], out: &mut [u8]) -> usize
 
 // One byte more than a program may have: a longer text is refused for its length, however long. Samples as large as their buffer are
 // refused too, however many: at most 16 are wanted, of at most 12 bytes each with the line's end.
-fn main() {
+fn main(rt: HostRuntime) -> io::Result<()> {
     let mut text = [0u8; 65537];
-    let n = load(b"program.txt", &mut text);
+    let n = read_input::load(&rt, "program.txt", &mut text)?;
     let mut samples = [0u8; 256];
-    let k = load(b"samples.txt", &mut samples);
+    let k = read_input::load(&rt, "samples.txt", &mut samples)?;
     let mut line = [0u8; 64];
     let l = run_line(&text[..n], &samples[..k], &mut line);
-    io::write_all(STDOUT_FILENO, &line[0..l]);
+    rt.stdout().write_all(&line[0..l])
 }
