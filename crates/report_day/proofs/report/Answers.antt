@@ -1,4 +1,4 @@
-use Rattle.std.proofs.Common.{◌-◌, ap, ◌∙◌}
+use Rattle.std.proofs.Common.{◌-◌, arith, ap, ◌∙◌}
 use Rattle.report.specs.Day.{figures}
 use Rattle.report_day.proofs.Tallies.{finished_none, finished_some}
 use Rattle.report_day.proofs.Days.{walk_starts, walk_on, is_there, not_ended, too_many, no_stop, at_end}
@@ -19,7 +19,7 @@ returns-in-Bad c =
 pub loop-at-preserved : goal.loop-at-preserved
 loop-at-preserved c =
     rw c.with_stop-t.ensures
-    (walk_on _ _ _ _ c.loop-at.invariant _ c.loop-at-test.true c.line_end-e.ensures c.if-text-e.false c.if-lines-ge500.false _ c.read_stop-stop.ensures c.in_default.not-Bad)
+    (walk_on _ _ _ _ c.loop-at.invariant _ c.loop-at-test.true c.line_end-e.ensures c.if-text-e.false (omega arith) _ c.read_stop-stop.ensures c.in_default.not-Bad)
 
 pub returns-then-count-eq0 : goal.returns-then-count-eq0
 returns-then-count-eq0 c = finished_none _ _ c.if-count-eq0.true ∙ at_end _ _ _ _ c.loop-at.invariant.left c.loop-at-test.false

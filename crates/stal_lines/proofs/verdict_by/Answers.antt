@@ -10,7 +10,7 @@ returns-then-code-eq0 c = simp (eq-eqb _ 0 c.if-code-eq0.true)
 
 pub returns-then-code-ne10 : goal.returns-then-code-ne10
 unfolding verdict_is verdict_back
-returns-then-code-ne10 c = rw (ne_eqb _ 0 c.if-code-eq0.false, ne_eqb _ 10 c.if-code-ne10.true)
+returns-then-code-ne10 c = rw (ne_eqb c.args.code 0 search, ne_eqb _ 10 c.if-code-ne10.true)
 
 pub returns-then-second-eq100 : goal.returns-then-second-eq100
 unfolding verdict_is verdict_back
