@@ -1,4 +1,4 @@
-// The library that firmware links (rt staticlib stal): check, start and continue over numbers and lent bytes and words, under C names;
+// The library that firmware links (out/libstal.a, by `rt lib`): check, start and continue over numbers and lent bytes and words, under C names;
 // module day has a day's report, and the lines that the programs print.
 // Promised, on every input: the numbers and the whole lent state are those of check, `starting` and `continuing`; crate stal_numbers has
 // the number and the values of each case. Nothing is asked. They put their working memory on the stack; module lent has the same three with

@@ -1,8 +1,7 @@
 // A reader of lines: a struct that holds a lent text and a position in it (document 01, "Which form goes where"), and thin functions over
 // it. Each takes the struct apart and calls a covered function on the text and the position; `next` calls the line finder of crate
 // text_lines. Promises: what is handed back is the line at the position by `lines_of` of crate text, on every input; after n lines from the
-// start that is line n (`reads_line` of proofs/Reading). The borrow checker covers no function over such a struct, so each is proved by a
-// walk of its MIR, by hand. `read` and `read_all` have plain parameters, so whoever calls them needs no walk.
+// start that is line n (`reads_line` of proofs/Reading). `read` and `read_all` have plain parameters.
 #![tactic(auto)]
 
 ghost use Rattle.std.specs.Prelude.{◌≡◌, ◌-◌, length, take, drop, set};
