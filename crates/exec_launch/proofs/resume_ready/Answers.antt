@@ -10,15 +10,15 @@ use Rattle.exec_launch.proofs.resume_ready.Goals as goal
 
 pub returns-then-not-good_form : goal.returns-then-not-good_form
 returns-then-not-good_form c =
-    λ args P rep. ap (λ (o : Outcome). outcome_is o c.args.rk.now c.args.rn.now c.args.sk.now c.args.sn.now c.args.hk.now c.args.hn.now) c.refuse.ensures ∙ sym (resumes_16 _ args P rep _ _ (search) c.good_form.ensures (search))
+    λ args P rep. ap (λ (o : Outcome). outcome_is o c.args.rk.now c.args.rn.now c.args.sk.now c.args.sn.now c.args.hk.now c.args.hn.now) c.refuse.ensures ∙ sym (resumes_16 _ args P rep _ _ c.good_form.result c.good_form.ensures (search))
 
 pub run_from-requires : goal.run_from-requires
 run_from-requires c =
     let u = c.requires.unbarred in (
       search,
-      resumes_enough _ _ _ _ _ _ _ _ u (search) c.good_form.ensures (search),
-      resumes_place _ _ _ _ _ _ _ _ u (search) c.good_form.ensures (search),
-      resumes_safe _ _ _ _ _ _ _ _ u (search) c.good_form.ensures (search),
+      resumes_enough _ _ _ _ _ _ _ _ u c.good_form.result c.good_form.ensures (search),
+      resumes_place _ _ _ _ _ _ _ _ u c.good_form.result c.good_form.ensures (search),
+      resumes_safe _ _ _ _ _ _ _ _ u c.good_form.result c.good_form.ensures (search),
     )
 
 pub returns : goal.returns

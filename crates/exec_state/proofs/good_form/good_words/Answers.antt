@@ -7,11 +7,11 @@ use Rattle.exec_state.proofs.good_form.good_words.Goals as goal
 
 pub returns-then-not-good_word : goal.returns-then-not-good_word
 returns-then-not-good_word c =
-    not_good _ _ _ _ _ c.loop-i.invariant.1 (search) _ (search) (sym c.good_word.ensures ∙ was_false (search) (search))
+    not_good _ _ _ _ _ c.loop-i.invariant.1 (search) _ (search) (sym c.good_word.ensures ∙ was_false c.good_word.result (search))
 
 pub loop-i-preserved : goal.loop-i-preserved
 loop-i-preserved c =
-    (search rules, still_good _ _ _ _ _ (search) (search) _ (search) (sym c.good_word.ensures ∙ was_true (search) (search)))
+    (search rules, still_good _ _ _ _ _ (search) (search) _ (search) (sym c.good_word.ensures ∙ was_true c.good_word.result (search)))
 
 pub returns : goal.returns
 returns c = all_good _ _ _ _ _ c.loop-i.invariant.1 (search)

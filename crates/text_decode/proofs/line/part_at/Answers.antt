@@ -28,4 +28,4 @@ overflow_add-result c =
 pub returns : goal.returns
 returns c =
     let g = known_is _ _ c.requires (search) _ c.number_at-x.ensures (not-false _ (search)) in
-    scan_to _ _ _ (record { ok = true; value = c.number_at-x.result.value + 1; next = c.number_at-x.result.next }) g (part_number (search) _) (part_known _ _ c.requires (search) _ (not-false (search) (search)) refl)
+    scan_to _ _ _ (record { ok = true; value = c.number_at-x.result.value + 1; next = c.number_at-x.result.next }) g (part_number c.args.known _) (part_known _ _ c.requires c.args.known _ (not-false c.args.known (search)) refl)

@@ -10,11 +10,11 @@ use Rattle.text_decode.proofs.line.StopLaws.{scan_value, scan_lacks, field_here,
 use Rattle.text_decode.proofs.line.read_parts.Goals as goal
 
 pub loop-i-init : goal.loop-i-init
-loop-i-init c = (parts_start _ _ (search) _ _ _, search)
+loop-i-init c = (parts_start _ _ c.args.known _ _ _, search)
 
 pub returns-then-n-most : goal.returns-then-n-most
 returns-then-n-most c =
-    (parts_many _ _ (search) _ _ _ _ _ _ c.loop-i.invariant.0 (stop_on _ _ (search) (search)).within (search) _, no_end _ _)
+    (parts_many _ _ c.args.known _ _ _ _ _ _ c.loop-i.invariant.0 (stop_on _ _ (search) (search)).within (search) _, no_end _ _)
 
 pub returns-then-not-x : goal.returns-then-not-x
 returns-then-not-x c = (
@@ -49,7 +49,7 @@ loop-i-preserved c =
 
 pub returns : goal.returns
 returns c =
-    (parts_end _ _ (search) _ _ _ _ _ _ c.loop-i.invariant.0 (line_over _ _ (search) (search)) _, λ q. stop_last _ _ (search) (search))
+    (parts_end _ _ c.args.known _ _ _ _ _ _ c.loop-i.invariant.0 (line_over _ _ (search) (search)) _, λ q. stop_last _ _ (search) (search))
 
 pub part_at-x-requires : goal.part_at-x-requires
 part_at-x-requires c = (stop_on _ _ (search) (search))
