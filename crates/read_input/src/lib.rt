@@ -12,8 +12,8 @@ use std::io::Read;
 use std::rt::Files;
 use std::{fs, io};
 
-/// Reads until the memory is full or the input ends, and says how many bytes it put at the memory's start. After an error the memory's
-/// start holds what was read before it.
+// Reads until the memory is full or the input ends, and says how many bytes it put at the memory's start. After an error the memory's
+// start holds what was read before it.
 pub fn read_full<R: Read>(reader: &mut R, buf: &mut [u8]) -> io::Result<usize>
     ensures bound { ReadsAtMost result buf.new }
     ensures len { length buf.new ≡ length buf.old }
@@ -32,7 +32,7 @@ pub fn read_full<R: Read>(reader: &mut R, buf: &mut [u8]) -> io::Result<usize>
     Ok(done)
 }
 
-/// Reads the file as `read_full` does: none of it where it cannot be opened.
+// Reads the file as `read_full` does: none of it where it cannot be opened.
 pub fn load(files: &impl Files, path: &str, buf: &mut [u8]) -> io::Result<usize>
     ensures bound { ReadsAtMost result buf.new }
     ensures len { length buf.new ≡ length buf.old }

@@ -1,4 +1,4 @@
--- The lines that rows and blocks make: the way back from what a text says (PassOne.antt: rowsOf, listingsOf).
+-- The lines that rows and blocks make: the way back from what a text says (PassOne.antt: rows_of, listings_of).
 use Rattle.std.specs.Prelude.{List, [], ◌∷◌, ◌++◌, map}
 use Rattle.syntax.specs.Syntax.{Row, Entry, row, block, instr}
 use Rattle.text.specs.PassOne.{Listing}

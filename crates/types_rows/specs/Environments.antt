@@ -22,7 +22,7 @@ read_in E e t = walk (acting [] (var_in E e)) 0 t
 unfoldable pub name_at : List ℕ → ℕ → ℕ → ℕ
 name_at N f j = cond (ltb j 64) (get_or N (f + j) 0) (get_or N (f + 64) 0 + (j - 64))
 
--- varIn, and further environments, which are looked up: the odd numbers from 65537 on stand for the tables of names in E itself
+-- `var_in`, and further environments, which are looked up: the odd numbers from 65537 on stand for the tables of names in E itself
 unfoldable pub name_in : List ℕ → ℕ → ℕ → ℕ
 name_in E e j = cond (eqb (e % 2) 0) (var_in E e j) (cond (ltb e 65536) (var_in E e j) (name_at E (e / 2 - 32768) j))
 
