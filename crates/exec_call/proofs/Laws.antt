@@ -2,17 +2,20 @@
 use Prim.Native.Nat.{ℕ, ◌-◌, ◌<◌, ◌≤◌}
 use native.Mathlib.Omega.{arith}
 use mathlib.Core.Path.{◌≡◌, refl, ap, sym, ◌∙◌}
-use mathlib.Core.Bool.{Bool, true, false, not, true≢false}
-use mathlib.Core.Option.{Option, none, some}
+use mathlib.Core.Bool.{Bool, true, false, true≢false}
+use mathlib.Core.Option.{Option, none}
 use mathlib.Core.List.{List}
-use lib.Dec.{eqb, ltb}
+use lib.Dec.{ltb}
 use lib.ListN.{length, replicate, length-replicate}
-use borrow.Author.Tests.{ne_eqb, ltb-true, ltb-false}
+use borrow.Author.Tests.{ltb-true, ltb-false}
+use Rattle.std.specs.Prelude.{Ok, Err}
+use Rattle.faults.specs.declared.LineFault.{LineFault}
+use Rattle.faults.specs.Numbers.{number}
 use Rattle.syntax.specs.Fault.{Refusal}
 use Rattle.text.specs.Samples.{samples_of}
 use Rattle.valid.specs.Program.{Program, program_of}
 use Rattle.exec.specs.Machine.{State}
-use Rattle.exec.specs.Run.{Outcome, refuse, bodies, wanted, barred, start_unless, starting, continue_unless, continuing}
+use Rattle.exec.specs.Run.{Outcome, refuse, bodies, wanted, barred, start_on, start_unless, starting, continue_unless, continuing}
 use Rattle.exec_machine.specs.Step.{tables}
 use Rattle.exec_machine.specs.Represents.{Represents}
 use Rattle.exec_ready.specs.declared.Ready.{Ready}
@@ -21,18 +24,12 @@ use Rattle.exec_launch.specs.Startable.{Unbarred}
 use Rattle.image.specs.declared.Places.{Places}
 use Rattle.image.specs.Layout.{places_of}
 use Rattle.image.proofs.Laws.{ordered, part_length, small, large, large_shared}
+use Rattle.text_decode.specs.declared.state.Unread.TheVariants.{Faulty}
 use Rattle.text_decode.specs.store.Store.{store_in}
-use Rattle.text_decode.proofs.AnswerLaws.{failed}
-use Rattle.exec_call.specs.Tries.{Called, RanOn, Tries, CalledIn, starting_in, continuing_in, PlanFits}
-
--- ---- attempts
-pub tried : {R : Type 0} {first : Bool} {text samples : List ℕ} {m : ℕ} {out : Outcome} {after before : State} → Called first text samples m before out
-    → (R → true ≡ true) × Tries true first text samples m out after before
-tried e = (λ r. refl, record { done = λ w. e; kept = λ w. absurd (true≢false w) })
-
-pub unfit : {R : Type 0} {first : Bool} {text samples : List ℕ} {m : ℕ} {out : Outcome} {before : State} {b : Bool} → (R → b ≡ true) → not b ≡ true
-    → (R → false ≡ true) × Tries false first text samples m out before before
-unfit {b = b} h e = (λ r. absurd (failed b h e r), record { done = λ w. absurd (true≢false (sym w)); kept = λ w. refl })
+use Rattle.std.proofs.Common.{Bor}
+use Rattle.exec_call.specs.declared.Call.{Call}
+use Rattle.exec_call.specs.declared.Call.TheVariants.{Start, Continue}
+use Rattle.exec_call.specs.Tries.{starts, given, Called, RanOn, CalledIn, starting_in, continuing_in, PlanFits}
 
 -- ---- with working memory lent
 module _ {long : Bool} {text samples : List ℕ} {m : ℕ} {σ : State} {out : Outcome} where
@@ -50,39 +47,43 @@ module _ {long : Bool} {text samples : List ℕ} {m : ℕ} {σ : State} {out : O
       by true e = (k.enough e).continued refl
       by false e = k.short e
 
+-- ---- a run, by what is called for
+module _ {P : Program} {m : ℕ} {σ : State} {out : Outcome} (k : Call) where
+  pub on_start : (s : Bor (List ℕ)) → k ≡ Start s → out ≡ start_on P (samples_of s.now) m σ → RanOn (starts k) P (samples_of (given k)) m σ out
+  on_start s e o = rw e (record { started = λ _. o; continued = λ w. absurd (true≢false w) })
+
+  pub on_continue : k ≡ Continue → out ≡ continue_unless none P m σ → RanOn (starts k) P (samples_of (given k)) m σ out
+  on_continue e o = rw e (record { started = λ w. absurd (true≢false (sym w)); continued = λ _. o })
+
 -- ---- one attempt
 
-module _ {text ι os ns β : List ℕ} {r : Ready} (d : ReadyIs text ι os ns β r) where
-  refusal_is : (r.fault ≡ 0 → ⊥) → barred text ≡ some (record { number = r.fault; line = r.line; item = none })
-  refusal_is h = let e : eqb r.fault 0 ≡ false = ne_eqb r.fault 0 h in sym d.fault ∙ rw e refl
+-- a refusal
+pub refused : {text ι os ns β : List ℕ} {f : LineFault} → ReadyIs text ι os ns β (Err (Faulty f)) → {m : ℕ} {σ : State} {first : Bool} {samples : List ℕ} → Called first text samples m σ (refuse σ (number f.fault) f.line)
+unfolding starting continuing
+refused {text} d {m} {σ} {first} {samples} = record {
+  started = λ e. ap (λ (o : Option Refusal). start_unless o (program_of text) (samples_of samples) m σ) d.fault;
+  continued = λ e. ap (λ (o : Option Refusal). continue_unless o (program_of text) m σ) d.fault;
+}
 
-  none_is : r.fault ≡ 0 → barred text ≡ none
-  none_is z = sym d.fault ∙ rw z refl
+module _ {text ι os ns β : List ℕ} {r : Ready} (d : ReadyIs text ι os ns β (Ok r)) where
+  none_is : barred text ≡ none
+  none_is = sym d.fault
 
-  pub unbarred : r.fault ≡ 0 → Unbarred (tables ι os ns β r.instrs r.blocks)
-  unbarred z = let k = d.startable z in record { text = text; args = k.args; free = none_is z; represents = k.represents }
+  pub unbarred : Unbarred (tables ι os ns β r.instrs r.blocks)
+  unbarred = let k = d.startable r refl in record { text = text; args = k.args; free = none_is; represents = k.represents }
 
-  module _ {m : ℕ} {σ : State} {first : Bool} {samples : List ℕ} where
-    -- a refusal
-    pub refused : (r.fault ≡ 0 → ⊥) → Called first text samples m σ (refuse σ r.fault r.line)
-    unfolding starting continuing
-    refused h = record {
-      started = λ e. sym (ap (λ (o : Option Refusal). start_unless o (program_of text) (samples_of samples) m σ) (refusal_is h));
-      continued = λ e. sym (ap (λ (o : Option Refusal). continue_unless o (program_of text) m σ) (refusal_is h));
-    }
-
-    -- a run
-    pub ran : r.fault ≡ 0 → {out : Outcome}
-        → ((args : List ℕ) (P : Program) → Represents (tables ι os ns β r.instrs r.blocks) args (bodies P) → r.samples ≡ wanted P.blocks → RanOn first P (samples_of samples) m σ out)
-        → Called first text samples m σ out
-    unfolding starting continuing
-    ran z f =
-        let k = d.startable z in
-        let h = f k.args (program_of text) k.represents k.samples in
-        record {
-          started = λ e. h.started e ∙ sym (ap (λ (o : Option Refusal). start_unless o (program_of text) (samples_of samples) m σ) (none_is z));
-          continued = λ e. h.continued e ∙ sym (ap (λ (o : Option Refusal). continue_unless o (program_of text) m σ) (none_is z));
-        }
+  -- a run
+  pub ran : {m : ℕ} {σ : State} {first : Bool} {samples : List ℕ} {out : Outcome}
+      → ((args : List ℕ) (P : Program) → Represents (tables ι os ns β r.instrs r.blocks) args (bodies P) → r.samples ≡ wanted P.blocks → RanOn first P (samples_of samples) m σ out)
+      → Called first text samples m σ out
+  unfolding starting continuing
+  ran {m} {σ} {first} {samples} f =
+      let k = d.startable r refl in
+      let h = f k.args (program_of text) k.represents k.samples in
+      record {
+        started = λ e. h.started e ∙ sym (ap (λ (o : Option Refusal). start_unless o (program_of text) (samples_of samples) m σ) none_is);
+        continued = λ e. h.continued e ∙ sym (ap (λ (o : Option Refusal). continue_unless o (program_of text) m σ) none_is);
+      }
 
 -- ---- a plan that is as long as the layouts want
 pub plan_small : (i p : ℕ) → 4423 ≤ i → i < 5162 → 712 ≤ p → PlanFits i p

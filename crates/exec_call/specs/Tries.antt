@@ -1,6 +1,7 @@
 -- What a call asks for, and what an attempt at it with an image that may be too small leaves: where the text fits it the outcome that is
 -- asked for, else the lent state as it was.
-use Rattle.std.specs.Prelude.{ℕ, ◌+◌, ◌-◌, ◌≤◌, ◌≡◌, Bool, true, false, cond, List}
+use Rattle.std.specs.Prelude.{ℕ, ◌+◌, ◌-◌, ◌≤◌, ◌≡◌, Bool, true, false, cond, List, [], MatchOption}
+use Rattle.std.specs.Prelude as code
 use Rattle.std.proofs.Math.Option.{Option, none}
 use Rattle.valid.specs.Program.{Program}
 use Rattle.exec.specs.Machine.{State}
@@ -10,6 +11,19 @@ use Rattle.image.specs.Sections.{instr_section, operand_section, block_section}
 use Rattle.image.specs.Layout.{places_of}
 use Rattle.exec_machine.specs.Step.{Tables, tables}
 use Rattle.exec_ready.specs.declared.Ready.{Ready}
+use Rattle.exec_call.specs.declared.Call.{Call}
+use Rattle.exec_call.specs.declared.Call.TheVariants.{Start, Continue}
+
+-- ---- what is called for
+-- whether it is a start
+abbrev pub starts : Call → Bool
+starts (Start s) = true
+starts Continue = false
+
+-- the samples' text; there is none where a run goes on
+abbrev pub given : Call → List ℕ
+given (Start s) = s.now
+given Continue = []
 
 -- the answer to a call: of a start, or of going on
 pub record Called (first : Bool) (text samples : List ℕ) (m : ℕ) (σ : State) (out : Outcome) : Type 0 where
@@ -21,10 +35,9 @@ pub record RanOn (first : Bool) (P : Program) (xs : Option (List ℕ)) (m : ℕ)
   pub started : first ≡ true → out ≡ start_on P xs m σ
   pub continued : first ≡ false → out ≡ continue_unless none P m σ
 
--- an attempt, from a state to the one after it
-pub record Tries (fits first : Bool) (text samples : List ℕ) (m : ℕ) (out : Outcome) (after before : State) : Type 0 where
-  pub done : fits ≡ true → Called first text samples m before out
-  pub kept : fits ≡ false → after ≡ before
+-- an attempt, from a state to the one after it: the outcome that was called for, or else the state as it was
+abbrev pub Tries : {O : Type 0} → Bool → List ℕ → List ℕ → ℕ → code.Option O → (O → Outcome) → State → State → Type 0
+Tries first text samples m r out after before = MatchOption r (after ≡ before) (λ o. Called first text samples m before (out o))
 
 -- ---- in working memory
 -- the machine's tables in an image, at these places, and its numbers, as they were counted

@@ -6,17 +6,17 @@ ghost use Rattle.std.specs.Prelude.{◌≡◌, ℕ, List, length};
 ghost use Rattle.exec_machine.specs.Step.{state_of};
 ghost use Rattle.exec_outcome.specs.Answers.{outcome_is};
 ghost use Rattle.image.specs.Enough.{enough, Left};
-ghost use Rattle.exec_call.specs.Tries.{CalledIn};
+ghost use Rattle.exec_call.specs.Tries.{starts, given, CalledIn};
 
-use crate::call_in;
+use crate::{Call, call_in};
 use exec_machine::Place;
 use exec_outcome::Outcome;
+use faults::Fault;
 
-// A call with working memory lent. The last line is not reached.
+// A call with working memory lent.
 pub fn call(
-    first: bool,
+    call: Call<'_>,
     text: &[u8],
-    samples: &[u8],
     budget: usize,
     image: &mut [u16],
     numbers: &mut [u32],
@@ -29,16 +29,13 @@ pub fn call(
     hn: &mut [u32],
     place: Place,
 ) -> Outcome
-    ensures { CalledIn (enough (length image.old) (length numbers.old) (length plan.old)) first text.now samples.now budget (state_of rk.old rn.old sk.old sn.old hk.old hn.old place) (outcome_is result rk.new rn.new sk.new sn.new hk.new hn.new) × Left {A = List ℕ × List ℕ × List ℕ} (enough (length image.old) (length numbers.old) (length plan.old)) (image.old, numbers.old, plan.old) (image.new, numbers.new, plan.new) }
+    ensures { CalledIn (enough (length image.old) (length numbers.old) (length plan.old)) (starts call.entry) text.now (given call.entry) budget (state_of rk.old rn.old sk.old sn.old hk.old hn.old place) (outcome_is result rk.new rn.new sk.new sn.new hk.new hn.new) × Left {A = List ℕ × List ℕ × List ℕ} (enough (length image.old) (length numbers.old) (length plan.old)) (image.old, numbers.old, plan.old) (image.new, numbers.new, plan.new) }
 {
     if !image::lent::is_enough(image.len(), numbers.len(), plan.len()) {
-        return exec_outcome::refuse(16, 0, place);
+        return exec_outcome::refuse_for(Fault::BadState, 0, place);
     }
-    let r = call_in(
-        first, text, samples, budget, image, numbers, plan, rk, rn, sk, sn, hk, hn, place,
-    );
-    if r.fits {
-        return r.outcome;
-    }
-    exec_outcome::refuse(0, 0, place)
+    call_in(
+        call, text, budget, image, numbers, plan, rk, rn, sk, sn, hk, hn, place,
+    )
+    .unwrap()
 }

@@ -9,7 +9,7 @@
 pub mod attempt;
 pub mod lent;
 
-ghost use Rattle.std.specs.Prelude.{◌≡◌, true, List, ℕ, ◌≤◌, length};
+ghost use Rattle.std.specs.Prelude.{◌≡◌, List, ℕ, ◌≤◌, length, IsSome};
 ghost use Rattle.text.specs.Samples.{samples_of};
 ghost use Rattle.valid.specs.Program.{Program};
 ghost use Rattle.exec.specs.Run.{bodies, wanted};
@@ -19,24 +19,24 @@ ghost use Rattle.exec_machine.specs.Represents.{Represents};
 ghost use Rattle.load.specs.Loaded.{SpaceIn};
 ghost use Rattle.exec_outcome.specs.Answers.{outcome_is};
 ghost use Rattle.exec_launch.specs.Startable.{Launchable};
-ghost use Rattle.exec_call.specs.Tries.{tables_in, PlanFits, RanOn, Tries};
+ghost use Rattle.exec_call.specs.Tries.{starts, given, tables_in, PlanFits, RanOn, Tries};
 
 use exec_machine::Place;
 use exec_outcome::Outcome;
 use exec_ready::Ready;
 use image::Places;
+use text_decode::state::Unread;
 
-// Whether a text fits the image, and the outcome if it does.
+// What is called for: a run's start, with its samples' text, or that it goes on.
 #[derive(Clone, Copy)]
-pub struct Tried {
-    pub fits: bool,
-    pub outcome: Outcome,
+pub enum Call<'a> {
+    Start(&'a [u8]),
+    Continue,
 }
 
-// A run of the program that stands in the image: the first call of a run starts it, another goes on.
+// A run of the program that stands in the image.
 fn run_in(
-    first: bool,
-    samples: &[u8],
+    call: Call<'_>,
     budget: usize,
     image: &[u16],
     numbers: &[u32],
@@ -52,15 +52,15 @@ fn run_in(
     place: Place,
 ) -> Outcome
     requires { Ordered p (length image.now) × (r.samples ≤ 16) × Launchable (tables_in p image.now numbers.now r) plan.old }
-    ensures { (args : List ℕ) (P : Program) → Represents (tables_in p image.now numbers.now r) args (bodies P) → r.samples ≡ wanted P.blocks → RanOn first P (samples_of samples.now) budget (state_of rk.old rn.old sk.old sn.old hk.old hn.old place) (outcome_is result rk.new rn.new sk.new sn.new hk.new hn.new) }
+    ensures { (args : List ℕ) (P : Program) → Represents (tables_in p image.now numbers.now r) args (bodies P) → r.samples ≡ wanted P.blocks → RanOn (starts call.entry) P (samples_of (given call.entry)) budget (state_of rk.old rn.old sk.old sn.old hk.old hn.old place) (outcome_is result rk.new rn.new sk.new sn.new hk.new hn.new) }
 {
     let blocks = p.blocks;
     let instrs = p.instrs;
     let parts = p.parts;
     let operands = p.operands;
     let args = p.args;
-    if first {
-        return exec_launch::start_ready(
+    match call {
+        Call::Start(samples) => exec_launch::start_ready(
             samples,
             r.samples,
             &image[instrs..parts],
@@ -78,32 +78,31 @@ fn run_in(
             hn,
             place,
             budget,
-        );
+        ),
+        Call::Continue => exec_launch::resume_ready(
+            &image[instrs..parts],
+            &image[operands..args],
+            numbers,
+            &image[blocks..instrs],
+            r.instrs,
+            r.blocks,
+            plan,
+            rk,
+            rn,
+            sk,
+            sn,
+            hk,
+            hn,
+            place,
+            budget,
+        ),
     }
-    exec_launch::resume_ready(
-        &image[instrs..parts],
-        &image[operands..args],
-        numbers,
-        &image[blocks..instrs],
-        r.instrs,
-        r.blocks,
-        plan,
-        rk,
-        rn,
-        sk,
-        sn,
-        hk,
-        hn,
-        place,
-        budget,
-    )
 }
 
-// A call, with working memory lent: whether the text fits the image; where it does not, the lent state is as it was.
+// A call, with working memory lent. No outcome if the text does not fit the image; the lent state is then as it was.
 pub(crate) fn call_in(
-    first: bool,
+    call: Call<'_>,
     text: &[u8],
-    samples: &[u8],
     budget: usize,
     image: &mut [u16],
     numbers: &mut [u32],
@@ -115,29 +114,20 @@ pub(crate) fn call_in(
     hk: &mut [u8],
     hn: &mut [u32],
     place: Place,
-) -> Tried
+) -> Option<Outcome>
     requires { PlanFits (length image.old) (length plan.old) }
-    ensures { (SpaceIn image.old numbers.old → result.fits ≡ true) × Tries result.fits first text.now samples.now budget (outcome_is result.outcome rk.new rn.new sk.new sn.new hk.new hn.new) (state_of rk.new rn.new sk.new sn.new hk.new hn.new place) (state_of rk.old rn.old sk.old sn.old hk.old hn.old place) }
+    ensures fits { SpaceIn image.old numbers.old → IsSome result }
+    ensures answers { Tries (starts call.entry) text.now (given call.entry) budget result (λ o. outcome_is o rk.new rn.new sk.new sn.new hk.new hn.new) (state_of rk.new rn.new sk.new sn.new hk.new hn.new place) (state_of rk.old rn.old sk.old sn.old hk.old hn.old place) }
 {
-    let r = exec_ready::make_ready(text, image, numbers);
-    if !r.fits {
-        return Tried {
-            fits: false,
-            outcome: exec_outcome::refuse(0, 0, place),
-        };
-    }
-    let fault = r.fault;
-    if fault != 0 {
-        return Tried {
-            fits: true,
-            outcome: exec_outcome::refuse(fault, r.line, place),
-        };
-    }
+    let r = match exec_ready::make_ready(text, image, numbers) {
+        Ok(r) => r,
+        Err(Unread::Unfit) => return None,
+        Err(Unread::Faulty(f)) => {
+            return Some(exec_outcome::refuse_for(f.fault, f.line, place));
+        }
+    };
     let p = image::lay_out(image.len());
-    Tried {
-        fits: true,
-        outcome: run_in(
-            first, samples, budget, image, numbers, p, r, plan, rk, rn, sk, sn, hk, hn, place,
-        ),
-    }
+    Some(run_in(
+        call, budget, image, numbers, p, r, plan, rk, rn, sk, sn, hk, hn, place,
+    ))
 }

@@ -2,7 +2,7 @@
 use Prim.Native.Nat.{ℕ, ◌≤◌}
 use native.Mathlib.Omega.{arith}
 use mathlib.Core.Path.{◌≡◌, refl, ap, sym, ◌∙◌}
-use mathlib.Core.Bool.{Bool, true, false, not, ◌&&◌, cond}
+use mathlib.Core.Bool.{Bool, true, false, ◌&&◌, cond}
 use mathlib.Core.Option.{Option, none, some}
 use mathlib.Core.List.{List, []}
 use lib.Dec.{eqb}
@@ -16,15 +16,6 @@ use Rattle.exec.specs.Run.{Outcome, outcome, refuse, run, budget, bodies, wanted
 use Rattle.exec_machine.specs.Step.{Tables}
 use Rattle.exec_machine.specs.Represents.{Represents}
 use Rattle.exec_state.specs.samples.Counted.{exactly}
-
--- ---- tests
-pub not_yes : (b : Bool) → not b ≡ true → b ≡ false
-not_yes true e = sym e
-not_yes false e = refl
-
-pub not_no : (b : Bool) → not b ≡ false → b ≡ true
-not_no true e = refl
-not_no false e = sym e
 
 -- ---- samples
 -- as many entries as are taken
@@ -64,26 +55,26 @@ module _ (n : ℕ) where
 
 -- ---- starting
 module _ (want : ℕ) (o : Option (List ℕ)) (xs : List ℕ) (b : Bool) (e : guarded b (take want xs) ≡ exactly want o) (P : Program) (w : want ≡ wanted P.blocks) (m : ℕ) (σ : State) where
-  pub starts_15 : not b ≡ true → start_on P o m σ ≡ refuse σ 15 0
-  starts_15 h = miscounted want o (ap (λ (x : Bool). guarded x (take want xs)) (sym (not_yes b h)) ∙ e) P w m σ
+  pub starts_15 : b ≡ false → start_on P o m σ ≡ refuse σ 15 0
+  starts_15 h = miscounted want o (ap (λ (x : Bool). guarded x (take want xs)) (sym h) ∙ e) P w m σ
 
-  module _ (h : not b ≡ false) where
+  module _ (h : b ≡ true) where
     abbrev l : List ℕ
     l = take want xs
 
     on_samples : start_on P o m σ ≡ cond (long_enough σ) (outcome (run (bodies P) (budget m) (initial (take want xs) σ))) (refuse σ 16 0)
     on_samples =
-        let k = counted want l o (ap (λ (x : Bool). guarded x l) (sym (not_no b h)) ∙ e) in
+        let k = counted want l o (ap (λ (x : Bool). guarded x l) (sym h) ∙ e) in
         let q : eqb (length l) (wanted P.blocks) ≡ true = ap (eqb (length l)) (sym w) ∙ k.1 in
         ap (λ (x : Option (List ℕ)). start_on P x m σ) k.0 ∙ ap (λ (x : Bool). cond x (cond (long_enough σ) (outcome (run (bodies P) (budget m) (initial l σ))) (refuse σ 16 0)) (refuse σ 15 0)) q
 
-    pub starts_16 : (t : Bool) → t ≡ long_enough σ → not t ≡ true → start_on P o m σ ≡ refuse σ 16 0
-    starts_16 t et ht = on_samples ∙ ap (λ (x : Bool). cond x (outcome (run (bodies P) (budget m) (initial l σ))) (refuse σ 16 0)) (sym et ∙ not_yes t ht)
+    pub starts_16 : (t : Bool) → t ≡ long_enough σ → t ≡ false → start_on P o m σ ≡ refuse σ 16 0
+    starts_16 t et ht = on_samples ∙ ap (λ (x : Bool). cond x (outcome (run (bodies P) (budget m) (initial l σ))) (refuse σ 16 0)) (sym et ∙ ht)
 
-    pub starts_run : (t : Bool) → t ≡ long_enough σ → not t ≡ false → (out : Outcome) (τ : State) → out ≡ outcome (run (bodies P) (budget m) τ) → τ ≡ initial (take want xs) σ → out ≡ start_on P o m σ
+    pub starts_run : (t : Bool) → t ≡ long_enough σ → t ≡ true → (out : Outcome) (τ : State) → out ≡ outcome (run (bodies P) (budget m) τ) → τ ≡ initial (take want xs) σ → out ≡ start_on P o m σ
     starts_run t et ht out τ eo eτ =
         eo ∙ ap (λ (x : State). outcome (run (bodies P) (budget m) x)) eτ
-        ∙ sym (on_samples ∙ ap (λ (x : Bool). cond x (outcome (run (bodies P) (budget m) (initial l σ))) (refuse σ 16 0)) (sym et ∙ not_no t ht))
+        ∙ sym (on_samples ∙ ap (λ (x : Bool). cond x (outcome (run (bodies P) (budget m) (initial l σ))) (refuse σ 16 0)) (sym et ∙ ht))
 
 -- ---- continuing
 pub flat_length : (T : Tables) (args : List ℕ) (P : Bodies) → Represents T args P → length (flat P) ≡ T.count
@@ -93,8 +84,8 @@ module _ (T : Tables) (args : List ℕ) (P : Program) (rep : Represents T args (
   good_is : t ≡ long_enough σ && good_form (bodies P) σ
   good_is = et (bodies P) (flat_length T args (bodies P) rep)
 
-  pub resumes_16 : not t ≡ true → continue_unless none P m σ ≡ refuse σ 16 0
-  resumes_16 h = ap (λ (x : Bool). cond x (outcome (run (bodies P) (budget m) σ)) (refuse σ 16 0)) (sym good_is ∙ not_yes t h)
+  pub resumes_16 : t ≡ false → continue_unless none P m σ ≡ refuse σ 16 0
+  resumes_16 h = ap (λ (x : Bool). cond x (outcome (run (bodies P) (budget m) σ)) (refuse σ 16 0)) (sym good_is ∙ h)
 
-  pub resumes_run : not t ≡ false → (out : Outcome) → out ≡ outcome (run (bodies P) (budget m) σ) → out ≡ continue_unless none P m σ
-  resumes_run h out eo = eo ∙ sym (ap (λ (x : Bool). cond x (outcome (run (bodies P) (budget m) σ)) (refuse σ 16 0)) (sym good_is ∙ not_no t h))
+  pub resumes_run : t ≡ true → (out : Outcome) → out ≡ outcome (run (bodies P) (budget m) σ) → out ≡ continue_unless none P m σ
+  resumes_run h out eo = eo ∙ sym (ap (λ (x : Bool). cond x (outcome (run (bodies P) (budget m) σ)) (refuse σ 16 0)) (sym good_is ∙ h))

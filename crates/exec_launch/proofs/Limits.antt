@@ -2,7 +2,7 @@
 use Prim.Native.Nat.{ℕ, suc, ◌≤◌}
 use native.Mathlib.Omega.{arith}
 use mathlib.Core.Path.{◌≡◌, ap, sym, subst, ◌∙◌}
-use mathlib.Core.Bool.{Bool, true, false, not, ◌&&◌}
+use mathlib.Core.Bool.{Bool, true, ◌&&◌}
 use mathlib.Core.List.{List}
 use lib.ListN.{length}
 use Rattle.types.proofs.Equal.{and_inv}
@@ -18,7 +18,7 @@ use Rattle.exec_machine.specs.Step.{Tables, state_of}
 use Rattle.exec_step.specs.moved.Stepped.{Words, Inside}
 use Rattle.exec_run.specs.Runs.{Safe, PlaceIn}
 use Rattle.exec_launch.specs.Startable.{Unbarred}
-use Rattle.exec_launch.proofs.Laws.{not_no, flat_length}
+use Rattle.exec_launch.proofs.Laws.{flat_length}
 
 -- ---- handles
 -- in a state of good form each is at a tuple's start
@@ -44,11 +44,11 @@ module _ (rk rn sk sn hk hn : List ℕ) (p : Place) where
       omega arith
 
   -- what `long_enough` answers
-  pub starts_enough : (t : Bool) → t ≡ long_enough σ → not t ≡ false → Words rk rn sk sn hk hn
-  starts_enough t et h = enough (sym et ∙ not_no t h)
+  pub starts_enough : (t : Bool) → t ≡ long_enough σ → t ≡ true → Words rk rn sk sn hk hn
+  starts_enough t et h = enough (sym et ∙ h)
 
   -- what `good_form` answers
-  module _ (T : Tables) (u : Unbarred T) (t : Bool) (et : (Q : Bodies) → length (flat Q) ≡ T.count → t ≡ long_enough σ && good_form Q σ) (h : not t ≡ false) where
+  module _ (T : Tables) (u : Unbarred T) (t : Bool) (et : (Q : Bodies) → length (flat Q) ≡ T.count → t ≡ long_enough σ && good_form Q σ) (h : t ≡ true) where
     abbrev P : Bodies
     P = bodies (program_of u.text)
 
@@ -56,7 +56,7 @@ module _ (rk rn sk sn hk hn : List ℕ) (p : Place) where
     count_is = flat_length T u.args P u.represents
 
     formed : WellFormed u.text σ
-    formed = let b = and_inv (long_enough σ) (good_form P σ) (sym (et P count_is) ∙ not_no t h) in (b.1, b.0)
+    formed = let b = and_inv (long_enough σ) (good_form P σ) (sym (et P count_is) ∙ h) in (b.1, b.0)
 
     pub resumes_enough : Words rk rn sk sn hk hn
     resumes_enough = enough formed.1
@@ -79,5 +79,5 @@ starts_place xs τ rk rn sk sn hk hn p n e h =
     let z : p.position ≡ 0 = ap (λ (x : State). x.position) e in
     omega arith
 
-pub starts_safe : (T : Tables) → Unbarred T → (xs : List ℕ) → length xs ≤ 16 → (τ : State) (t : Bool) → t ≡ long_enough τ → not t ≡ false → {σ : State} → σ ≡ initial xs τ → Safe T σ
-starts_safe T u xs l τ t et h e = subst (Safe T) (sym e) (safe_from T u (initial xs τ) (first_form u.text u.free xs l τ (sym et ∙ not_no t h)))
+pub starts_safe : (T : Tables) → Unbarred T → (xs : List ℕ) → length xs ≤ 16 → (τ : State) (t : Bool) → t ≡ long_enough τ → t ≡ true → {σ : State} → σ ≡ initial xs τ → Safe T σ
+starts_safe T u xs l τ t et h e = subst (Safe T) (sym e) (safe_from T u (initial xs τ) (first_form u.text u.free xs l τ (sym et ∙ h)))

@@ -20,7 +20,8 @@ ghost use Rattle.exec_outcome.specs.Answers.{outcome_is};
 ghost use Rattle.exec_launch.specs.Startable.{Launchable};
 
 use exec_machine::Place;
-use exec_outcome::{Outcome, capped, finish, refuse};
+use exec_outcome::{Outcome, capped, finish, refuse_for};
+use faults::Fault;
 
 // Run from the place p.
 fn run_from(
@@ -88,10 +89,10 @@ pub fn start_ready(
 {
     let mut xs = [0u32; 16];
     if !exec_state::samples::read_samples(samples, want, &mut xs) {
-        return refuse(15, 0, place);
+        return refuse_for(Fault::BadSamples, 0, place);
     }
     if !exec_state::good_form::long_enough(rk, rn, sk, sn, hk, hn, place) {
-        return refuse(16, 0, place);
+        return refuse_for(Fault::BadState, 0, place);
     }
     let p = exec_state::start::set_start(&xs[..want], rk, rn, hk, hn);
     run_from(
@@ -121,7 +122,7 @@ pub fn resume_ready(
     ensures { (args : List ℕ) (P : Program) → Represents (tables instrs.now operands.now bases.now blocks.now count labels) args (bodies P) → outcome_is result rk.new rn.new sk.new sn.new hk.new hn.new ≡ continue_unless none P m (state_of rk.old rn.old sk.old sn.old hk.old hn.old place) }
 {
     if !exec_state::good_form::good_form(count, rk, rn, sk, sn, hk, hn, place) {
-        return refuse(16, 0, place);
+        return refuse_for(Fault::BadState, 0, place);
     }
     run_from(
         instrs, operands, bases, blocks, count, labels, plan, rk, rn, sk, sn, hk, hn, place, m,

@@ -7,13 +7,17 @@
 ghost use Rattle.std.specs.Prelude.{◌≡◌, List, ℕ};
 ghost use Rattle.exec.specs.Machine.{at};
 ghost use Rattle.exec.specs.Run.{stopped, answer_of, outcome, budget};
+ghost use Rattle.faults.specs.Numbers.{number};
 ghost use Rattle.exec_words.specs.memory.Lent.{lent};
 ghost use Rattle.exec_machine.specs.Step.{stop_is};
 ghost use Rattle.exec_run.specs.Runs.{ran_is};
 ghost use Rattle.exec_outcome.specs.Answers.{answer_is, outcome_is, refused_at};
 
 use exec_machine::{Place, Stop};
+use exec_run::Ran;
+use faults::Fault;
 
+// Kept: one enum with a refusal's number, since a caller in C hands back any number as an answer (`answer_of` of stal_lines).
 // A refusal with its number and line; or how a run stopped, with the steps made, a halt with r1's kind and number too.
 #[derive(Clone, Copy)]
 pub enum Answer {
@@ -42,6 +46,13 @@ pub fn refuse(number: usize, line: usize, kept: Place) -> Outcome
     }
 }
 
+// A refusal for a fault.
+pub fn refuse_for(fault: Fault, line: usize, kept: Place) -> Outcome
+    ensures { result ≡ refused_at (number fault) line kept }
+{
+    refuse(fault.number(), line, kept)
+}
+
 fn answer_at(s: Stop, steps: usize, rk: &[u8], rn: &[u32]) -> Answer
     ensures { answer_is result ≡ answer_of (stopped (stop_is s)) steps (at (lent rk.now rn.now) 0) }
 {
@@ -57,24 +68,23 @@ fn answer_at(s: Stop, steps: usize, rk: &[u8], rn: &[u32]) -> Answer
 }
 
 // A run's end as an outcome.
-pub fn finish(ran: exec_run::Outcome, rk: &[u8], rn: &[u32]) -> Outcome
+pub fn finish(ran: Ran, rk: &[u8], rn: &[u32]) -> Outcome
     ensures { (sk sn hk hn : List ℕ) → outcome_is result rk.now rn.now sk sn hk hn ≡ outcome (ran_is ran rk.now rn.now sk sn hk hn) }
 {
-    match ran {
-        exec_run::Outcome::Paused(n, p) => Outcome {
-            answer: Answer::Paused(n),
-            place: p,
-        },
-        exec_run::Outcome::Ended(s, n, p) => Outcome {
-            answer: answer_at(s, n, rk, rn),
-            place: p,
-        },
+    let answer = match ran.stop {
+        None => Answer::Paused(ran.steps),
+        Some(s) => answer_at(s, ran.steps, rk, rn),
+    };
+    Outcome {
+        answer,
+        place: ran.place,
     }
 }
 
 // "A budget above 1,000,000 is taken as 1,000,000"
+#[tactic(auto, unfolding(exec::specs::Run::budget))]
 pub fn capped(m: usize) -> usize
     ensures { result ≡ budget m }
 {
-    if m <= 1000000 { m } else { 1000000 }
+    m.min(1000000)
 }

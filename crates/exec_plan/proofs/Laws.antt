@@ -2,26 +2,65 @@
 use mathlib.Core.Path.{◌≡◌, refl, ap, ap₂, sym, ◌∙◌, subst}
 use mathlib.Core.Bool.{Bool, cond}
 use mathlib.Core.List.{List, [], ◌∷◌}
-use Prim.Native.Nat.{ℕ, zero, suc, ◌+◌, ◌-◌, ◌*◌, ◌<◌, ◌≤◌}
+use Prim.Native.Nat.{ℕ, zero, suc, ◌+◌, ◌-◌, ◌*◌, ◌%◌, ◌^◌, ◌<◌, ◌≤◌}
 use native.Mathlib.Nat.{add-zero, add-suc, suc-add, le_of_suc-le-suc, not-suc-le-zero}
 use native.Mathlib.Omega.{arith}
+use Rattle.std.proofs.Common.{◌++◌, append_assoc, take, drop, length-take-le, length-drop, drop-drop}
+use Rattle.syntax.specs.Syntax.{sub}
 use lib.Dec.{T, ltb, eqb, eqb→eq}
 use lib.ListN.{length, get_or, set, length-set, get_or-eq_default}
-use lib.Seq.{get_or-set_same, get_or-set_other}
+use borrow.Rule.Slice.PartMut.{put_mid}
+use Rattle.std.proofs.lemmas.List.Edits.{sets-eq}
+use lib.Seq.{sets, get_or-set_same, get_or-set_other}
 use native.Mathlib.Decide.{dec_lt}
 use borrow.Author.Tests.{lt-ltb, le-ltb, eq-eqb, ne_eqb}
 use Rattle.exec.specs.Machine.{compute, sign_of, taken}
 use Rattle.tables.specs.Tables.{cell}
-use Rattle.exec_words.specs.arith.Codes.{arith_of, branch_of}
+use Rattle.exec_words.specs.arith.Codes.{branch_of}
 use Rattle.exec_words.specs.memory.Lent.{base_kind}
 use Rattle.exec_words.proofs.memory.Laws.{any_default}
-use Rattle.exec_words.proofs.arith.Table.{every, at}
+use Rattle.exec_words.proofs.arith.Table.{every, at, at2}
 use Rattle.exec_machine.specs.Step.{Tables, tables}
-use Rattle.exec_plan.specs.Plan.{forms, halts, columns, chosen, class_of, fifth_of, form_in, added_of, last_of, put_row, kind_at, column_at, form_for, form_at, goal_at, goal_in, last_at, row_of, stuck_row, Plan}
+use Rattle.exec_plan.specs.declared.Column.{Column}
+use Rattle.exec_plan.specs.declared.Column.TheVariants.{Nothing, First, Second, Third, Target, Operand, Branch, Constant}
+use Rattle.exec_plan.specs.Plan.{forms, halts, columns, column_number, chosen, class_of, fifth_of, form_in, added_of, last_of, put_row, kind_at, column_at, form_for, form_at, goal_at, goal_in, last_at, row_of, stuck_row, Plan}
 
 -- ---- past a table of rows
-pub no_row : (t : List (List ℕ)) (k i d : ℕ) → length t ≤ k → d ≡ get_or (get_or t k []) i d
-no_row t k i d h = sym (ap (λ (r : List ℕ). get_or r i d) (get_or-eq_default t [] h))
+-- the table of columns, tested at each of its entries
+abbrev pub choices : List (List Column)
+choices =
+    (First ∷ Second ∷ Nothing ∷ [])
+    ∷ (First ∷ Second ∷ Nothing ∷ [])
+    ∷ (First ∷ Second ∷ Nothing ∷ [])
+    ∷ (First ∷ Branch ∷ Nothing ∷ [])
+    ∷ (First ∷ Branch ∷ Nothing ∷ [])
+    ∷ (First ∷ Branch ∷ Nothing ∷ [])
+    ∷ (First ∷ Branch ∷ Nothing ∷ [])
+    ∷ (First ∷ Branch ∷ Nothing ∷ [])
+    ∷ (First ∷ Branch ∷ Nothing ∷ [])
+    ∷ (First ∷ Constant ∷ Nothing ∷ [])
+    ∷ (First ∷ Second ∷ Third ∷ [])
+    ∷ (First ∷ Third ∷ Second ∷ [])
+    ∷ (First ∷ Nothing ∷ Operand ∷ [])
+    ∷ (First ∷ Nothing ∷ Nothing ∷ [])
+    ∷ (First ∷ Nothing ∷ Nothing ∷ [])
+    ∷ (Nothing ∷ Nothing ∷ First ∷ [])
+    ∷ (Nothing ∷ Nothing ∷ First ∷ [])
+    ∷ (First ∷ Nothing ∷ Second ∷ [])
+    ∷ (Nothing ∷ Second ∷ First ∷ [])
+    ∷ (First ∷ Second ∷ Third ∷ [])
+    ∷ (First ∷ Third ∷ Second ∷ [])
+    ∷ (Nothing ∷ Nothing ∷ Target ∷ [])
+    ∷ (Nothing ∷ Nothing ∷ Nothing ∷ [])
+    ∷ (First ∷ Constant ∷ Nothing ∷ [])
+    ∷ []
+
+same_column : ℕ → ℕ → Column → Bool
+same_column k i x = eqb (column_number x) (get_or (get_or columns k []) i 0)
+
+pub column_in_lem : (k i : ℕ) → k < 24 → i < 3 → column_number (get_or (get_or choices k []) i Nothing) ≡ get_or (get_or columns k []) i 0
+unfolding same_column
+column_in_lem k i hk hi = eqb→eq (column_number (get_or (get_or choices k []) i Nothing)) (get_or (get_or columns k []) i 0) (at2 Nothing 3 same_column choices tt k i hk hi)
 
 -- all rows have three entries
 three : (t : List (List ℕ)) → T (every (λ (k : ℕ) (r : List ℕ). eqb (length r) 3) 0 t) → (k : ℕ) → k < length t → length (get_or t k []) ≡ 3
@@ -48,71 +87,14 @@ pub past_form : (k i : ℕ) → 24 ≤ k → i < 3 → 23 ≡ get_or (get_or for
 past_form k i h l = sym (all_three 23 i l (get_or-eq_default forms halts h))
 
 -- ---- leaves
-module _ (a b c t v o q : ℕ) where
-  pub chosen_1 : (k : ℕ) → k ≡ 1 → a ≡ chosen k a b c t v o q
-  unfolding chosen
-  chosen_1 k e = rw e
-
-  pub chosen_2 : (k : ℕ) → k ≡ 2 → b ≡ chosen k a b c t v o q
-  unfolding chosen
-  chosen_2 k e = rw e
-
-  pub chosen_3 : (k : ℕ) → k ≡ 3 → c ≡ chosen k a b c t v o q
-  unfolding chosen
-  chosen_3 k e = rw e
-
-  pub chosen_4 : (k : ℕ) → k ≡ 4 → 8 * t ≡ chosen k a b c t v o q
-  unfolding chosen
-  chosen_4 k e = rw e
-
-  pub chosen_5 : (k : ℕ) → k ≡ 5 → v ≡ chosen k a b c t v o q
-  unfolding chosen
-  chosen_5 k e = rw e
-
-  pub chosen_6 : (k : ℕ) → k ≡ 6 → o ≡ chosen k a b c t v o q
-  unfolding chosen
-  chosen_6 k e = rw e
-
-  pub chosen_7 : (k : ℕ) → k ≡ 7 → q ≡ chosen k a b c t v o q
-  unfolding chosen
-  chosen_7 k e = rw e
-
-  pub chosen_no : (k : ℕ) → (k ≡ 1 → ⊥) → (k ≡ 2 → ⊥) → (k ≡ 3 → ⊥) → (k ≡ 4 → ⊥) → (k ≡ 5 → ⊥) → (k ≡ 6 → ⊥) → (k ≡ 7 → ⊥) → 0 ≡ chosen k a b c t v o q
-  unfolding chosen
-  chosen_no k n1 n2 n3 n4 n5 n6 n7 = simp (ne_eqb k 1 n1, ne_eqb k 2 n2, ne_eqb k 3 n3, ne_eqb k 4 n4, ne_eqb k 5 n5, ne_eqb k 6 n6, ne_eqb k 7 n7)
-
 module _ (f k l : ℕ) where
   abbrev pub kept : ℕ
   kept = cond (ltb k l) f (cond (eqb f 4) 22 (cond (eqb f 7) 24 f))
 
-  pub checked_there : k < l → f ≡ kept
-  checked_there h = sym (simp (lt-ltb k l h))
-
-  pub checked_branch : l ≤ k → f ≡ 4 → 22 ≡ kept
-  checked_branch h e = sym (simp (le-ltb k l h, eq-eqb f 4 e))
-
-  pub checked_jump : l ≤ k → f ≡ 7 → 24 ≡ kept
-  checked_jump h e = sym (simp (le-ltb k l h, e))
-
-  pub checked_else : l ≤ k → (f ≡ 4 → ⊥) → (f ≡ 7 → ⊥) → f ≡ kept
-  checked_else h p q = sym (simp (le-ltb k l h, ne_eqb f 4 p, ne_eqb f 7 q))
-
 -- ---- forms in a row
-pub class_own : (f : ℕ) → f < 15 → f ≡ class_of f
-unfolding class_of
-class_own f h = sym (simp (lt-ltb f 15 h))
-
-pub class_other : (f : ℕ) → 15 ≤ f → 15 ≡ class_of f
-unfolding class_of
-class_other f h = sym (simp (le-ltb f 15 h))
-
 pub fifth_goal : (f g : ℕ) → f < 15 → g ≡ fifth_of f g
 unfolding fifth_of
 fifth_goal f g h = sym (simp (lt-ltb f 15 h))
-
-pub fifth_form : (f g : ℕ) → 15 ≤ f → f ≡ fifth_of f g
-unfolding fifth_of
-fifth_form f g h = sym (simp (le-ltb f 15 h))
 
 pub form_back : (f g : ℕ) → form_in (class_of f) (fifth_of f g) ≡ f
 unfolding class_of fifth_of form_in
@@ -139,46 +121,26 @@ fifth_low f g e = pick (dec_lt f 15)
     pick (no n) = subst (λ (b : Bool). 15 ≤ cond b g f) (sym (le-ltb f 15 (omega arith))) (omega arith)
 
 -- ---- column 4
-pub added_is : (kind n : ℕ) {r : ℕ} → kind ≡ 1 → r ≡ compute (arith_of 1) 0 n → r ≡ added_of kind n
-unfolding added_of arith_of
-added_is kind n e h = h ∙ sym (simp (eq-eqb kind 1 e))
+pub added_is : (kind n : ℕ) {r : ℕ} → kind ≡ 1 → n < 2 ^ 32 → r < 2 ^ 32 → (r + n) % 2 ^ 32 ≡ 0 → r ≡ added_of kind n
+unfolding added_of compute
+added_is kind n e l k h = let m : _ ≡ compute sub 0 n = omega arith in m ∙ sym (simp (eq-eqb kind 1 e))
 
 pub added_else : (kind n : ℕ) → (kind ≡ 1 → ⊥) → n ≡ added_of kind n
 unfolding added_of
 added_else kind n e = sym (simp (ne_eqb kind 1 e))
 
-module _ (code kind m n : ℕ) where
-  pub last_count : code ≡ 12 → m ≡ last_of code kind m n
-  unfolding last_of
-  last_count e = sym (simp (eq-eqb code 12 e))
-
-  pub last_sub : {r : ℕ} → code ≡ 1 → r ≡ added_of kind n → r ≡ last_of code kind m n
-  unfolding last_of
-  last_sub e h = h ∙ sym (simp e)
-
-  pub last_else : (code ≡ 12 → ⊥) → (code ≡ 1 → ⊥) → n ≡ last_of code kind m n
-  unfolding last_of
-  last_else p q = sym (simp (ne_eqb code 12 p, ne_eqb code 1 q))
-
--- which goal, as the test was
-pub goal_is : {b d : Bool} (c : Bool) (t s : ℕ) {r : ℕ} → b ≡ d → b ≡ c → r ≡ 8 * cond c t s → r ≡ 8 * cond d t s
-goal_is c t s e q h = h ∙ ap (λ (x : Bool). 8 * cond x t s) (sym q ∙ e)
-
 -- ---- rows in the table
-pub eight : (s : List ℕ) (p a b c d e f g h : ℕ) {s1 s2 s3 s4 s5 s6 s7 s8 : List ℕ} → s1 ≡ set s p a → s2 ≡ set s1 (p + 1) b
-    → s3 ≡ set s2 (p + 2) c → s4 ≡ set s3 (p + 3) d → s5 ≡ set s4 (p + 4) e → s6 ≡ set s5 (p + 5) f → s7 ≡ set s6 (p + 6) g
-    → s8 ≡ set s7 (p + 7) h → s8 ≡ put_row s p (a ∷ b ∷ c ∷ d ∷ e ∷ f ∷ g ∷ h ∷ [])
+put_row_is : (s : List ℕ) (p : ℕ) (vs : List ℕ) → put_row s p vs ≡ sets s p vs
 unfolding put_row
-eight s p a b c d e f g h e1 e2 e3 e4 e5 e6 e7 e8 =
-    let q1 : p + 1 ≡ suc p = omega arith in
-    let q2 : p + 2 ≡ suc (suc p) = omega arith in
-    let q3 : p + 3 ≡ suc (suc (suc p)) = omega arith in
-    let q4 : p + 4 ≡ suc (suc (suc (suc p))) = omega arith in
-    let q5 : p + 5 ≡ suc (suc (suc (suc (suc p)))) = omega arith in
-    let q6 : p + 6 ≡ suc (suc (suc (suc (suc (suc p))))) = omega arith in
-    let q7 : p + 7 ≡ suc (suc (suc (suc (suc (suc (suc p)))))) = omega arith in
-    e8 ∙ ap₂ (λ (l : List ℕ) (i : ℕ). set l i h) (e7 ∙ ap₂ (λ (l : List ℕ) (i : ℕ). set l i g) (e6 ∙ ap₂ (λ (l : List ℕ) (i : ℕ). set l i f) (e5 ∙ ap₂ (λ (l : List ℕ) (i : ℕ). set l i e)
-    (e4 ∙ ap₂ (λ (l : List ℕ) (i : ℕ). set l i d) (e3 ∙ ap₂ (λ (l : List ℕ) (i : ℕ). set l i c) (e2 ∙ ap₂ (λ (l : List ℕ) (i : ℕ). set l i b) e1 q1) q2) q3) q4) q5) q6) q7
+put_row_is s p [] = refl
+put_row_is s p (v ∷ vs) = put_row_is (set s p v) (suc p) vs
+
+-- a row that is copied over the eight numbers from p on
+pub eight : (s : List ℕ) (p : ℕ) {ws : List ℕ} (vs : List ℕ) → length ws ≡ length (take (p + 8 - p) (drop p s)) → ws ≡ vs → p + 8 ≤ length s → put_mid p (p + 8 - p) s ws ≡ put_row s p vs
+eight s p {ws} vs h e l =
+    let n : length vs ≡ 8 = omega (arith, length-take-le (p + 8 - p) (drop p s) (omega (arith, length-drop p s)), ap length e, h) in
+    let q : p + (p + 8 - p) ≡ p + length vs = omega arith in
+    ap (λ (t : List ℕ). put_mid p (p + 8 - p) s t) e ∙ ap (λ (t : List ℕ). take p s ++ (vs ++ t)) (drop-drop (p + 8 - p) p s ∙ ap (λ (k : ℕ). drop k s) q) ∙ sym (append_assoc (take p s) vs (drop (p + length vs) s)) ∙ sym (sets-eq vs s p (omega arith)) ∙ sym (put_row_is s p vs)
 
 -- an entry before the row, and one within it
 pub before_row : (s : List ℕ) (p : ℕ) (vs : List ℕ) (q : ℕ) → q < p → get_or (put_row s p vs) q 0 ≡ get_or s q 0
@@ -242,15 +204,15 @@ module _ (T : Tables) where
       behind k hk = ap (λ (s : List ℕ). get_or s (8 * T.count + k) 0) e ∙ in_row φ (8 * T.count) stuck_row k l hk
 
 -- ---- the row that the function makes, from what it reads
-module _ (ι os bs β : List ℕ) (l j : ℕ) {code a b c v m kind n label t o q raw : ℕ} (ek : code ≡ cell 8 ι j 0) (ea : a ≡ cell 8 ι j 1)
+module _ (ι os bs β : List ℕ) (l j : ℕ) {code a b c v m kind n t o q raw : ℕ} (ek : code ≡ cell 8 ι j 0) (ea : a ≡ cell 8 ι j 1)
     (eb : b ≡ cell 8 ι j 2) (ec : c ≡ cell 8 ι j 3) (ev : v ≡ cell 8 ι j 5) (em : m ≡ cell 8 ι j 6) (er : raw ≡ cell 4 os v 0)
-    (eo : kind ≡ base_kind raw) (en : n ≡ get_or bs v 0) (el : label ≡ n) (et : t ≡ cell 2 β label 1) (eb3 : o ≡ code - 3)
+    (eo : kind ≡ base_kind raw) (en : n ≡ get_or bs v 0) (et : t ≡ cell 2 β n 1) (eb3 : o ≡ code - 3)
     (eq1 : q ≡ kind - 1) where
   number_of : n ≡ get_or bs (cell 8 ι j 5) 0
   number_of = en ∙ ap (λ (i : ℕ). get_or bs i 0) ev
 
   target_of : t ≡ cell 2 β (get_or bs (cell 8 ι j 5) 0) 1
-  target_of = et ∙ ap (λ (x : ℕ). cell 2 β x 1) (el ∙ number_of)
+  target_of = et ∙ ap (λ (x : ℕ). cell 2 β x 1) number_of
 
   branch_of_lem : o ≡ cell 8 ι j 0 - 3
   branch_of_lem = eb3 ∙ ap (λ (x : ℕ). x - 3) ek
@@ -272,11 +234,11 @@ module _ (ι os bs β : List ℕ) (l j : ℕ) {code a b c v m kind n label t o q
         let w : k ≡ get_or (get_or columns (cell 8 ι j 0) []) i 0 = e ∙ ap (λ (x : ℕ). get_or (get_or columns x []) i 0) ek in
         h ∙ (λ x. chosen (w x) (ea x) (eb x) (ec x) (target_of x) (ev x) (branch_of_lem x) (constant_of x))
 
-    form_of : {f g : ℕ} → g ≡ get_or (get_or forms code halts) kind 24 → f ≡ kept g label l → f ≡ form_at T0 j
+    form_of : {f g : ℕ} → g ≡ get_or (get_or forms code halts) kind 24 → f ≡ kept g n l → f ≡ form_at T0 j
     unfolding form_at form_for
     form_of {f} {g} eg h =
         let s : g ≡ get_or (get_or forms (cell 8 ι j 0) halts) (kind_at T0 j) 24 = eg ∙ ap₂ (λ (x y : ℕ). get_or (get_or forms x halts) y 24) ek kind_of in
-        h ∙ ap₂ (λ (x y : ℕ). kept x y l) s (el ∙ number_of)
+        h ∙ ap₂ (λ (x y : ℕ). kept x y l) s number_of
 
     last_is : {r : ℕ} → r ≡ last_of code kind m n → r ≡ last_at T0 j
     unfolding last_at
@@ -286,12 +248,12 @@ module _ (ι os bs β : List ℕ) (l j : ℕ) {code a b c v m kind n label t o q
     unfolding goal_at
     goal_of x h = h ∙ ap₂ (λ (k s : ℕ). 8 * cond (taken (branch_of k) (sign_of x)) s (j + 1)) branch_of_lem target_of
 
-    pub row_is : {k0 k1 k2 x y z g f nf nx ny nz r p0 p1 p2 p5 : ℕ} → k0 ≡ get_or (get_or columns code []) 0 0 → x ≡ chosen k0 a b c t v o q
+    pub row_is : {k0 k1 k2 x y z g f nf r p0 p1 p2 p5 : ℕ} → k0 ≡ get_or (get_or columns code []) 0 0 → x ≡ chosen k0 a b c t v o q
         → k1 ≡ get_or (get_or columns code []) 1 0 → y ≡ chosen k1 a b c t v o q → k2 ≡ get_or (get_or columns code []) 2 0 → z ≡ chosen k2 a b c
-        t v o q → g ≡ get_or (get_or forms code halts) kind 24 → f ≡ kept g label l → nf ≡ class_of f → nx ≡ x → ny ≡ y → nz ≡ z
+        t v o q → g ≡ get_or (get_or forms code halts) kind 24 → f ≡ kept g n l → nf ≡ class_of f
         → r ≡ last_of code kind m n → p0 ≡ 8 * cond (taken (branch_of o) (sign_of 2147483648)) t (j + 1) → p5 ≡ fifth_of f p0 → p1 ≡ 8 * cond
         (taken (branch_of o) (sign_of 0)) t (j + 1) → p2 ≡ 8 * cond (taken (branch_of o) (sign_of 1)) t (j + 1)
-        → (nf ∷ nx ∷ ny ∷ nz ∷ r ∷ p5 ∷ p1 ∷ p2 ∷ []) ≡ row_of T0 j
+        → (nf ∷ x ∷ y ∷ z ∷ r ∷ p5 ∷ p1 ∷ p2 ∷ []) ≡ row_of T0 j
     unfolding row_of goal_in
-    row_is e0 ex e1 ey e2 ez eg ef qf qx qy qz er g0 q5 g1 g2 =
-        λ i. (qf ∙ ap class_of (form_of eg ef)) i ∷ (qx ∙ column_of 0 e0 ex) i ∷ (qy ∙ column_of 1 e1 ey) i ∷ (qz ∙ column_of 2 e2 ez) i ∷ last_is er i ∷ (q5 ∙ ap₂ fifth_of (form_of eg ef) (goal_of 2147483648 g0)) i ∷ goal_of 0 g1 i ∷ goal_of 1 g2 i ∷ []
+    row_is e0 ex e1 ey e2 ez eg ef qf er g0 q5 g1 g2 =
+        λ i. (qf ∙ ap class_of (form_of eg ef)) i ∷ column_of 0 e0 ex i ∷ column_of 1 e1 ey i ∷ column_of 2 e2 ez i ∷ last_is er i ∷ (q5 ∙ ap₂ fifth_of (form_of eg ef) (goal_of 2147483648 g0)) i ∷ goal_of 0 g1 i ∷ goal_of 1 g2 i ∷ []

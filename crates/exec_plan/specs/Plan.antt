@@ -5,6 +5,9 @@ use Rattle.exec.specs.Machine.{Memory, at, int_kind, height, compute, sign_of, t
 use Rattle.tables.specs.Tables.{cell}
 use Rattle.exec_words.specs.arith.Codes.{branch_of, column}
 use Rattle.exec_words.specs.memory.Lent.{base_kind}
+use Rattle.exec_plan.specs.declared.Column.{Column}
+use Rattle.exec_plan.specs.declared.Column.TheVariants.{Nothing, First, Second, Third, Target, Operand, Branch, Constant}
+use Rattle.exec_plan.specs.declared.Choices.{Choices}
 use Rattle.exec_machine.specs.declared.Stop.TheVariants.{Halted, Stuck}
 use Rattle.exec_machine.specs.Step.{Tables, pair, given, next_arith, next_jump, next_load, next_store, next_tuple, next_cut, next_push, next_pop, next_read, next_write, next_read_through, next_write_through, Next, Go, Register, End}
 
@@ -42,15 +45,26 @@ reads_operand f = eqb f 0 || eqb f 3 || eqb f 5 || eqb f 8 || eqb f 20 || eqb f 
 unfoldable pub chosen : ℕ → ℕ → ℕ → ℕ → ℕ → ℕ → ℕ → ℕ → ℕ
 chosen k a b c t v o q = cond (eqb k 1) a (cond (eqb k 2) b (cond (eqb k 3) c (cond (eqb k 4) (8 * t) (cond (eqb k 5) v (cond (eqb k 6) o (cond (eqb k 7) q 0))))))
 
+-- a column's choice of the code, as the number in `columns`
+abbrev pub column_number : Column → ℕ
+column_number Nothing = 0
+column_number First = 1
+column_number Second = 2
+column_number Third = 3
+column_number Target = 4
+column_number Operand = 5
+column_number Branch = 6
+column_number Constant = 7
+
 -- numbers of 16 bits to choose from: the instruction's own, where its label leads, its first operand, a branch's and a constant's kind
-pub record Choices (a b c t v o q : ℕ) : Type 0 where
-  pub first : a < 65536
-  pub second : b < 65536
-  pub third : c < 65536
-  pub target : t < 65536
-  pub operand : v < 65536
-  pub branch : o < 65536
-  pub constant : q < 65536
+pub record Small (n : Choices) : Type 0 where
+  pub first : n.first < 65536
+  pub second : n.second < 65536
+  pub third : n.third < 65536
+  pub target : n.target < 65536
+  pub operand : n.operand < 65536
+  pub branch : n.branch < 65536
+  pub constant : n.constant < 65536
 
 -- ---- a form in a row: those below 15 are the row's class; the others are of class 15 and stand where the first goal of a branch does
 unfoldable pub class_of : ℕ → ℕ

@@ -7,13 +7,19 @@ ghost use Rattle.std.specs.Prelude.{◌≡◌, cond, [], ◌∷◌, ℕ, ◌+◌
 ghost use Rattle.exec.specs.Machine.{sign_of, taken};
 ghost use Rattle.exec_words.specs.arith.Codes.{branch_of};
 ghost use Rattle.exec_machine.specs.Step.{tables};
-ghost use Rattle.exec_plan.specs.Plan.{forms, halts, columns, chosen, Choices, class_of, fifth_of, added_of, last_of, put_row, row_of, Plan};
+ghost use Rattle.exec_plan.specs.Plan.{forms, halts, columns, column_number, chosen, Small, class_of, fifth_of, added_of, last_of, put_row, row_of, Plan};
+
+use Column::{Branch, Constant, First, Nothing, Operand, Second, Target, Third};
+use exec_words::arith::branches;
+use exec_words::memory::base_kind;
+use tables::{cell, entry_or};
 
 // The form of an instruction, by its code and the kind of its operand's base: register, integer, label. `unpack` has the forms of `mov`.
 // Forms below 15 are classes of their own: 0 add register, 1 add integer, 2 malloc, 3 mul register, 4 branch to a label, 5 mov register,
 // 6 mov of a constant, 7 jmp to a label, 8 jmp register, 9 ld, 10 st, 11 sld, 12 sst, 13 slp, 14 ssp. The others are of class 15:
 // 15 mul integer, 16 getsp, 17 setsp, 18 salloc, 19 sfree, 20 sub register, 21 branch through a register, 22 branch that goes nowhere,
 // 23 halt, 24 stuck.
+// Kept: forms are numbers, for a row stands in memory that the caller lends, and a step goes by a row's class with one jump.
 const FORMS: [[u8; 3]; 24] = [
     [0, 1, 24],
     [20, 1, 24],
@@ -41,66 +47,58 @@ const FORMS: [[u8; 3]; 24] = [
     [5, 6, 6],
 ];
 
-// Which number stands in a row's columns 1 to 3, two registers and one number more: 0 for none, else the instruction's first, second
-// or third number, 4 for the row that its label leads to, 5 for its first operand, 6 for the kind of a branch, 7 for that of a constant.
-const COLUMNS: [[u8; 3]; 24] = [
-    [1, 2, 0],
-    [1, 2, 0],
-    [1, 2, 0],
-    [1, 6, 0],
-    [1, 6, 0],
-    [1, 6, 0],
-    [1, 6, 0],
-    [1, 6, 0],
-    [1, 6, 0],
-    [1, 7, 0],
-    [1, 2, 3],
-    [1, 3, 2],
-    [1, 0, 5],
-    [1, 0, 0],
-    [1, 0, 0],
-    [0, 0, 1],
-    [0, 0, 1],
-    [1, 0, 2],
-    [0, 2, 1],
-    [1, 2, 3],
-    [1, 3, 2],
-    [0, 0, 4],
-    [0, 0, 0],
-    [1, 7, 0],
+// Which number stands in a column of a row: none, the instruction's first, second or third number, the place of the row that its label
+// leads to, its first operand, the kind of a branch or that of a constant.
+#[derive(Clone, Copy, PartialEq, Eq)]
+enum Column {
+    Nothing,
+    First,
+    Second,
+    Third,
+    Target,
+    Operand,
+    Branch,
+    Constant,
+}
+
+// A row's columns 1 to 3, two registers and one number more, by the instruction's code.
+const COLUMNS: [[Column; 3]; 24] = [
+    [First, Second, Nothing],
+    [First, Second, Nothing],
+    [First, Second, Nothing],
+    [First, Branch, Nothing],
+    [First, Branch, Nothing],
+    [First, Branch, Nothing],
+    [First, Branch, Nothing],
+    [First, Branch, Nothing],
+    [First, Branch, Nothing],
+    [First, Constant, Nothing],
+    [First, Second, Third],
+    [First, Third, Second],
+    [First, Nothing, Operand],
+    [First, Nothing, Nothing],
+    [First, Nothing, Nothing],
+    [Nothing, Nothing, First],
+    [Nothing, Nothing, First],
+    [First, Nothing, Second],
+    [Nothing, Second, First],
+    [First, Second, Third],
+    [First, Third, Second],
+    [Nothing, Nothing, Target],
+    [Nothing, Nothing, Nothing],
+    [First, Constant, Nothing],
 ];
 
-fn wide(x: u8) -> usize
-    ensures { (result ≡ x) × (result < 256) }
-{
-    x as usize
-}
-
-fn narrow(x: usize) -> u32
-    requires { x < 4294967296 }
-    ensures { result ≡ x }
-{
-    x as u32
-}
-
-// A branch's kind, counted from code 3 on.
-fn branch_kind(code: usize) -> usize
-    ensures { result ≡ code - 3 }
-{
-    if code < 3 {
-        return 0;
-    }
-    code - 3
-}
-
-// A constant's kind, counted from that of integers on.
-fn constant_kind(kind: usize) -> usize
-    ensures { result ≡ kind - 1 }
-{
-    if kind < 1 {
-        return 0;
-    }
-    kind - 1
+// The numbers that a row's columns are chosen from; the target is an instruction's position.
+#[derive(Clone, Copy)]
+struct Choices {
+    first: usize,
+    second: usize,
+    third: usize,
+    target: usize,
+    operand: usize,
+    branch: usize,
+    constant: usize,
 }
 
 // The form; a code past the table is that of `halt`.
@@ -109,41 +107,34 @@ fn form(code: usize, kind: usize) -> usize
     ensures { (result ≡ get_or (get_or forms code halts) kind 24) × (result < 256) }
 {
     if code < 24 {
-        return wide(FORMS[code][kind]);
+        usize::from(FORMS[code][kind])
+    } else {
+        23
     }
-    23
 }
 
-fn column(code: usize, i: usize) -> usize
+fn column_in(code: usize, i: usize) -> Column
     requires { i < 3 }
-    ensures { result ≡ get_or (get_or columns code []) i 0 }
+    ensures { column_number result ≡ get_or (get_or columns code []) i 0 }
 {
-    if code < 24 {
-        return wide(COLUMNS[code][i]);
-    }
-    0
+    if code < 24 { COLUMNS[code][i] } else { Nothing }
 }
 
-fn choose(k: usize, a: usize, b: usize, c: usize, t: usize, v: usize, o: usize, q: usize) -> usize
-    requires { Choices a b c t v o q }
-    ensures { (result ≡ chosen k a b c t v o q) × (result < 4294967296) }
+#[tactic(auto, unfolding(crate::specs::Plan::chosen))]
+fn choose(column: Column, n: Choices) -> u32
+    requires { Small n }
+    ensures { result ≡ chosen (column_number column) n.first n.second n.third n.target n.operand n.branch n.constant }
 {
-    match k {
-        1 => a,
-        2 => b,
-        3 => c,
-        4 => 8 * t,
-        5 => v,
-        6 => o,
-        7 => q,
-        _ => 0,
+    match column {
+        Nothing => 0,
+        First => n.first as u32,
+        Second => n.second as u32,
+        Third => n.third as u32,
+        Target => 8 * n.target as u32,
+        Operand => n.operand as u32,
+        Branch => n.branch as u32,
+        Constant => n.constant as u32,
     }
-}
-
-fn number_at(numbers: &[u32], i: usize) -> u32
-    ensures { result ≡ get_or numbers.now i 0 }
-{
-    if i < numbers.len() { numbers[i] } else { 0 }
 }
 
 // The form f, unless it goes to a label that is not there.
@@ -152,34 +143,31 @@ fn checked(f: usize, label: usize, labels: usize) -> usize
     ensures { (result ≡ cond (ltb label labels) f (cond (eqb f 4) 22 (cond (eqb f 7) 24 f))) × (result < 256) }
 {
     if label < labels {
-        return f;
-    }
-    match f {
-        4 => 22,
-        7 => 24,
-        _ => f,
+        f
+    } else {
+        match f {
+            4 => 22,
+            7 => 24,
+            _ => f,
+        }
     }
 }
 
 // A row's class: its form, if that is below 15.
+#[tactic(auto, unfolding(crate::specs::Plan::class_of))]
 fn class(f: usize) -> u32
     ensures { result ≡ class_of f }
 {
-    if f < 15 {
-        return f as u32;
-    }
-    15
+    f.min(15) as u32
 }
 
 // Column 5: the first goal of a branch; in a row of class 15 the form.
+#[tactic(auto, unfolding(crate::specs::Plan::fifth_of))]
 fn fifth(f: usize, goal: u32) -> u32
     requires { f < 256 }
     ensures { result ≡ fifth_of f goal }
 {
-    if f < 15 {
-        return goal;
-    }
-    f as u32
+    if f < 15 { goal } else { f as u32 }
 }
 
 // An integer that is to be taken away is added, negated.
@@ -187,23 +175,23 @@ fn added(kind: usize, number: u32) -> u32
     ensures { result ≡ added_of kind number }
 {
     if kind == 1 {
-        return exec_words::arith::compute(1, 0, number);
+        number.wrapping_neg()
+    } else {
+        number
     }
-    number
 }
 
 // How many operands `malloc` has, else the operand's number.
+#[tactic(auto, unfolding(crate::specs::Plan::last_of))]
 fn last(code: usize, kind: usize, operands: usize, number: u32) -> u32
     requires { operands < 65536 }
     ensures { result ≡ last_of code kind operands number }
 {
-    if code == 12 {
-        return operands as u32;
+    match code {
+        1 => added(kind, number),
+        12 => operands as u32,
+        _ => number,
     }
-    if code == 1 {
-        return added(kind, number);
-    }
-    number
 }
 
 // The row where a branch of that kind on x leads: that of position t, or the one after j.
@@ -211,42 +199,18 @@ fn goal(kind: usize, x: u32, t: usize, j: usize) -> u32
     requires { (t < 65536) × (j < 1024) }
     ensures { result ≡ 8 * cond (taken (branch_of kind) (sign_of x)) t (j + 1) }
 {
-    if exec_words::arith::branches(kind, x) {
-        return (8 * t) as u32;
+    if branches(kind, x) {
+        8 * t as u32
+    } else {
+        8 * (j + 1) as u32
     }
-    (8 * (j + 1)) as u32
 }
 
-fn put(plan: &mut [u32], p: usize, v: u32)
-    requires { p < length plan.old }
-    ensures { plan.new ≡ set plan.old p v }
-{
-    plan[p] = v;
-}
-
-fn put_row(
-    plan: &mut [u32],
-    p: usize,
-    f: u32,
-    x: u32,
-    y: u32,
-    z: u32,
-    n: u32,
-    negative: u32,
-    null: u32,
-    positive: u32,
-)
+fn put_row(plan: &mut [u32], p: usize, row: [u32; 8])
     requires { p + 8 ≤ length plan.old }
-    ensures { plan.new ≡ put_row plan.old p (f ∷ x ∷ y ∷ z ∷ n ∷ negative ∷ null ∷ positive ∷ []) }
+    ensures { plan.new ≡ put_row plan.old p row }
 {
-    put(plan, p, f);
-    put(plan, p + 1, x);
-    put(plan, p + 2, y);
-    put(plan, p + 3, z);
-    put(plan, p + 4, n);
-    put(plan, p + 5, negative);
-    put(plan, p + 6, null);
-    put(plan, p + 7, positive);
+    plan[p..p + 8].copy_from_slice(&row);
 }
 
 // The row of instruction j.
@@ -262,35 +226,34 @@ fn make_row(
     requires { (8 * j + 8 ≤ length plan.old) × (j < 1024) }
     ensures { (n : ℕ) → plan.new ≡ put_row plan.old (8 * j) (row_of (tables instrs.now operands.now bases.now blocks.now n labels) j) }
 {
-    let p = 8 * j;
-    let code = exec_words::memory::entry(instrs, 8, j, 0);
-    let a = exec_words::memory::entry(instrs, 8, j, 1);
-    let b = exec_words::memory::entry(instrs, 8, j, 2);
-    let c = exec_words::memory::entry(instrs, 8, j, 3);
-    let v = exec_words::memory::entry(instrs, 8, j, 5);
-    let m = exec_words::memory::entry(instrs, 8, j, 6);
-    let kind = exec_words::memory::base_kind(exec_words::memory::entry(operands, 4, v, 0));
-    let n = number_at(bases, v);
-    let label = exec_words::memory::wide(n);
-    let t = exec_words::memory::entry(blocks, 2, label, 1);
-    let o = branch_kind(code);
-    let q = constant_kind(kind);
-    let x = choose(column(code, 0), a, b, c, t, v, o, q);
-    let y = choose(column(code, 1), a, b, c, t, v, o, q);
-    let z = choose(column(code, 2), a, b, c, t, v, o, q);
+    let code = cell::<8>(instrs, j, 0);
+    let v = cell::<8>(instrs, j, 5);
+    let kind = base_kind(cell::<4>(operands, v, 0));
+    let n = entry_or(bases, v, 0);
+    let label = n as usize;
+    let choices = Choices {
+        first: cell::<8>(instrs, j, 1),
+        second: cell::<8>(instrs, j, 2),
+        third: cell::<8>(instrs, j, 3),
+        target: cell::<2>(blocks, label, 1),
+        operand: v,
+        branch: code.saturating_sub(3),
+        constant: kind.saturating_sub(1),
+    };
+    let t = choices.target;
+    let o = choices.branch;
     let f = checked(form(code, kind), label, labels);
-    put_row(
-        plan,
-        p,
+    let row = [
         class(f),
-        narrow(x),
-        narrow(y),
-        narrow(z),
-        last(code, kind, m, n),
+        choose(column_in(code, 0), choices),
+        choose(column_in(code, 1), choices),
+        choose(column_in(code, 2), choices),
+        last(code, kind, cell::<8>(instrs, j, 6), n),
         fifth(f, goal(o, 2147483648, t, j)),
         goal(o, 0, t, j),
         goal(o, 1, t, j),
-    );
+    ];
+    put_row(plan, 8 * j, row);
 }
 
 // The rows of all instructions, and behind them one that is stuck.
@@ -306,10 +269,8 @@ pub fn predecode(
     requires { (8 * count + 8 ≤ length plan.old) × (count ≤ 1024) }
     ensures { Plan (tables instrs.now operands.now bases.now blocks.now count labels) plan.new }
 {
-    let mut j = 0;
-    while j < count {
+    for j in 0..count {
         make_row(instrs, operands, bases, blocks, labels, j, plan);
-        j += 1;
     }
-    put_row(plan, 8 * count, 15, 0, 0, 0, 0, 24, 0, 0);
+    put_row(plan, 8 * count, [15, 0, 0, 0, 0, 24, 0, 0]);
 }

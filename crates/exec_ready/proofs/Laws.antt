@@ -2,6 +2,7 @@
 use Prim.Native.Nat.{ℕ, zero, suc, ◌+◌, ◌-◌, ◌≤◌, ◌<◌}
 use native.Mathlib.Omega.{arith}
 use native.Mathlib.Nat.{zero-add, add-zero}
+use native.Mathlib.Numerals.{add-one}
 use mathlib.Core.Path.{◌≡◌, refl, ap, ap₂, sym, subst, ◌∙◌}
 use mathlib.Core.Bool.{Bool, true, false, ◌&&◌, not, cond}
 use mathlib.Core.Option.{Option, none, some}
@@ -9,8 +10,17 @@ use mathlib.Core.List.{List, [], ◌∷◌, ◌++◌}
 use lib.Dec.{eqb, ltb}
 use lib.ListN.{length, replicate}
 use borrow.Author.Tests.{ne_eqb}
+use Rattle.std.specs.Prelude.{Option as CodeOption, Some, None, Ok, Err}
+use Rattle.faults.specs.declared.Fault.{Fault}
+use Rattle.faults.specs.Numbers.{number, fault_number}
+use Rattle.faults.proofs.Numbers.{number_above}
+use Rattle.image.specs.declared.Counts.{Counts}
+use Rattle.image.specs.declared.Places.{Places}
+use Rattle.image.specs.Sections.{Ordered, use_section, top_section}
+use Rattle.image.specs.Layout.{places_of}
+use Rattle.image.proofs.Laws.{ordered}
 use Rattle.syntax.specs.Syntax.{value, Instr}
-use Rattle.syntax.specs.Fault.{fault, number_of, given, Pass, Refusal, first_item, lowest, lowest_line, or_else, earliest}
+use Rattle.syntax.specs.Fault.{number_of, given, Pass, Refusal, first_item, lowest, lowest_line, or_else, earliest}
 use Rattle.syntax.proofs.Least.{least_of, Numbered, numbered_given, numbered_append, refuse_plain, line_next, line_here}
 use Rattle.text.specs.PassOne.{pass_one}
 use Rattle.types.specs.Types.{items, code, a_stack, Arg}
@@ -26,11 +36,13 @@ use Rattle.valid.proofs.Bare.{item_block}
 use Rattle.valid.specs.Verdict.{pass_two_of}
 use Rattle.exec.specs.Run.{wanted, barred}
 use Rattle.exec.proofs.Barred.{first_faults, entry_pass, barred_is}
-use Rattle.text_decode.specs.store.Store.{Store, row_table, operands_of}
-use Rattle.load.specs.declared.Loaded.{Loaded}
-use Rattle.load.specs.Loaded.{refusal_of as loadRefusal, IsLoaded, LoadIs}
+use Rattle.text_decode.specs.Decoded.{fits, refusal_at, Fitting}
+use Rattle.text_decode.specs.declared.state.Unread.{Unread}
+use Rattle.text_decode.specs.declared.state.Unread.TheVariants.{Unfit, Faulty}
+use Rattle.text_decode.specs.store.Store.{Store, row_table, operands_of, store_in, stored}
+use Rattle.load.specs.Loaded.{IsLoaded, LoadIs, uses_in, tops_in}
 use Rattle.exec_ready.specs.declared.Ready.{Ready}
-use Rattle.exec_ready.specs.Ready.{barred_at, refusal_of, ReadyIs}
+use Rattle.exec_ready.specs.Ready.{Startable, ReadyIs}
 use Rattle.exec_ready.proofs.Bodies.{represents_is}
 use Rattle.exec_ready.proofs.Few.{few_samples}
 use Rattle.exec_ready.proofs.Registers.{registers_low}
@@ -111,94 +123,95 @@ some_block_fault rows parts n c β f nb xs h ec e =
     let k : eqb nb 0 ≡ false = ne_eqb nb 0 h in
     rw k (e ∙ ap (λ (x : ℕ). least_of (block_faults true (block_of (type_at value (types_of (rows_in (tab rows parts) n)) x) xs))) ec)
 
+-- ---- a text that is not loaded may not be run, for the same reason
+pub unready : {R : Type 0} (text : List ℕ) (σ : Store) (uses tops ι os ns β : List ℕ) (e : Unread) → Fitting R (fits {A = Counts} (Err e)) (LoadIs text σ uses tops (Err e)) → Fitting R (fits {A = Ready} (Err e)) (ReadyIs text ι os ns β (Err e))
+unready text σ uses tops ι os ns β Unfit h = record { enough = h.enough; answered = λ w. cc }
+unready text σ uses tops ι os ns β (Faulty x) h = record {
+  enough = λ r. refl;
+  answered = λ w. let l = h.answered refl in record { fault = sym (barred_by_lem text (some (refusal_at x)) l.fault); startable = λ s z. cc };
+}
+
+-- ---- a text that is loaded, at the places of its image
+pub record LoadedAt (text : List ℕ) (p : Places) (l ns : List ℕ) (c : Counts) : Type 0 where
+  pub ordered : Ordered p (length l)
+  pub is : LoadIs text (store_in p l ns) (use_section p l) (top_section p l) (Ok c)
+
+pub loaded_at : (text : List ℕ) (p : Places) (l ns : List ℕ) (c : Counts) → p ≡ places_of (length l) → LoadIs text (stored l ns) (uses_in l) (tops_in l) (Ok c) → LoadedAt text p l ns c
+loaded_at text p l ns c e is = rw e (record { ordered = ordered (length l); is = is })
+
 -- ---- the first block of the tables
-named : (n line : ℕ) → (n ≡ 0 → ⊥) → refusal_of (barred_at n line) ≡ some (record { number = n; line = line; item = none })
-named n line h = let e : eqb n 0 ≡ false = ne_eqb n 0 h in rw e refl
+module _ (text : List ℕ) (σ : Store) (uses tops : List ℕ) (r : Counts) (l : LoadIs text σ uses tops (Ok r)) where
+  abbrev loaded : IsLoaded text σ uses tops r
+  loaded = l.loaded r refl
 
-module _ (text : List ℕ) (σ : Store) (uses tops : List ℕ) (r : Loaded) (l : LoadIs text σ uses tops r) where
-  -- a fault of passes one and two
-  pub bars_early : (out : Ready) (ι os ns β : List ℕ) → (r.fault ≡ 0 → ⊥) → out ≡ barred_at r.fault r.line → ReadyIs text ι os ns β out
-  bars_early out ι os ns β h o =
-      let e : eqb r.fault 0 ≡ false = ne_eqb r.fault 0 h in
-      let g : loadRefusal r ≡ some (record { number = r.fault; line = r.line; item = none }) = rw e refl in
-      record {
-        fault = ap refusal_of o ∙ named r.fault r.line h ∙ sym (barred_by_lem text _ (sym g ∙ l.fault));
-        startable = λ w. absurd (h (ap (λ (x : Ready). x.fault) (sym o) ∙ w));
-      }
+  abbrev P : Program
+  P = program_of text
 
-  module _ (z : r.fault ≡ 0) where
-    abbrev loaded : IsLoaded text σ uses tops r
-    loaded = l.loaded z
+  abbrev T : List Arg
+  T = types_of (rows_in (row_table σ) r.rows)
 
-    abbrev P : Program
-    P = program_of text
+  pub asks : (r.rows ≤ 512) × CountedTo (row_table σ) r.rows
+  asks = (loaded.few_rows, λ x h. counted_to (row_table σ) (r.rows + 2) loaded.counted x (omega arith))
 
-    abbrev T : List Arg
-    T = types_of (rows_in (row_table σ) r.rows)
+  types_count : length P.types ≡ r.rows
+  types_count = ap length loaded.holds.types ∙ length_types (row_table σ) r.rows
 
-    pub asks : (r.rows ≤ 512) × CountedTo (row_table σ) r.rows
-    asks = (loaded.few_rows, λ x h. counted_to (row_table σ) (r.rows + 2) loaded.counted x (omega arith))
+  blocks_are : P.blocks ≡ blocks_of T (blocks_from σ.blocks σ.instrs (operands_of σ) r.instrs 0 r.blocks)
+  blocks_are = unfold program_of program_from in ap₂ (λ rs ls. blocks_of (types_of rs) ls) (sym loaded.rows) (sym loaded.blocks)
 
-    types_count : length P.types ≡ r.rows
-    types_count = ap length loaded.holds.types ∙ length_types (row_table σ) r.rows
+  barred_line : barred text ≡ lowest_line (suc r.rows) (first_faults P.blocks ∷ [])
+  barred_line =
+      barred_by_lem text none l.fault ∙ ap (λ (n : ℕ). lowest_line (suc n) (first_faults P.blocks ∷ [])) types_count
 
-    blocks_are : P.blocks ≡ blocks_of T (blocks_from σ.blocks σ.instrs (operands_of σ) r.instrs 0 r.blocks)
-    blocks_are = unfold program_of program_from in ap₂ (λ rs ls. blocks_of (types_of rs) ls) (sym loaded.rows) (sym loaded.blocks)
+  -- f is what `first_fault` answers
+  module _ (o : CodeOption Fault) (ef : (xs : List Instr) → fault_number o ≡ cond (eqb r.blocks 0) 8 (least_of (block_faults true (block_of (type_at value (types_of (rows_in (row_table σ) r.rows)) (cell 2 σ.blocks 0 0)) xs)))) where
+    least_is : fault_number o ≡ least_of (first_faults P.blocks)
+    least_is = least_first T σ.blocks σ.instrs (operands_of σ) r.instrs r.blocks (fault_number o) ef ∙ ap (λ (Bs : List Block). least_of (first_faults Bs)) (sym blocks_are)
 
-    barred_line : barred text ≡ lowest_line (suc r.rows) (first_faults P.blocks ∷ [])
-    barred_line =
-        let g : loadRefusal r ≡ none = rw z refl in
-        barred_by_lem text none (sym g ∙ l.fault) ∙ ap (λ (n : ℕ). lowest_line (suc n) (first_faults P.blocks ∷ [])) types_count
+    pub bars_first : (f : Fault) (ι os ns β : List ℕ) → o ≡ Some f → ReadyIs text ι os ns β (Err (Faulty (record { fault = f; line = r.rows + 1 })))
+    bars_first f ι os ns β e =
+        let k = number_above f in
+        let w : number f ≡ least_of (first_faults P.blocks) = ap fault_number (sym e) ∙ least_is in
+        record {
+          fault = ap (λ (n : ℕ). some (record { number = number f; line = n; item = none })) (add-one r.rows) ∙ sym (barred_line ∙ line_fault_lem (suc r.rows) (number f) P.blocks w (λ z. omega arith));
+          startable = λ s z. cc;
+        }
 
-    -- f is what `first_fault` answers
-    module _ (f : ℕ) (ef : (xs : List Instr) → f ≡ cond (eqb r.blocks 0) 8 (least_of (block_faults true (block_of (type_at value (types_of (rows_in (row_table σ) r.rows)) (cell 2 σ.blocks 0 0)) xs)))) where
-      least_is : f ≡ least_of (first_faults P.blocks)
-      least_is = least_first T σ.blocks σ.instrs (operands_of σ) r.instrs r.blocks f ef ∙ ap (λ (Bs : List Block). least_of (first_faults Bs)) (sym blocks_are)
+    some_block : o ≡ None → 0 < r.blocks
+    some_block w = go r.blocks _ (ap fault_number (sym w) ∙ ef [])
+      where
+        go : (nb y : ℕ) → 0 ≡ cond (eqb nb 0) 8 y → 0 < nb
+        go zero y e = absurd (omega arith)
+        go (suc n) y e = omega arith
 
-      pub bars_first : (out : Ready) (ι os ns β : List ℕ) (line : ℕ) → line ≡ r.rows + 1 → (f ≡ 0 → ⊥) → out ≡ barred_at f line → ReadyIs text ι os ns β out
-      bars_first out ι os ns β line el h o =
-          let e : line ≡ suc r.rows = omega arith in
-          record {
-            fault = ap refusal_of o ∙ named f line h ∙ ap (λ (n : ℕ). some (record { number = f; line = n; item = none })) e ∙ sym (barred_line ∙ line_fault_lem (suc r.rows) f P.blocks least_is h);
-            startable = λ w. absurd (h (ap (λ (x : Ready). x.fault) (sym o) ∙ w));
-          }
+    wanted_is : (s : ℕ) → 0 < r.blocks → ((xs : List Instr) → s ≡ declared (block_of (type_at value T (cell 2 σ.blocks 0 0)) xs).regs) → s ≡ wanted P.blocks
+    wanted_is s h e = go r.blocks h ∙ ap wanted (sym blocks_are)
+      where
+        go : (nb : ℕ) → 0 < nb → s ≡ wanted (blocks_of T (blocks_from σ.blocks σ.instrs (operands_of σ) r.instrs 0 nb))
+        go zero k = absurd (omega arith)
+        go (suc zero) k = unfold blocks_of blocks_from wanted in e _
+        go (suc (suc n)) k = unfold blocks_of blocks_from wanted in e _
 
-      some_block : f ≡ 0 → 0 < r.blocks
-      some_block w = go r.blocks _ (ef [])
-        where
-          go : (nb y : ℕ) → f ≡ cond (eqb nb 0) 8 y → 0 < nb
-          go zero y e = absurd (omega arith)
-          go (suc n) y e = omega arith
-
-      wanted_is : (s : ℕ) → 0 < r.blocks → ((xs : List Instr) → s ≡ declared (block_of (type_at value T (cell 2 σ.blocks 0 0)) xs).regs) → s ≡ wanted P.blocks
-      wanted_is s h e = go r.blocks h ∙ ap wanted (sym blocks_are)
-        where
-          go : (nb : ℕ) → 0 < nb → s ≡ wanted (blocks_of T (blocks_from σ.blocks σ.instrs (operands_of σ) r.instrs 0 nb))
-          go zero k = absurd (omega arith)
-          go (suc zero) k = unfold blocks_of blocks_from wanted in e _
-          go (suc (suc n)) k = unfold blocks_of blocks_from wanted in e _
-
-      pub may_start : (s c : ℕ) → f ≡ 0 → c ≡ cell 2 σ.blocks 0 0 → ((xs : List Instr) → s ≡ declared
-          (block_of (type_at value (types_of (rows_in (row_table σ) r.rows)) c) xs).regs) → (out : Ready) → out ≡ record
-          { fits = true; fault = 0; line = 0; blocks = r.blocks; instrs = r.instrs; samples = s } → ReadyIs text σ.instrs
-          σ.operands σ.numbers σ.blocks out
-      may_start s c w ec ed out o =
-          let es : (xs : List Instr) → s ≡ declared (block_of (type_at value T (cell 2 σ.blocks 0 0)) xs).regs = λ xs. ed xs ∙ ap (λ (x : ℕ). declared (block_of (type_at value T x) xs).regs) ec in
-          let h = some_block w in
-          let few = few_samples (row_table σ) r.rows loaded.small_rows (cell 2 σ.blocks 0 0) [] in
-          subst (ReadyIs text σ.instrs σ.operands σ.numbers σ.blocks) (sym o) (record {
-            fault = sym (barred_line ∙ line_none (suc r.rows) f P.blocks least_is w);
-            startable = λ v. record {
-              args = σ.args;
-              represents = represents_is σ.instrs σ.operands σ.numbers σ.args σ.blocks r.instrs r.blocks (program_of text) T _ blocks_are refl h (loaded.first h) loaded.rising loaded.within;
-              samples = wanted_is s h es;
-              few = subst (λ (x : ℕ). x ≤ 16) (sym (es [])) few;
-              fit = record {
-                few = loaded.few_instrs;
-                registers = registers_low text σ.blocks σ.instrs σ.operands σ.numbers σ.args r.instrs r.blocks loaded.blocks h (loaded.first h);
-                room = loaded.room_operands;
-                starts = loaded.within;
-              };
-              room = loaded.room_instrs;
+    pub may_start : (s c : ℕ) → o ≡ None → c ≡ cell 2 σ.blocks 0 0 → ((xs : List Instr) → s ≡ declared
+        (block_of (type_at value (types_of (rows_in (row_table σ) r.rows)) c) xs).regs)
+        → ReadyIs text σ.instrs σ.operands σ.numbers σ.blocks (Ok (record { blocks = r.blocks; instrs = r.instrs; samples = s }))
+    may_start s c w ec ed =
+        let es : (xs : List Instr) → s ≡ declared (block_of (type_at value T (cell 2 σ.blocks 0 0)) xs).regs = λ xs. ed xs ∙ ap (λ (x : ℕ). declared (block_of (type_at value T x) xs).regs) ec in
+        let h = some_block w in
+        let few = few_samples (row_table σ) r.rows loaded.small_rows (cell 2 σ.blocks 0 0) [] in
+        record {
+          fault = sym (barred_line ∙ line_none (suc r.rows) (fault_number o) P.blocks least_is (ap fault_number w));
+          startable = λ v q. let u : record { blocks = r.blocks; instrs = r.instrs; samples = s } ≡ v = cc in subst (Startable P σ.instrs σ.operands σ.numbers σ.blocks) u (record {
+            args = σ.args;
+            represents = represents_is σ.instrs σ.operands σ.numbers σ.args σ.blocks r.instrs r.blocks (program_of text) T _ blocks_are refl h (loaded.first h) loaded.rising loaded.within;
+            samples = wanted_is s h es;
+            few = subst (λ (x : ℕ). x ≤ 16) (sym (es [])) few;
+            fit = record {
+              few = loaded.few_instrs;
+              registers = registers_low text σ.blocks σ.instrs σ.operands σ.numbers σ.args r.instrs r.blocks loaded.blocks h (loaded.first h);
+              room = loaded.room_operands;
+              starts = loaded.within;
             };
-          })
+            room = loaded.room_instrs;
+          });
+        }

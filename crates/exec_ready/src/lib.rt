@@ -7,6 +7,7 @@
 ghost use Rattle.std.specs.Prelude.{◌≡◌, true, cond, List, ◌≤◌, eqb, length};
 ghost use Rattle.syntax.specs.Syntax.{value, Instr};
 ghost use Rattle.syntax.proofs.Least.{least_of};
+ghost use Rattle.faults.specs.Numbers.{fault_number};
 ghost use Rattle.types.specs.Rows.{type_at, types_of};
 ghost use Rattle.tables.specs.Tables.{cell, rows_in};
 ghost use Rattle.types_rows.specs.Read.{tab, CountedTo};
@@ -15,57 +16,29 @@ ghost use Rattle.valid.specs.Rules.{declared};
 ghost use Rattle.valid.specs.PassThree.{block_faults};
 ghost use Rattle.valid_scope.specs.Scoped.{Scoped};
 ghost use Rattle.image.specs.Sections.{Ordered, row_section, block_section, part_section, use_section, top_section};
-ghost use Rattle.text_decode.specs.Decoded.{Fitting};
+ghost use Rattle.text_decode.specs.Decoded.{fits, Fitting};
 ghost use Rattle.load.specs.Loaded.{SpaceIn};
-ghost use Rattle.exec_ready.specs.Ready.{unfit_ready, barred_at, ReadyIn};
+ghost use Rattle.exec_ready.specs.Ready.{ReadyIn};
 
+use faults::{Fault, LineFault};
 use image::Places;
+use text_decode::state::Unread;
 
-// Whether the text fits the image; the fault that bars the program and its line, 0 and 0 for none; then how many blocks and instructions
-// there are, and how many samples are wanted.
+// How many blocks and instructions a text that may be run has, and how many samples it wants.
 #[derive(Clone, Copy)]
 pub struct Ready {
-    pub fits: bool,
-    pub fault: usize,
-    pub line: usize,
     pub blocks: usize,
     pub instrs: usize,
     pub samples: usize,
 }
 
-fn unfit() -> Ready
-    ensures { result ≡ unfit_ready }
-{
-    Ready {
-        fits: false,
-        fault: 0,
-        line: 0,
-        blocks: 0,
-        instrs: 0,
-        samples: 0,
-    }
-}
-
-fn barred(fault: usize, line: usize) -> Ready
-    ensures { result ≡ barred_at fault line }
-{
-    Ready {
-        fits: true,
-        fault,
-        line,
-        blocks: 0,
-        instrs: 0,
-        samples: 0,
-    }
-}
-
-// The least fault of the line of the first of nb blocks, 8 if there is no block; 0 for none.
-fn first_fault(image: &[u16], p: Places, n: usize, nb: usize) -> usize
+// The least fault of the line of the first of nb blocks, and no entry if there is no block.
+fn first_fault(image: &[u16], p: Places, n: usize, nb: usize) -> Option<Fault>
     requires { Ordered p (length image.now) × (n ≤ 512) × CountedTo (tab (row_section p image.now) (part_section p image.now)) n × Scoped (tab (row_section p image.now) (part_section p image.now)) n (use_section p image.now) (top_section p image.now) }
-    ensures { (xs : List Instr) → result ≡ cond (eqb nb 0) 8 (least_of (block_faults true (block_of (type_at value (types_of (rows_in (tab (row_section p image.now) (part_section p image.now)) n)) (cell 2 (block_section p image.now) 0 0)) xs))) }
+    ensures { (xs : List Instr) → fault_number result ≡ cond (eqb nb 0) 8 (least_of (block_faults true (block_of (type_at value (types_of (rows_in (tab (row_section p image.now) (part_section p image.now)) n)) (cell 2 (block_section p image.now) 0 0)) xs))) }
 {
     if nb == 0 {
-        return 8;
+        return Some(Fault::NoEntry);
     }
     let rows = p.rows;
     let blocks = p.blocks;
@@ -75,7 +48,7 @@ fn first_fault(image: &[u16], p: Places, n: usize, nb: usize) -> usize
     let uses = p.uses;
     let tops = p.tops;
     let shared = p.shared;
-    let c = types_rows::at(&image[blocks..instrs], 0);
+    let c = tables::at(&image[blocks..instrs], 0);
     valid_scope::entry::block_fault(
         &image[rows..blocks],
         &image[parts..operands],
@@ -97,33 +70,25 @@ fn samples_wanted(image: &[u16], p: Places, n: usize) -> usize
     let instrs = p.instrs;
     let parts = p.parts;
     let operands = p.operands;
-    let c = types_rows::at(&image[blocks..instrs], 0);
+    let c = tables::at(&image[blocks..instrs], 0);
     valid_scope::entry::sample_count(&image[rows..blocks], &image[parts..operands], n, c)
 }
 
 // Load the text into the image, and say what bars the program, or else how many samples it wants.
-pub fn make_ready(text: &[u8], image: &mut [u16], numbers: &mut [u32]) -> Ready
-    ensures { Fitting (SpaceIn image.old numbers.old) result.fits (ReadyIn text.now image.new numbers.new result) }
+pub fn make_ready(text: &[u8], image: &mut [u16], numbers: &mut [u32]) -> Result<Ready, Unread>
+    ensures { Fitting (SpaceIn image.old numbers.old) (fits result) (ReadyIn text.now image.new numbers.new result) }
 {
-    let r = load::load(text, image, numbers);
-    if !r.fits {
-        return unfit();
-    }
-    let fault = r.fault;
-    if fault != 0 {
-        return barred(fault, r.line);
-    }
+    let c = load::load(text, image, numbers)?;
     let p = image::lay_out(image.len());
-    let first = first_fault(image, p, r.rows, r.blocks);
-    if first != 0 {
-        return barred(first, r.rows + 1);
+    if let Some(fault) = first_fault(image, p, c.rows, c.blocks) {
+        return Err(Unread::Faulty(LineFault {
+            fault,
+            line: c.rows + 1,
+        }));
     }
-    Ready {
-        fits: true,
-        fault: 0,
-        line: 0,
-        blocks: r.blocks,
-        instrs: r.instrs,
-        samples: samples_wanted(image, p, r.rows),
-    }
+    Ok(Ready {
+        blocks: c.blocks,
+        instrs: c.instrs,
+        samples: samples_wanted(image, p, c.rows),
+    })
 }

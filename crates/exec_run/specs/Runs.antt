@@ -1,19 +1,23 @@
 -- What the code answers for a run, as a run of crate exec, and what is asked of the run.
-use Rattle.std.specs.Prelude.{ℕ, ◌+◌, ◌*◌, ◌≤◌, List, length}
+use Rattle.std.specs.Prelude.{ℕ, ◌+◌, ◌*◌, ◌≤◌, List, length, Option, Some, None}
 use Rattle.exec.specs.Machine.{State, Bodies}
-use Rattle.exec.specs.Run.{Ran, paused, stopped, run}
+use Rattle.exec.specs.Run.{End, Ran, paused, stopped, run}
 use Rattle.exec_machine.specs.declared.Place.{Place}
+use Rattle.exec_machine.specs.declared.Stop.{Stop}
 use Rattle.exec_machine.specs.Step.{Tables, stop_is, state_of}
 use Rattle.exec_machine.specs.Represents.{Represents, Fit}
 use Rattle.exec_plan.specs.Plan.{Plan}
 use Rattle.exec_step.specs.moved.Stepped.{Inside}
-use Rattle.exec_run.specs.declared.Outcome.{Outcome}
-use Rattle.exec_run.specs.declared.Outcome.TheVariants.{Paused, Ended}
+use Rattle.exec_run.specs.declared.Ran.{Ran as Made}
+
+-- how a run ends: a pause, or the reason for which it stops
+abbrev pub end_is : Option Stop → End
+end_is None = paused
+end_is (Some s) = stopped (stop_is s)
 
 -- the answer, with the words that it left
-abbrev pub ran_is : Outcome → List ℕ → List ℕ → List ℕ → List ℕ → List ℕ → List ℕ → Ran State
-ran_is (Paused n p) rk rn sk sn hk hn = record { end = paused; steps = n; state = state_of rk rn sk sn hk hn p }
-ran_is (Ended s n p) rk rn sk sn hk hn = record { end = stopped (stop_is s); steps = n; state = state_of rk rn sk sn hk hn p }
+abbrev pub ran_is : Made → List ℕ → List ℕ → List ℕ → List ℕ → List ℕ → List ℕ → Ran State
+ran_is r rk rn sk sn hk hn = record { end = end_is r.stop; steps = r.steps; state = state_of rk rn sk sn hk hn r.place }
 
 -- k steps were made before
 abbrev pub later : ℕ → Ran State → Ran State

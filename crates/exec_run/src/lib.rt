@@ -14,13 +14,14 @@ ghost use Rattle.exec_step.specs.moved.Stepped.{Words};
 ghost use Rattle.exec_run.specs.Runs.{ran_is, Safe, Roomy, Planned, PlaceIn};
 
 use exec_machine::{Place, Stop};
-use exec_step::moved::Moved;
+use exec_step::moved::{Moved, Turn};
 
-// How a run ends, with the steps made and the place reached.
+// Why a run stops, or none if it pauses, with the steps made and the place reached.
 #[derive(Clone, Copy)]
-pub enum Outcome {
-    Paused(usize, Place),
-    Ended(Stop, usize, Place),
+pub struct Ran {
+    pub stop: Option<Stop>,
+    pub steps: usize,
+    pub place: Place,
 }
 
 // The place whose row stands at `at` in the table.
@@ -50,6 +51,7 @@ fn made(budget: usize, left: usize) -> usize
 }
 
 // The run by the table's rows. A stop comes first, whatever is left of the budget.
+// Kept: a `loop`, not a `for` over the budget, since the last turn is made with none left.
 fn run_rows(
     instrs: &[u16],
     operands: &[u16],
@@ -66,31 +68,43 @@ fn run_rows(
     hn: &mut [u32],
     p: Place,
     budget: usize,
-) -> Outcome
+) -> Ran
     requires { Planned (tables instrs.now operands.now bases.now blocks.now count labels) plan.now × Words rk.old rn.old sk.old sn.old hk.old hn.old × PlaceIn p count × Safe (tables instrs.now operands.now bases.now blocks.now count labels) (state_of rk.old rn.old sk.old sn.old hk.old hn.old p) }
     ensures { (args : List ℕ) (P : Bodies) → Represents (tables instrs.now operands.now bases.now blocks.now count labels) args P → ran_is result rk.new rn.new sk.new sn.new hk.new hn.new ≡ run P budget (state_of rk.old rn.old sk.old sn.old hk.old hn.old p) }
 {
     let mut left = budget;
     let mut at = 8 * p.position;
-    let mut h = p.depth;
-    let mut u = p.used;
+    let mut depth = p.depth;
+    let mut used = p.used;
     loop {
-        let more = any_left(left);
-        let moved = exec_step::step(
-            plan, blocks, operands, bases, labels, rk, rn, sk, sn, hk, hn, at, h, u, more,
-        );
-        match moved {
-            Moved::To(to, depth, used) => {
+        let turn = Turn {
+            at,
+            depth,
+            used,
+            more: any_left(left),
+        };
+        match exec_step::step(
+            plan, blocks, operands, bases, labels, rk, rn, sk, sn, hk, hn, turn,
+        ) {
+            Moved::To(to, h, u) => {
                 at = to;
-                h = depth;
-                u = used;
+                depth = h;
+                used = u;
                 left -= 1;
             }
             Moved::Paused => {
-                return Outcome::Paused(made(budget, left), place(at, h, u));
+                return Ran {
+                    stop: None,
+                    steps: made(budget, left),
+                    place: place(at, depth, used),
+                };
             }
             Moved::Ended(s) => {
-                return Outcome::Ended(s, made(budget, left), place(at, h, u));
+                return Ran {
+                    stop: Some(s),
+                    steps: made(budget, left),
+                    place: place(at, depth, used),
+                };
             }
         }
     }
@@ -113,7 +127,7 @@ pub fn run(
     hn: &mut [u32],
     p: Place,
     budget: usize,
-) -> Outcome
+) -> Ran
     requires { Roomy (tables instrs.now operands.now bases.now blocks.now count labels) plan.old × Words rk.old rn.old sk.old sn.old hk.old hn.old × PlaceIn p count × Safe (tables instrs.now operands.now bases.now blocks.now count labels) (state_of rk.old rn.old sk.old sn.old hk.old hn.old p) }
     ensures { (args : List ℕ) (P : Bodies) → Represents (tables instrs.now operands.now bases.now blocks.now count labels) args P → ran_is result rk.new rn.new sk.new sn.new hk.new hn.new ≡ run P budget (state_of rk.old rn.old sk.old sn.old hk.old hn.old p) }
 {

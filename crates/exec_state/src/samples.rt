@@ -5,8 +5,6 @@ ghost use Rattle.syntax.specs.Partial.{guarded};
 ghost use Rattle.text.specs.Samples.{samples_of};
 ghost use Rattle.exec_state.specs.samples.Counted.{exactly};
 
-use text_fields::numbers::Number;
-
 // The samples, one to a line. Reading stops at the first line that is malformed or one too many.
 pub fn read_samples(text: &[u8], want: usize, out: &mut [u32]) -> bool
     requires { want ≤ length out.old }
@@ -14,6 +12,7 @@ pub fn read_samples(text: &[u8], want: usize, out: &mut [u32]) -> bool
 {
     let mut at = 0;
     let mut n = 0;
+    // Kept: a `while`. Lines are of any length, and the first that is malformed ends the walk.
     while at < text.len() {
         let e = text_lines::line_end(text, at);
         if text.len() <= e {
@@ -22,17 +21,12 @@ pub fn read_samples(text: &[u8], want: usize, out: &mut [u32]) -> bool
         if want <= n {
             return false;
         }
-        let x = text_fields::numbers::literal(&text[at..e]);
-        match x {
-            Number::Value(v) => {
-                out[n] = v;
-                n += 1;
-                at = e + 1;
-            }
-            Number::Bad => {
-                return false;
-            }
-        }
+        let Some(v) = text_fields::numbers::literal(&text[at..e]) else {
+            return false;
+        };
+        out[n] = v;
+        n += 1;
+        at = e + 1;
     }
     n == want
 }

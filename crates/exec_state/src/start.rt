@@ -8,7 +8,7 @@ ghost use Rattle.exec_words.specs.memory.Lent.{lent};
 ghost use Rattle.exec_machine.specs.Step.{state_of};
 
 use exec_machine::Place;
-use exec_words::memory::Word;
+use exec_words::memory::{INT, TUPLE, Word, put, put_junk};
 
 // "r1 its handle, other registers junk"
 fn set_registers(rk: &mut [u8], rn: &mut [u32])
@@ -16,11 +16,11 @@ fn set_registers(rk: &mut [u8], rn: &mut [u32])
     ensures { lent rk.new rn.new ≡ puts (lent rk.old rn.old) 0 (handle 0 ∷ junk_word ∷ junk_word ∷ junk_word ∷ junk_word ∷ junk_word ∷ junk_word ∷ junk_word ∷ []) }
 {
     let w = Word {
-        kind: exec_words::memory::TUPLE,
+        kind: TUPLE,
         number: 0,
     };
-    exec_words::memory::put(rk, rn, 0, w);
-    exec_words::memory::put_junk(rk, rn, 1, 7);
+    put(rk, rn, 0, w);
+    put_junk(rk, rn, 1, 7);
 }
 
 // "samples form the first tuple"
@@ -29,18 +29,16 @@ fn set_tuple(samples: &[u32], hk: &mut [u8], hn: &mut [u32])
     ensures { lent hk.new hn.new ≡ puts (lent hk.old hn.old) 0 (integer (length samples.now) ∷ map integer samples.now) }
 {
     let w = Word {
-        kind: exec_words::memory::INT,
+        kind: INT,
         number: samples.len() as u32,
     };
-    exec_words::memory::put(hk, hn, 0, w);
-    let mut i = 0;
-    while i < samples.len() {
-        let x = Word {
-            kind: exec_words::memory::INT,
-            number: samples[i],
+    put(hk, hn, 0, w);
+    for (i, x) in samples.iter().enumerate() {
+        let w = Word {
+            kind: INT,
+            number: *x,
         };
-        i += 1;
-        exec_words::memory::put(hk, hn, i, x);
+        put(hk, hn, i + 1, w);
     }
 }
 

@@ -7,6 +7,7 @@ ghost use Rattle.tables.specs.Tables.{cell, operand_at};
 ghost use Rattle.exec_words.specs.memory.Lent.{word_is, lent, operand_table, base_kind, KindOf, tuple_of, Sourced, Long, WordAt, OperandAt};
 
 // The kinds of words: an integer.
+// Kept: kinds are numbers, since lent words hold any byte, and `at` says each of them as it stands.
 pub const INT: u8 = 0;
 
 // A label.
@@ -28,54 +29,13 @@ pub struct Word {
     pub number: u32,
 }
 
-// A number of 32 bits, as an index.
-pub fn wide(x: u32) -> usize
-    ensures { (result ≡ x) × (result < 4294967296) }
-{
-    x as usize
-}
-
-fn wide16(x: u16) -> usize
-    ensures { (result ≡ x) × (result < 65536) }
-{
-    x as usize
-}
-
-fn kind_at(kinds: &[u8], i: usize) -> u8
-    ensures { result ≡ slice_index_or kinds.now i junk_kind }
-{
-    if i < kinds.len() { kinds[i] } else { JUNK }
-}
-
-fn number_at(numbers: &[u32], i: usize) -> u32
-    ensures { result ≡ slice_index numbers.now i }
-{
-    if i < numbers.len() { numbers[i] } else { 0 }
-}
-
 // The word at i.
 pub fn at(kinds: &[u8], numbers: &[u32], i: usize) -> Word
     ensures { word_is result ≡ at (lent kinds.now numbers.now) i }
 {
     Word {
-        kind: kind_at(kinds, i),
-        number: number_at(numbers, i),
-    }
-}
-
-fn put_kind(kinds: &mut [u8], i: usize, k: u8)
-    ensures { kinds.new ≡ set_at kinds.old i k }
-{
-    if i < kinds.len() {
-        kinds[i] = k;
-    }
-}
-
-fn put_number(numbers: &mut [u32], i: usize, n: u32)
-    ensures { numbers.new ≡ set_at numbers.old i n }
-{
-    if i < numbers.len() {
-        numbers[i] = n;
+        kind: tables::entry_or(kinds, i, JUNK),
+        number: tables::entry_or(numbers, i, 0),
     }
 }
 
@@ -83,8 +43,8 @@ fn put_number(numbers: &mut [u32], i: usize, n: u32)
 pub fn put(kinds: &mut [u8], numbers: &mut [u32], i: usize, w: Word)
     ensures { lent kinds.new numbers.new ≡ put (lent kinds.old numbers.old) i (word_is w) }
 {
-    put_kind(kinds, i, w.kind);
-    put_number(numbers, i, w.number);
+    tables::put(kinds, i, w.kind);
+    tables::put(numbers, i, w.number);
 }
 
 // The word at i, which is lent.
@@ -112,35 +72,14 @@ pub fn put_junk(kinds: &mut [u8], numbers: &mut [u32], from: u32, n: u32)
     requires { (from + n ≤ length kinds.old) × (from + n ≤ length numbers.old) }
     ensures { lent kinds.new numbers.new ≡ puts (lent kinds.old numbers.old) from (replicate n junk_word) }
 {
-    let start = wide(from);
-    let count = wide(n);
-    let mut i = 0;
-    while i < count {
-        set(
-            kinds,
-            numbers,
-            start + i,
-            Word {
-                kind: JUNK,
-                number: 0,
-            },
-        );
-        i += 1;
+    let start = from as usize;
+    let junk = Word {
+        kind: JUNK,
+        number: 0,
+    };
+    for i in 0..n as usize {
+        set(kinds, numbers, start + i, junk);
     }
-}
-
-// Entry k of the record i in a table whose records have that many entries.
-pub fn entry(table: &[u16], width: usize, i: usize, k: usize) -> usize
-    requires { (k < width) × (width ≤ 8) }
-    ensures { (result ≡ cell width table.now i k) × (result < 65536) }
-{
-    if i <= table.len() / width {
-        let j = width * i + k;
-        if j < table.len() {
-            return wide16(table[j]);
-        }
-    }
-    0
 }
 
 // The kind of an operand's base, from the operand's: 0 register, 1 integer, past that label. A package has its base's kind and 4, which
@@ -155,44 +94,20 @@ fn plain_kind(k: usize) -> usize
 pub fn base_kind(k: usize) -> usize
     ensures { (result ≡ base_kind k) × (result < 3) }
 {
-    let b = plain_kind(k);
-    if b < 2 { b } else { 2 }
+    plain_kind(k).min(2)
 }
 
-// Write at i the word that operand v stands for: a register's, an integer or a label; a package is its base. Its base's number stands in
-// `bases`.
-fn put_operand(
-    kinds: &mut [u8],
-    numbers: &mut [u32],
-    i: usize,
-    operands: &[u16],
-    bases: &[u32],
-    rk: &[u8],
-    rn: &[u32],
-    v: usize,
-)
-    requires { WordAt i kinds.old numbers.old × Long 8 rk.now rn.now × OperandAt operands.now bases.now v }
-    ensures { lent kinds.new numbers.new ≡ put (lent kinds.old numbers.old) i (word_of (lent rk.now rn.now) (operand_at (operand_table operands.now bases.now) v)) }
+// The word that operand v stands for: a register's, an integer or a label; a package is its base. Its base's number stands in `bases`.
+fn operand_word(operands: &[u16], bases: &[u32], rk: &[u8], rn: &[u32], v: usize) -> Word
+    requires { Long 8 rk.now rn.now × OperandAt operands.now bases.now v }
+    ensures { word_is result ≡ word_of (lent rk.now rn.now) (operand_at (operand_table operands.now bases.now) v) }
 {
-    let k = plain_kind(wide16(operands[4 * v]));
-    let m = bases[v];
-    if k == 0 {
-        set(kinds, numbers, i, get(rk, rn, wide(m)));
-        return;
+    let number = bases[v];
+    match plain_kind(usize::from(operands[4 * v])) {
+        0 => get(rk, rn, number as usize),
+        1 => Word { kind: INT, number },
+        _ => Word { kind: CODE, number },
     }
-    if k == 1 {
-        let w = Word {
-            kind: INT,
-            number: m,
-        };
-        set(kinds, numbers, i, w);
-        return;
-    }
-    let w = Word {
-        kind: CODE,
-        number: m,
-    };
-    set(kinds, numbers, i, w);
 }
 
 // A tuple at the start of the words lent: its length word, then the words of n operands from v on.
@@ -209,21 +124,15 @@ fn write_tuple(
     requires { WordAt n kinds.old numbers.old × Long 8 rk.now rn.now × Sourced operands.now bases.now v n }
     ensures { lent kinds.new numbers.new ≡ puts (lent kinds.old numbers.old) 0 (tuple_of (operand_table operands.now bases.now) (lent rk.now rn.now) v n) }
 {
-    let first = wide(v);
-    let count = wide(n);
-    set(
-        kinds,
-        numbers,
-        0,
-        Word {
-            kind: INT,
-            number: n,
-        },
-    );
-    let mut i = 0;
-    while i < count {
-        put_operand(kinds, numbers, i + 1, operands, bases, rk, rn, first + i);
-        i += 1;
+    let first = v as usize;
+    let length = Word {
+        kind: INT,
+        number: n,
+    };
+    set(kinds, numbers, 0, length);
+    for i in 0..n as usize {
+        let w = operand_word(operands, bases, rk, rn, first + i);
+        set(kinds, numbers, i + 1, w);
     }
 }
 
@@ -242,6 +151,6 @@ pub fn put_tuple(
     requires { WordAt (used + n) hk.old hn.old × Long 8 rk.now rn.now × Sourced operands.now bases.now v n }
     ensures { lent hk.new hn.new ≡ puts (lent hk.old hn.old) used (tuple_of (operand_table operands.now bases.now) (lent rk.now rn.now) v n) }
 {
-    let a = wide(used);
+    let a = used as usize;
     write_tuple(&mut hk[a..], &mut hn[a..], operands, bases, rk, rn, v, n);
 }

@@ -9,6 +9,7 @@ ghost use Rattle.exec_outcome.specs.Answers.{outcome_is};
 ghost use Rattle.image.specs.Enough.{enough, Left};
 ghost use Rattle.exec_call.specs.Tries.{starting_in, continuing_in};
 
+use exec_call::Call;
 use exec_machine::Place;
 use exec_outcome::Outcome;
 
@@ -31,7 +32,19 @@ pub fn start(
     ensures { (outcome_is result rk.new rn.new sk.new sn.new hk.new hn.new ≡ starting_in (enough (length image.old) (length numbers.old) (length plan.old)) text.now samples.now budget (state_of rk.old rn.old sk.old sn.old hk.old hn.old place)) × Left {A = List ℕ × List ℕ × List ℕ} (enough (length image.old) (length numbers.old) (length plan.old)) (image.old, numbers.old, plan.old) (image.new, numbers.new, plan.new) }
 {
     exec_call::lent::call(
-        true, text, samples, budget, image, numbers, plan, rk, rn, sk, sn, hk, hn, place,
+        Call::Start(samples),
+        text,
+        budget,
+        image,
+        numbers,
+        plan,
+        rk,
+        rn,
+        sk,
+        sn,
+        hk,
+        hn,
+        place,
     )
 }
 
@@ -53,9 +66,8 @@ pub fn resume(
     ensures { (outcome_is result rk.new rn.new sk.new sn.new hk.new hn.new ≡ continuing_in (enough (length image.old) (length numbers.old) (length plan.old)) text.now budget (state_of rk.old rn.old sk.old sn.old hk.old hn.old place)) × Left {A = List ℕ × List ℕ × List ℕ} (enough (length image.old) (length numbers.old) (length plan.old)) (image.old, numbers.old, plan.old) (image.new, numbers.new, plan.new) }
 {
     exec_call::lent::call(
-        false,
+        Call::Continue,
         text,
-        &text[..0],
         budget,
         image,
         numbers,

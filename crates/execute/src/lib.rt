@@ -12,6 +12,7 @@ ghost use Rattle.exec.specs.Run.{starting, continuing};
 ghost use Rattle.exec_machine.specs.Step.{state_of};
 ghost use Rattle.exec_outcome.specs.Answers.{outcome_is};
 
+use exec_call::Call;
 use exec_machine::Place;
 use exec_outcome::Outcome;
 
@@ -30,7 +31,18 @@ pub fn start(
 ) -> Outcome
     ensures { outcome_is result rk.new rn.new sk.new sn.new hk.new hn.new ≡ starting text.now samples.now budget (state_of rk.old rn.old sk.old sn.old hk.old hn.old place) }
 {
-    exec_call::attempt::call(true, text, samples, budget, rk, rn, sk, sn, hk, hn, place)
+    exec_call::attempt::call(
+        Call::Start(samples),
+        text,
+        budget,
+        rk,
+        rn,
+        sk,
+        sn,
+        hk,
+        hn,
+        place,
+    )
 }
 
 // Go on from the lent state: the program's faults, then 16, else at most `budget` steps. No samples are read.
@@ -47,17 +59,5 @@ pub fn resume(
 ) -> Outcome
     ensures { outcome_is result rk.new rn.new sk.new sn.new hk.new hn.new ≡ continuing text.now budget (state_of rk.old rn.old sk.old sn.old hk.old hn.old place) }
 {
-    exec_call::attempt::call(
-        false,
-        text,
-        &text[..0],
-        budget,
-        rk,
-        rn,
-        sk,
-        sn,
-        hk,
-        hn,
-        place,
-    )
+    exec_call::attempt::call(Call::Continue, text, budget, rk, rn, sk, sn, hk, hn, place)
 }

@@ -7,21 +7,12 @@ ghost use Rattle.image.specs.Enough.{enough, enough_to_check};
 pub fn is_enough(image: usize, numbers: usize, plan: usize) -> bool
     ensures { result ≡ enough image numbers plan }
 {
-    if image < 161694 {
-        return false;
-    }
-    if numbers < 16400 {
-        return false;
-    }
-    8208 <= plan
+    161694 <= image && 16400 <= numbers && 8208 <= plan
 }
 
 // To check every text.
 pub fn is_enough_to_check(image: usize, numbers: usize, plan: usize, work: usize) -> bool
     ensures { result ≡ enough_to_check image numbers plan work }
 {
-    if is_enough(image, numbers, plan) {
-        return 8192 <= work;
-    }
-    false
+    is_enough(image, numbers, plan) && 8192 <= work
 }

@@ -6,7 +6,7 @@
 pub mod lent;
 
 ghost use Rattle.std.specs.Prelude.{◌≡◌};
-ghost use Rattle.image.specs.Layout.{places_of, no_places, small_places, small_shared_places, large_places, large_shared_places};
+ghost use Rattle.image.specs.Layout.{places_of};
 
 // Where each section starts; it ends where the next starts.
 #[derive(Clone, Copy)]
@@ -32,111 +32,68 @@ pub struct Counts {
     pub instrs: usize,
 }
 
-fn no_places() -> Places
-    ensures { result ≡ no_places }
-{
-    Places {
-        rows: 0,
-        blocks: 0,
-        instrs: 0,
-        parts: 0,
-        operands: 0,
-        args: 0,
-        uses: 0,
-        tops: 0,
-        shared: 0,
-        slots: 0,
-        end: 0,
-    }
-}
+// Too short for any text.
+const NO_PLACES: Places = Places {
+    rows: 0,
+    blocks: 0,
+    instrs: 0,
+    parts: 0,
+    operands: 0,
+    args: 0,
+    uses: 0,
+    tops: 0,
+    shared: 0,
+    slots: 0,
+    end: 0,
+};
 
-fn small_places() -> Places
-    ensures { result ≡ small_places }
-{
-    Places {
-        rows: 0,
-        blocks: 144,
-        instrs: 274,
-        parts: 978,
-        operands: 1573,
-        args: 1957,
-        uses: 2213,
-        tops: 4389,
-        shared: 4423,
-        slots: 4423,
-        end: 4423,
-    }
-}
+// For small texts.
+const SMALL: Places = Places {
+    rows: 0,
+    blocks: 144,
+    instrs: 274,
+    parts: 978,
+    operands: 1573,
+    args: 1957,
+    uses: 2213,
+    tops: 4389,
+    shared: 4423,
+    slots: 4423,
+    end: 4423,
+};
 
-fn small_shared_places() -> Places
-    ensures { result ≡ small_shared_places }
-{
-    Places {
-        rows: 0,
-        blocks: 144,
-        instrs: 274,
-        parts: 978,
-        operands: 1573,
-        args: 1957,
-        uses: 2213,
-        tops: 4389,
-        shared: 4423,
-        slots: 4567,
-        end: 5162,
-    }
-}
-
-fn large_places() -> Places
-    ensures { result ≡ large_places }
-{
-    Places {
-        rows: 0,
-        blocks: 2056,
-        instrs: 2186,
-        parts: 10386,
-        operands: 19124,
-        args: 84724,
-        uses: 117620,
-        tops: 150388,
-        shared: 150900,
-        slots: 150900,
-        end: 150900,
-    }
-}
-
-fn large_shared_places() -> Places
-    ensures { result ≡ large_shared_places }
-{
-    Places {
-        rows: 0,
-        blocks: 2056,
-        instrs: 2186,
-        parts: 10386,
-        operands: 19124,
-        args: 84724,
-        uses: 117620,
-        tops: 150388,
-        shared: 150900,
-        slots: 152956,
-        end: 161694,
-    }
-}
+// For every text.
+const LARGE: Places = Places {
+    rows: 0,
+    blocks: 2056,
+    instrs: 2186,
+    parts: 10386,
+    operands: 19124,
+    args: 84724,
+    uses: 117620,
+    tops: 150388,
+    shared: 150900,
+    slots: 150900,
+    end: 150900,
+};
 
 // The places in an image of length n.
 pub fn lay_out(n: usize) -> Places
     ensures { result ≡ places_of n }
 {
-    if n < 4423 {
-        return no_places();
+    match n {
+        ..4423 => NO_PLACES,
+        4423..5162 => SMALL,
+        5162..150900 => Places {
+            slots: 4567,
+            end: 5162,
+            ..SMALL
+        },
+        150900..161694 => LARGE,
+        _ => Places {
+            slots: 152956,
+            end: 161694,
+            ..LARGE
+        },
     }
-    if n < 5162 {
-        return small_places();
-    }
-    if n < 150900 {
-        return small_shared_places();
-    }
-    if n < 161694 {
-        return large_places();
-    }
-    large_shared_places()
 }

@@ -1,13 +1,13 @@
 -- What the passes leave, put together.
-use Prim.Native.Nat.{ℕ, zero, suc, ◌+◌, ◌-◌, ◌*◌, ◌≤◌, ◌<◌}
+use Prim.Native.Nat.{ℕ, zero, suc, ◌-◌, ◌*◌, ◌≤◌, ◌<◌}
 use native.Mathlib.Omega.{arith}
 use mathlib.Core.Path.{◌≡◌, refl, ap, ap₂, sym, subst, ◌∙◌}
 use mathlib.Core.Bool.{Bool, true, false}
-use mathlib.Core.Option.{Option, none, some}
+use mathlib.Core.Option.{Option, none}
 use mathlib.Core.List.{List, [], ◌∷◌, ◌++◌}
-use lib.Dec.{eqb, ltb}
+use lib.Dec.{ltb}
 use lib.ListN.{length, replicate, length-replicate}
-use borrow.Author.Tests.{ne_eqb, ltb-true, ltb-false}
+use borrow.Author.Tests.{ltb-true, ltb-false}
 use Rattle.syntax.specs.Syntax.{Row, Entry}
 use Rattle.syntax.specs.Fault.{Refusal, Pass, Clear, lowest_line, or_else, earliest}
 use Rattle.text.specs.PassOne.{Listing, pass_one, entries_of, rows_of, listings_of}
@@ -19,56 +19,40 @@ use Rattle.types_rows.specs.Clear.{RowsClear}
 use Rattle.valid.specs.Program.{program_of, program_from, blocks_of}
 use Rattle.valid.specs.Verdict.{pass_two_of}
 use Rattle.valid.proofs.Clear.{earliest_clear, clear_split}
-use Rattle.types_pass_two.specs.declared.refs.Found.{Found}
+use Rattle.std.specs.Prelude.{Option as CodeOption, Some, None, Ok, Err}
+use Rattle.faults.specs.declared.LineFault.{LineFault}
 use Rattle.types_pass_two.specs.refs.Refs.{Rising, refusal_of as found_refusal}
 use Rattle.types_pass_two.proofs.refs.Lines.{entries_rows}
+use Rattle.image.specs.declared.Counts.{Counts}
 use Rattle.image.specs.declared.Places.{Places}
 use Rattle.image.specs.Sections.{Ordered, row_section, block_section, instr_section, part_section, use_section, top_section}
 use Rattle.image.specs.Layout.{places_of, large_places, large_shared_places}
 use Rattle.image.proofs.Laws.{part_length, ordered, large, large_shared}
-use Rattle.text_decode.specs.store.Store.{Store, row_table, operands_of, store_in}
+use Rattle.text_decode.specs.store.Store.{Store, row_table, operands_of, store_in, stored}
 use Rattle.text_decode.proofs.state.Room.{lengths}
-use Rattle.text_decode.specs.declared.state.Read.{Read}
+use Rattle.text_decode.specs.declared.state.Unread.TheVariants.{Faulty}
 use Rattle.text_decode.specs.Decoded as decode
 use Rattle.valid.specs.Bounds.{SmallRow}
 use Rattle.valid_context.specs.premises.Answers.{Holds}
 use Rattle.valid_context.proofs.premises.Grammar.{rows_small, instrs_small}
 use Rattle.load.specs.prepare.Prepared.{Prepared, Kept}
-use Rattle.load.specs.declared.Loaded.{Loaded}
-use Rattle.load.specs.Loaded.{Space, SpaceFor, SmallRead, SpaceIn, faulty, refusal_of, LoadIs}
+use Rattle.load.specs.Loaded.{Space, SpaceFor, SmallRead, SpaceIn, IsLoaded, LoadIs}
 use Rattle.load.proofs.Codes.{CodeOk, all_codes, holds_is}
 
--- a fault that is named
-named : (n line : ℕ) → (n ≡ 0 → ⊥) → refusal_of (faulty n line) ≡ some (record { number = n; line = line; item = none })
-named n line h = let e : eqb n 0 ≡ false = ne_eqb n 0 h in rw e refl
-
 -- ---- pass one
-module _ (text : List ℕ) (r : Read) (e : decode.refusal_of r ≡ lowest_line 0 (pass_one text)) where
-  pub found_one : (k : ℕ) (out : Loaded) (σ : Store) (uses tops : List ℕ) → k ≡ r.fault → (k ≡ 0 → ⊥) → out ≡ faulty k r.line → LoadIs text σ uses tops out
-  found_one k out σ uses tops q h o =
-      let z : r.fault ≡ 0 → ⊥ = λ w. h (q ∙ w) in
-      let f : eqb r.fault 0 ≡ false = ne_eqb r.fault 0 z in
-      let g : decode.refusal_of r ≡ some (record { number = r.fault; line = r.line; item = none }) = rw f refl in
-      record {
-        fault = ap refusal_of o ∙ named k r.line h ∙ ap (λ (x : ℕ). some (record { number = x; line = r.line; item = none })) q ∙ ap (λ (x : Option Refusal). or_else x (lowest_line 0 (pass_two_of text))) (sym g ∙ e);
-        loaded = λ w. absurd (h (ap (λ (x : Loaded). x.fault) (sym o) ∙ w));
-      }
+-- what is known of a text that was read into an image
+pub record Seen (text : List ℕ) (p : Places) (l ns : List ℕ) (c : Counts) : Type 0 where
+  pub ordered : Ordered p (length l)
+  pub decoded : decode.Decoded text (store_in p l ns) c
+  pub clear : lowest_line 0 (pass_one text) ≡ none
 
-  pub one_none : r.fault ≡ 0 → lowest_line 0 (pass_one text) ≡ none
-  one_none z = let f : decode.refusal_of r ≡ none = rw z refl in sym e ∙ f
+pub seen : (text : List ℕ) (p : Places) (l ns : List ℕ) (c : Counts) → p ≡ places_of (length l) → decode.ReadIs text (stored l ns) (Ok c) → Seen text p l ns c
+seen text p l ns c e r = rw e (record { ordered = ordered (length l); decoded = r.decoded c refl; clear = sym r.fault })
 
 clear_none : (p : Pass) → lowest_line 0 p ≡ none → Clear p
 clear_none p e = (earliest_clear (p ∷ []) (unfold earliest in rw e refl)).0
 
 -- ---- pass two
-found_some : (f : Found) → (f.number ≡ 0 → ⊥) → found_refusal f ≡ some (record { number = f.number; line = f.line; item = none })
-unfolding found_refusal
-found_some f h = let k : eqb f.number 0 ≡ false = ne_eqb f.number 0 h in rw k refl
-
-found_none : (f : Found) → f.number ≡ 0 → found_refusal f ≡ none
-unfolding found_refusal
-found_none f z = rw z refl
-
 two_clear : (rows : List Row) (nb : ℕ) (es : List Entry) → lowest_line 0 (pass_two rows nb es) ≡ none → Clear (rows_faults rows 0 rows ++ entries_faults rows nb es)
 unfolding pass_two
 two_clear rows nb es e = (clear_none (pass_two rows nb es) e).1
@@ -79,7 +63,7 @@ length_blocks β ι ω ni b zero = refl
 length_blocks β ι ω ni b (suc zero) = refl
 length_blocks β ι ω ni b (suc (suc k)) = ap suc (length_blocks β ι ω ni (suc b) (suc k))
 
-module _ (text : List ℕ) (σ : Store) (r : Read) (d : decode.Decoded text σ r) (one : lowest_line 0 (pass_one text) ≡ none) where
+module _ (text : List ℕ) (σ : Store) (r : Counts) (d : decode.Decoded text σ r) (one : lowest_line 0 (pass_one text) ≡ none) where
   abbrev τ : RowTable
   τ = row_table σ
 
@@ -96,28 +80,23 @@ module _ (text : List ℕ) (σ : Store) (r : Read) (d : decode.Decoded text σ r
       let es : entries_in (rows_in τ r.rows) bs ≡ entries_of text = ap₂ entries_in d.rows d.blocks ∙ sym (entries_in_lem text (clear_none (pass_one text) one)) in
       ap₂ (λ rs k. lowest_line 0 (pass_two rs k (entries_in (rows_in τ r.rows) bs))) d.rows n ∙ ap (λ l. lowest_line 0 (pass_two (rows_of (entries_of text)) (length (listings_of (entries_of text))) l)) es
 
-  module _ (f : Found) (e : found_refusal f ≡ lowest_line 0 (pass_two (rows_in τ r.rows) r.blocks (entries_in (rows_in τ r.rows) bs))) where
+  module _ (f : CodeOption LineFault) (e : found_refusal f ≡ lowest_line 0 (pass_two (rows_in τ r.rows) r.blocks (entries_in (rows_in τ r.rows) bs))) where
     two_is : found_refusal f ≡ or_else (lowest_line 0 (pass_one text)) (lowest_line 0 (pass_two_of text))
     two_is = e ∙ two_same ∙ ap (λ (x : Option Refusal). or_else x (lowest_line 0 (pass_two_of text))) (sym one)
 
-    pub found_two : (out : Loaded) (π : Store) (uses tops : List ℕ) → (f.number ≡ 0 → ⊥) → out ≡ faulty f.number f.line → LoadIs text π uses tops out
-    found_two out π uses tops h o =
-        let g = found_some f h in
-        record {
-          fault = ap refusal_of o ∙ named f.number f.line h ∙ sym g ∙ two_is;
-          loaded = λ w. absurd (h (ap (λ (x : Loaded). x.fault) (sym o) ∙ w));
-        }
+    pub found_two : (x : LineFault) (π : Store) (uses tops : List ℕ) → f ≡ Some x → LoadIs text π uses tops (Err (Faulty x))
+    found_two x π uses tops h = record { fault = ap found_refusal (sym h) ∙ two_is; loaded = λ c z. cc }
 
-    two_none : f.number ≡ 0 → none ≡ or_else (lowest_line 0 (pass_one text)) (lowest_line 0 (pass_two_of text))
-    two_none z = sym (found_none f z) ∙ two_is
+    two_none : f ≡ None → none ≡ or_else (lowest_line 0 (pass_one text)) (lowest_line 0 (pass_two_of text))
+    two_none z = ap found_refusal (sym z) ∙ two_is
 
-    all_clear : f.number ≡ 0 → Clear (rows_faults (rows_in τ r.rows) 0 (rows_in τ r.rows) ++ entries_faults (rows_in τ r.rows) r.blocks (entries_in (rows_in τ r.rows) bs))
-    all_clear z = two_clear (rows_in τ r.rows) r.blocks (entries_in (rows_in τ r.rows) bs) (sym e ∙ found_none f z)
+    all_clear : f ≡ None → Clear (rows_faults (rows_in τ r.rows) 0 (rows_in τ r.rows) ++ entries_faults (rows_in τ r.rows) r.blocks (entries_in (rows_in τ r.rows) bs))
+    all_clear z = two_clear (rows_in τ r.rows) r.blocks (entries_in (rows_in τ r.rows) bs) (sym e ∙ ap found_refusal z)
 
-    pub rows_seen : f.number ≡ 0 → RowsClear τ r.rows
+    pub rows_seen : f ≡ None → RowsClear τ r.rows
     rows_seen z = (clear_split (rows_faults (rows_in τ r.rows) 0 (rows_in τ r.rows)) (entries_faults (rows_in τ r.rows) r.blocks (entries_in (rows_in τ r.rows) bs)) (all_clear z)).0
 
-    codes : f.number ≡ 0 → (l : ℕ) → l < r.blocks → CodeOk τ r.rows (cell 2 σ.blocks l 0)
+    codes : f ≡ None → (l : ℕ) → l < r.blocks → CodeOk τ r.rows (cell 2 σ.blocks l 0)
     codes z =
         all_codes τ r.rows σ.blocks σ.instrs (operands_of σ) r.instrs r.blocks
         (subst Clear (entries_rows (rows_in τ r.rows) (rows_in τ r.rows) r.blocks bs)
@@ -127,39 +106,24 @@ module _ (text : List ℕ) (σ : Store) (r : Read) (d : decode.Decoded text σ r
     pub rows_small_in : (x : ℕ) → x < r.rows → SmallRow (row_at τ x)
     rows_small_in = rows_small text τ r.rows d.rows
 
-    holds_in : f.number ≡ 0 → Holds τ r.rows σ.blocks r.blocks (program_of text)
+    holds_in : f ≡ None → Holds τ r.rows σ.blocks r.blocks (program_of text)
     holds_in z =
         holds_is τ r.rows σ.blocks σ.instrs (operands_of σ) r.instrs r.blocks (program_of text) (rows_seen z) (codes z)
         (unfold program_of program_from in ap types_of (sym d.rows)) (unfold program_of program_from in ap₂ (λ rs ls. blocks_of (types_of rs)
         ls) (sym d.rows) (sym d.blocks))
 
     -- ---- after preparing: only the rows' table has changed
-    module _ (after uses tops : List ℕ) (p : Prepared σ.rows after σ.parts r.rows uses tops) (z : f.number ≡ 0) (space : SpaceFor r.rows (length after) (length uses) (length tops)) where
+    module _ (after uses tops : List ℕ) (p : Prepared σ.rows after σ.parts r.rows uses tops) (z : f ≡ None) (space : SpaceFor r.rows (length after) (length uses) (length tops)) where
       abbrev π : Store
       π = record { rows = after; parts = σ.parts; operands = σ.operands; numbers = σ.numbers; args = σ.args; instrs = σ.instrs; blocks = σ.blocks }
 
       holds_after : Holds (row_table π) r.rows σ.blocks r.blocks (program_of text)
       holds_after = let h = holds_in z in record { types = h.types ∙ ap types_of (sym p.rows); labels = h.labels }
 
-      pub all_loaded : (out : Loaded) → out ≡ record {
-        fits = true;
-        fault = 0;
-        line = 0;
-        rows = r.rows;
-        blocks = r.blocks;
-        instrs = r.instrs;
-      } → LoadIs text (record {
-        rows = after;
-        parts = σ.parts;
-        operands = σ.operands;
-        numbers = σ.numbers;
-        args = σ.args;
-        instrs = σ.instrs;
-        blocks = σ.blocks;
-      }) uses tops out
-      all_loaded out o = subst (LoadIs text π uses tops) (sym o) (record {
+      pub all_loaded : LoadIs text π uses tops (Ok r)
+      all_loaded = record {
         fault = two_none z;
-        loaded = λ w. record {
+        loaded = λ c w. let q : r ≡ c = cc in subst (IsLoaded text π uses tops) q (record {
           rows = p.rows ∙ d.rows;
           blocks = d.blocks;
           holds = holds_after;
@@ -180,24 +144,23 @@ module _ (text : List ℕ) (σ : Store) (r : Read) (d : decode.Decoded text σ r
           junk_row = p.junk_row;
           counted = p.counted;
           scoped = p.scoped;
-        };
-      })
+        });
+      }
 
 -- ---- what `pass_two` asks
-pub few_ok : (text : List ℕ) (σ : Store) (r : Read) → decode.Decoded text σ r → lowest_line 0 (pass_one text) ≡ none → SmallRead r × Rising σ.blocks r.blocks
+pub few_ok : (text : List ℕ) (σ : Store) (r : Counts) → decode.Decoded text σ r → lowest_line 0 (pass_one text) ≡ none → SmallRead r × Rising σ.blocks r.blocks
 few_ok text σ r d o = (record { rows = omega arith; blocks = omega arith; instrs = omega arith }, starts_rise text σ r d o)
 
 -- ---- in an image
-module _ (text : List ℕ) (p : Places) (l ns : List ℕ) (r : Read) (d : decode.Decoded text (store_in p l ns) r) (one : lowest_line 0
-    (pass_one text) ≡ none) (f : Found) (e : found_refusal f ≡ lowest_line 0 (pass_two (rows_in (row_table (store_in p l ns)) r.rows)
+module _ (text : List ℕ) (p : Places) (l ns : List ℕ) (r : Counts) (d : decode.Decoded text (store_in p l ns) r) (one : lowest_line 0
+    (pass_one text) ≡ none) (f : CodeOption LineFault) (e : found_refusal f ≡ lowest_line 0 (pass_two (rows_in (row_table (store_in p l ns)) r.rows)
     r.blocks (entries_in (rows_in (row_table (store_in p l ns)) r.rows) (blocks_from (block_section p l) (instr_section p l)
     (operands_of (store_in p l ns)) r.instrs 0 r.blocks)))) where
   pub loaded_in : (l' : List ℕ) → Prepared (row_section p l) (row_section p l') (part_section p l) r.rows (use_section p l')
-      (top_section p l') → Kept p l l' → f.number ≡ 0 → SpaceFor r.rows (length (row_section p l')) (length (use_section p l'))
-      (length (top_section p l')) → LoadIs text (store_in p l' ns) (use_section p l') (top_section p l')
-      (record { fits = true; fault = 0; line = 0; rows = r.rows; blocks = r.blocks; instrs = r.instrs })
+      (top_section p l') → Kept p l l' → f ≡ None → SpaceFor r.rows (length (row_section p l')) (length (use_section p l'))
+      (length (top_section p l')) → LoadIs text (store_in p l' ns) (use_section p l') (top_section p l') (Ok r)
   loaded_in l' q k z space =
-      rw (k.parts, k.operands, k.args, k.instrs, k.blocks) (all_loaded text (store_in p l ns) r d one f e (row_section p l') (use_section p l') (top_section p l') q z space (record { fits = true; fault = 0; line = 0; rows = r.rows; blocks = r.blocks; instrs = r.instrs }) refl)
+      rw (k.parts, k.operands, k.args, k.instrs, k.blocks) (all_loaded text (store_in p l ns) r d one f e (row_section p l') (use_section p l') (top_section p l') q z space)
 
 -- room, by places and by lengths
 pub space_in : (p : Places) (l : List ℕ) (n : ℕ) → Ordered p (length l) → SpaceFor n (p.blocks - p.rows) (p.tops - p.uses) (p.shared - p.tops) → SpaceFor n (length (row_section p l)) (length (use_section p l)) (length (top_section p l))

@@ -1,7 +1,6 @@
 -- What loading a text answers, and what it leaves in the tables.
-use Rattle.std.specs.Prelude.{ℕ, suc, ◌+◌, ◌*◌, ◌≤◌, ◌<◌, ◌≡◌, true, false, cond, List, eqb, length}
-use Rattle.std.proofs.Math.Option.{Option, none, some}
-use Rattle.syntax.specs.Fault.{Refusal, lowest_line, or_else}
+use Rattle.std.specs.Prelude.{ℕ, suc, ◌+◌, ◌*◌, ◌≤◌, ◌<◌, ◌≡◌, List, length, Result, Ok}
+use Rattle.syntax.specs.Fault.{lowest_line, or_else}
 use Rattle.text.specs.PassOne.{pass_one, entries_of, rows_of, listings_of}
 use Rattle.tables.specs.Tables.{cell, row_at, rows_in, instr_at, blocks_from}
 use Rattle.types_rows.specs.Clear.{RowsClear}
@@ -10,13 +9,13 @@ use Rattle.valid_scope.specs.Scoped.{Scoped}
 use Rattle.valid.specs.Program.{program_of}
 use Rattle.valid.specs.Verdict.{pass_two_of}
 use Rattle.image.specs.Sections.{use_section, top_section}
+use Rattle.image.specs.declared.Counts.{Counts}
 use Rattle.image.specs.Layout.{places_of}
 use Rattle.text_decode.specs.store.Store.{Store, row_table, operands_of, Room, stored}
-use Rattle.text_decode.specs.Decoded.{OperandsIn}
-use Rattle.text_decode.specs.declared.state.Read.{Read}
+use Rattle.text_decode.specs.Decoded.{refusal_of, OperandsIn}
+use Rattle.text_decode.specs.declared.state.Unread.{Unread}
 use Rattle.valid.specs.Bounds.{SmallRow, SmallInstr}
 use Rattle.valid_context.specs.premises.Answers.{Holds}
-use Rattle.load.specs.declared.Loaded.{Loaded}
 
 -- room for what pass three reads of n rows: two rows more, and the variables of each row
 pub record SpaceFor (n k u t : ℕ) : Type 0 where
@@ -25,7 +24,7 @@ pub record SpaceFor (n k u t : ℕ) : Type 0 where
   pub tops : n ≤ t
 
 -- what was read is as much as pass two can count
-pub record SmallRead (r : Read) : Type 0 where
+pub record SmallRead (r : Counts) : Type 0 where
   pub rows : r.rows ≤ 65535
   pub blocks : r.blocks ≤ 65535
   pub instrs : r.instrs ≤ 65535
@@ -48,21 +47,9 @@ tops_in image = top_section (places_of (length image)) image
 abbrev pub SpaceIn : List ℕ → List ℕ → Type 0
 SpaceIn image numbers = Space (stored image numbers) (length (uses_in image)) (length (tops_in image))
 
--- the answer where the text does not fit the image
-abbrev pub unfit_load : Loaded
-unfit_load = record { fits = false; fault = 0; line = 0; rows = 0; blocks = 0; instrs = 0 }
-
--- the answer that names fault n on a line
-abbrev pub faulty : ℕ → ℕ → Loaded
-faulty n line = record { fits = true; fault = n; line = line; rows = 0; blocks = 0; instrs = 0 }
-
--- the fault that an answer names; 0 for none
-abbrev pub refusal_of : Loaded → Option Refusal
-refusal_of r = cond (eqb r.fault 0) none (some (record { number = r.fault; line = r.line; item = none }))
-
 -- ---- the tables of a text that passes one and two have passed
 -- tables σ, uses and tops of the text, as counted in r
-pub record IsLoaded (text : List ℕ) (σ : Store) (uses tops : List ℕ) (r : Loaded) : Type 0 where
+pub record IsLoaded (text : List ℕ) (σ : Store) (uses tops : List ℕ) (r : Counts) : Type 0 where
   -- what they stand for
   pub rows : rows_in (row_table σ) r.rows ≡ rows_of (entries_of text)
   pub blocks : blocks_from σ.blocks σ.instrs (operands_of σ) r.instrs 0 r.blocks ≡ listings_of (entries_of text)
@@ -91,6 +78,6 @@ pub record IsLoaded (text : List ℕ) (σ : Store) (uses tops : List ℕ) (r : L
   pub scoped : Scoped (row_table σ) r.rows uses tops
 
 -- r names the fault of pass one, or else of pass two; where there is none, the tables are those of the text
-pub record LoadIs (text : List ℕ) (σ : Store) (uses tops : List ℕ) (r : Loaded) : Type 0 where
+pub record LoadIs (text : List ℕ) (σ : Store) (uses tops : List ℕ) (r : Result Counts Unread) : Type 0 where
   pub fault : refusal_of r ≡ or_else (lowest_line 0 (pass_one text)) (lowest_line 0 (pass_two_of text))
-  pub loaded : r.fault ≡ 0 → IsLoaded text σ uses tops r
+  pub loaded : (c : Counts) → r ≡ Ok c → IsLoaded text σ uses tops c

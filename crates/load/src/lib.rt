@@ -14,69 +14,25 @@ ghost use Rattle.tables.specs.Tables.{rows_in, blocks_from};
 ghost use Rattle.image.specs.Sections.{Ordered, block_section, instr_section};
 ghost use Rattle.types_pass_two.specs.refs.Refs.{Rising, refusal_of};
 ghost use Rattle.text_decode.specs.store.Store.{row_table, operands_of, store_in, stored};
-ghost use Rattle.text_decode.specs.Decoded.{Fitting};
-ghost use Rattle.load.specs.Loaded.{SpaceFor, SmallRead, SpaceIn, uses_in, tops_in, unfit_load, faulty, LoadIs};
+ghost use Rattle.text_decode.specs.Decoded.{fits, Fitting};
+ghost use Rattle.load.specs.Loaded.{SpaceFor, SmallRead, SpaceIn, uses_in, tops_in, LoadIs};
 
-use image::Places;
-use text_decode::state::Read;
-use types_pass_two::refs::Found;
-
-// Whether the text fits the image; the fault of passes one and two and its line, 0 and 0 for none; then how many rows, blocks and
-// instructions there are.
-#[derive(Clone, Copy)]
-pub struct Loaded {
-    pub fits: bool,
-    pub fault: usize,
-    pub line: usize,
-    pub rows: usize,
-    pub blocks: usize,
-    pub instrs: usize,
-}
-
-fn unfit() -> Loaded
-    ensures { result ≡ unfit_load }
-{
-    Loaded {
-        fits: false,
-        fault: 0,
-        line: 0,
-        rows: 0,
-        blocks: 0,
-        instrs: 0,
-    }
-}
-
-fn refused(fault: usize, line: usize) -> Loaded
-    ensures { result ≡ faulty fault line }
-{
-    Loaded {
-        fits: true,
-        fault,
-        line,
-        rows: 0,
-        blocks: 0,
-        instrs: 0,
-    }
-}
+use faults::LineFault;
+use image::{Counts, Places};
+use text_decode::state::Unread;
 
 // Whether the sections have room for what pass three reads of n rows.
 fn has_space(p: Places, n: usize) -> bool
     requires { ((l : ℕ) × Ordered p l) × (n ≤ 512) }
     ensures { (result ≡ true → SpaceFor n (p.blocks - p.rows) (p.tops - p.uses) (p.shared - p.tops)) × (SpaceFor n (p.blocks - p.rows) (p.tops - p.uses) (p.shared - p.tops) → result ≡ true) }
 {
-    if p.blocks - p.rows < 4 * n + 8 {
-        return false;
-    }
-    if p.tops - p.uses < 64 * n {
-        return false;
-    }
-    n <= p.shared - p.tops
+    4 * n + 8 <= p.blocks - p.rows && 64 * n <= p.tops - p.uses && n <= p.shared - p.tops
 }
 
 // Pass two over the tables in the image.
-fn second_pass(image: &[u16], numbers: &[u32], p: Places, r: Read) -> Found
-    requires { Ordered p (length image.now) × SmallRead r × Rising (block_section p image.now) r.blocks }
-    ensures { refusal_of result ≡ lowest_line 0 (pass_two (rows_in (row_table (store_in p image.now numbers.now)) r.rows) r.blocks (entries_in (rows_in (row_table (store_in p image.now numbers.now)) r.rows) (blocks_from (block_section p image.now) (instr_section p image.now) (operands_of (store_in p image.now numbers.now)) r.instrs 0 r.blocks))) }
+fn second_pass(image: &[u16], numbers: &[u32], p: Places, c: Counts) -> Option<LineFault>
+    requires { Ordered p (length image.now) × SmallRead c × Rising (block_section p image.now) c.blocks }
+    ensures { refusal_of result ≡ lowest_line 0 (pass_two (rows_in (row_table (store_in p image.now numbers.now)) c.rows) c.blocks (entries_in (rows_in (row_table (store_in p image.now numbers.now)) c.rows) (blocks_from (block_section p image.now) (instr_section p image.now) (operands_of (store_in p image.now numbers.now)) c.instrs 0 c.blocks))) }
 {
     let rows = p.rows;
     let blocks = p.blocks;
@@ -88,11 +44,11 @@ fn second_pass(image: &[u16], numbers: &[u32], p: Places, r: Read) -> Found
     types_pass_two::pass_two(
         &image[rows..blocks],
         &image[parts..operands],
-        r.rows,
+        c.rows,
         &image[blocks..instrs],
-        r.blocks,
+        c.blocks,
         &image[instrs..parts],
-        r.instrs,
+        c.instrs,
         &image[operands..args],
         numbers,
         &image[args..uses],
@@ -100,33 +56,17 @@ fn second_pass(image: &[u16], numbers: &[u32], p: Places, r: Read) -> Found
 }
 
 // Reads the text into the image; where passes one and two find no fault, makes it ready for pass three too.
-pub fn load(text: &[u8], image: &mut [u16], numbers: &mut [u32]) -> Loaded
-    ensures { Fitting (SpaceIn image.old numbers.old) result.fits (LoadIs text.now (stored image.new numbers.new) (uses_in image.new) (tops_in image.new) result) }
+pub fn load(text: &[u8], image: &mut [u16], numbers: &mut [u32]) -> Result<Counts, Unread>
+    ensures { Fitting (SpaceIn image.old numbers.old) (fits result) (LoadIs text.now (stored image.new numbers.new) (uses_in image.new) (tops_in image.new) result) }
 {
-    let r = text_decode::read_text(text, image, numbers);
-    if !r.fits {
-        return unfit();
-    }
-    let fault = r.fault as usize;
-    if fault != 0 {
-        return refused(fault, r.line);
-    }
+    let c = text_decode::read_text(text, image, numbers)?;
     let p = image::lay_out(image.len());
-    if !has_space(p, r.rows) {
-        return unfit();
+    if !has_space(p, c.rows) {
+        return Err(Unread::Unfit);
     }
-    let f = second_pass(image, numbers, p, r);
-    let number = f.number;
-    if number != 0 {
-        return refused(number, f.line);
+    if let Some(f) = second_pass(image, numbers, p, c) {
+        return Err(Unread::Faulty(f));
     }
-    crate::prepare::prepare(image, p, r.rows);
-    Loaded {
-        fits: true,
-        fault: 0,
-        line: 0,
-        rows: r.rows,
-        blocks: r.blocks,
-        instrs: r.instrs,
-    }
+    crate::prepare::prepare(image, p, c.rows);
+    Ok(c)
 }

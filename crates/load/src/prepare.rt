@@ -18,10 +18,8 @@ fn put_two(rows: &mut [u16], n: usize)
     requires { (n ≤ 512) × (4 * n + 8 ≤ length rows.old) }
     ensures { rows.new ≡ set (set rows.old (4 * n) 0) (4 * n + 4) 1 }
 {
-    let i = 4 * n;
-    let j = i + 4;
-    rows[i] = 0;
-    rows[j] = 1;
+    rows[4 * n] = 0;
+    rows[4 * n + 4] = 1;
 }
 
 // Puts the two rows behind the n of the text, counts the items of stack rows, and finds how rows use variables.

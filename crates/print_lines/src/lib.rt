@@ -13,8 +13,6 @@ ghost use Rattle.print_write.specs.Put.{Puts};
 ghost use Rattle.valid_verdict.specs.Answers.{verdict_is};
 ghost use Rattle.exec_outcome.specs.Answers.{answer_is};
 
-use print_write::Written;
-
 // A line of a word, given with its comma, and a number; where it ends.
 fn one_number(word: &[u8], a: usize, out: &mut [u8]) -> usize
     requires { (length word.now ≤ 7) × (64 ≤ length out.old) }
@@ -61,7 +59,7 @@ fn halt_line(steps: usize, kind: u8, number: u32, out: &mut [u8]) -> usize
     let k = print_write::put(b",", out, j);
     let l = put_kind(kind, out, k);
     let m = print_write::put(b",", out, l);
-    let n = print_write::put_signed(print_write::widened(number), out, m);
+    let n = print_write::put_signed(i64::from(number.cast_signed()), out, m);
     print_write::put(b"\n", out, n)
 }
 
@@ -97,8 +95,9 @@ fn verdict_line(a: valid_verdict::Answer, out: &mut [u8]) -> usize
     }
 }
 
-// Writes the line of an answer to a start or a continuing.
-pub fn write_answer(a: exec_outcome::Answer, out: &mut [u8]) -> Written
+// Kept: two functions, since each names the line of its own type; a trait for three lines of code is no plainer.
+// Writes the line of an answer to a start or a continuing: how many bytes, or none where the memory is too short.
+pub fn write_answer(a: exec_outcome::Answer, out: &mut [u8]) -> Option<usize>
     ensures { (written_is result out.new ≡ written (answer_line (answer_is a)) out.old) × (length (answer_line (answer_is a)) ≤ 64) }
 {
     let mut line = [0u8; 64];
@@ -106,8 +105,8 @@ pub fn write_answer(a: exec_outcome::Answer, out: &mut [u8]) -> Written
     print_write::write(&line[0..n], out)
 }
 
-// Writes the line of an answer to a check.
-pub fn write_verdict(a: valid_verdict::Answer, out: &mut [u8]) -> Written
+// Writes the line of an answer to a check: how many bytes, or none where the memory is too short.
+pub fn write_verdict(a: valid_verdict::Answer, out: &mut [u8]) -> Option<usize>
     ensures { (written_is result out.new ≡ written (verdict_line (verdict_is a)) out.old) × (length (verdict_line (verdict_is a)) ≤ 64) }
 {
     let mut line = [0u8; 64];

@@ -1,44 +1,35 @@
--- Laws of bytes put into lent memory, of digits written from the last one on, and of 64 bits read as signed.
+-- Laws of bytes put into lent memory, and of numbers in decimal as std writes them.
 use mathlib.Core.Path.{◌≡◌, refl, ap, sym, ◌∙◌}
 use mathlib.Core.Option.{none, some}
 use mathlib.Core.List.{List, [], ◌∷◌, ◌++◌, append_assoc}
 use Prim.Native.Nat.{ℕ, zero, suc, ◌+◌, ◌-◌, ◌/◌, ◌%◌, ◌^◌, ◌<◌, ◌≤◌}
 use native.Mathlib.Omega.{arith}
-use native.Mathlib.Nat.{not-suc-le-zero, le_of_suc-le-suc, pow-suc}
-use lib.ListN.{length, get_or, take, drop, set, length-append, length-take, length-drop, length-set, take-append-drop, drop_of_length-le}
-use lib.Seq.{take_at, paste, paste-suc, take-paste, drop-paste, take_all, drop-drop, length-take-le}
-use lib.IntN.{pos, negsuc}
-use borrow.Author.Tests.{lt-ltb, le-ltb, le-leb, lt-leb}
-use Rattle.syntax.specs.Bits.{signed}
+use native.Mathlib.Nat.{not-suc-le-zero}
+use lib.ListN.{length, take, drop, length-append, length-take, take-append-drop}
+use lib.Seq.{take_at, drop-drop}
+use lib.Signed.{mag}
+use borrow.Rule.Slice.PartMut.{put_mid}
+use Rattle.std.proofs.lemmas.Slice.{take-put_mid, drop-put_mid}
+use borrow.Author.Tests.{lt-leb, le-leb}
+use Rattle.std.specs.Prelude.{ℤ, pos, negsuc, Option, Some, None, IsSome}
+use Rattle.std.specs.Fmt as std
+use Rattle.std.proofs.lemmas.Fmt.{decimal_by_steps}
 use Rattle.print.specs.Decimal.{digit, digits_in, decimal, signed_decimal}
 use Rattle.print.proofs.Decimal.{in_enough}
 use Rattle.print.specs.Written.{Written, written, holding}
 use Rattle.print_write.specs.Put.{Puts}
 use Rattle.print_write.specs.Answers.{written_is}
-use Rattle.print_write.specs.declared.Written as code
-use Rattle.print_write.specs.declared.Written.TheVariants.{Bytes, Short}
-use Rattle.print_write.specs.Wide.{signed64}
 
 -- ---- bytes
--- the bytes copied one by one are put
-pasted : (l : List ℕ) (at : ℕ) (s : List ℕ) → at + length s ≤ length l → Puts l at s (paste l at s (length s)) (at + length s)
-pasted l at s h =
-    let n = length s in
-    let a : at ≤ length l = omega arith in
-    let b : n ≤ length s = omega arith in
-    record { end = refl; held = take-paste l at s n a b ∙ ap (λ (t : List ℕ). take at l ++ t) (take_all n s b); kept = drop-paste l at s n a b }
-
--- one byte more
-pub one_pasted : (l l' : List ℕ) (at : ℕ) (s : List ℕ) (i : ℕ) → l' ≡ paste l at s i → at + length s ≤ length l → i < length s → set l' (at + i) (get_or s i 0) ≡ paste l at s (i + 1)
-one_pasted l l' at s i e h k =
-    let q : suc i ≡ i + 1 = omega arith in
-    ap (λ (x : List ℕ). set x (at + i) (get_or s i 0)) e ∙ paste-suc l at s i 0 (omega arith) k ∙ ap (paste l at s) q
-
--- all of them
-pub all_pasted : (l l' : List ℕ) (at : ℕ) (s : List ℕ) (i : ℕ) → l' ≡ paste l at s i → at + length s ≤ length l → i ≤ length s → length s ≤ i → Puts l at s l' (at + i)
-all_pasted l l' at s i e h j k =
-    let q : i ≡ length s = omega arith in
-    rw (e, q) (pasted l at s h)
+-- a part of the memory that is written over
+pub part_put : (l s ys : List ℕ) (at : ℕ) → at + length s ≤ length l → ys ≡ s → Puts l at s (put_mid at (at + length s - at) l ys) (at + length s)
+part_put l s ys at h e =
+    let n = ap length e in
+    record {
+      end = refl;
+      held = take-put_mid at (at + length s - at) l ys (at + length s) (omega arith) (omega arith) ∙ ap (λ (x : List ℕ). take at l ++ x) e;
+      kept = drop-put_mid at (at + length s - at) l ys (at + length s) (omega arith) (omega arith) (omega arith);
+    }
 
 -- one behind the other
 pub puts_behind : {l s l' t l'' : List ℕ} {at e f : ℕ} → Puts l at s l' e → Puts l' e t l'' f → Puts l at (s ++ t) l'' f
@@ -81,12 +72,12 @@ pub line_short : (l : List ℕ) (n k : ℕ) (s : List ℕ) → n ≤ k → take 
 line_short l n k s h e = let a = length-take n l in let b = ap length e in omega arith
 
 -- a line that there is room for is written whole
-module _ (w : code.Written) (l l' s : List ℕ) (e : written_is w l' ≡ written s l) (h : length s ≤ length l) where
+module _ (w : Option ℕ) (l l' s : List ℕ) (e : written_is w l' ≡ written s l) (h : length s ≤ length l) where
   whole : written_is w l' ≡ holding (some (length s)) (s ++ drop (length s) l)
   unfolding written
   whole = e ∙ rw (le-leb (length s) (length l) h)
 
-  pub all_written : (n : ℕ) → w ≡ Bytes n → (n ≤ length l') × (take n l' ≡ s)
+  pub all_written : (n : ℕ) → w ≡ Some n → (n ≤ length l') × (take n l' ≡ s)
   all_written n q =
       let i : holding (some n) l' ≡ holding (some (length s)) (s ++ drop (length s) l) = rw q at whole in
       let a : some n ≡ some (length s) = ap (λ (x : Written). x.count) i in
@@ -96,12 +87,19 @@ module _ (w : code.Written) (l l' s : List ℕ) (e : written_is w l' ≡ written
       let f = ap length c in
       (omega arith, ap (take n) c ∙ take_at s (drop (length s) l) n (sym b))
 
-  pub never_short : w ≡ Short → ⊥
-  never_short q =
+  never_none : w ≡ None → ⊥
+  never_none q =
       let i : holding none l' ≡ holding (some (length s)) (s ++ drop (length s) l) = rw q at whole in
       let a : none ≡ some (length s) = ap (λ (x : Written). x.count) i in
       let z : ◌≡◌ {A = ℕ} 0 1 = cc in
       omega arith
+
+  pub some_written : IsSome w
+  some_written = go w refl
+    where
+      go : (o : Option ℕ) → w ≡ o → IsSome o
+      go (Some n) q = refl
+      go None q = absurd (never_none q)
 
 -- ---- digits
 -- the digits of a number but the last are those of its tenth
@@ -110,109 +108,36 @@ unfolding digits_in
 more_digits zero h = absurd (not-suc-le-zero h)
 more_digits (suc n) h = ap (λ (s : List ℕ). s ++ (digit (suc n % 10) ∷ [])) (in_enough n (suc n / 10) (suc n / 10) (omega arith) (omega arith))
 
-all_digits : (n : ℕ) → decimal n ≡ digits_in (n / 10) (n / 10) ++ (digit (n % 10) ∷ [])
-unfolding decimal digits_in
-all_digits zero = refl
-all_digits (suc n) = more_digits (suc n) (omega arith)
+-- a number above 0 is its digits
+its_digits : (n : ℕ) → 0 < n → decimal n ≡ digits_in n n
+unfolding decimal
+its_digits zero h = absurd (not-suc-le-zero h)
+its_digits (suc n) h = refl
 
--- memory from a place on that was written
-written_there : (l : List ℕ) (i b : ℕ) → i < length l → drop i (set l i b) ≡ b ∷ drop (suc i) l
-written_there [] i b h = absurd (not-suc-le-zero h)
-written_there (x ∷ l) zero b h = refl
-written_there (x ∷ l) (suc i) b h = written_there l i b (le_of_suc-le-suc h)
+-- one of one digit, and one of more
+one_digit : (n : ℕ) → n < 10 → ((48 + n) ∷ []) ≡ decimal n
+unfolding decimal digits_in digit
+one_digit zero h = refl
+one_digit (suc n) h =
+    let q : suc n / 10 ≡ 0 = omega arith in
+    let r : suc n % 10 ≡ suc n = omega arith in
+    sym (its_digits (suc n) (omega arith) ∙ more_digits (suc n) (omega arith) ∙ rw (q, r) refl)
 
--- the last digits of n stand from i on, and those of rest are to come
-pub record Spelling (n : ℕ) (l : List ℕ) (i rest : ℕ) : Type 0 where
-  pub long : length l ≡ 20
-  pub place : i ≤ 19
-  pub few : rest < 10 ^ i
-  pub digits : digits_in rest rest ++ drop i l ≡ decimal n
+more_than_one : (n : ℕ) (s : List ℕ) → 10 ≤ n → s ≡ decimal (n / 10) → s ++ ((48 + n % 10) ∷ []) ≡ decimal n
+unfolding digit
+more_than_one n s h e =
+    ap (λ (x : List ℕ). x ++ ((48 + n % 10) ∷ [])) (e ∙ its_digits (n / 10) (omega arith))
+    ∙ sym (its_digits n (omega arith) ∙ more_digits n (omega arith))
 
--- a number below 10^i that is not 0 has a place
-pub some_place : (i rest : ℕ) → 0 < rest → rest < 10 ^ i → 0 < i
-some_place zero rest h l = omega arith
-some_place (suc i) rest h l = omega arith
+-- what std writes of a number is what is printed
+pub same_decimal : (n : ℕ) → n < 2 ^ 64 → std.decimal n ≡ decimal n
+same_decimal n h = decimal_by_steps (λ m s. s ≡ decimal m) one_digit more_than_one n h
 
-tenth : (i rest : ℕ) → rest < 10 ^ suc i → rest / 10 < 10 ^ i
-tenth i rest h = let e = pow-suc 10 i in omega arith
-
-pub one_digit : (n : ℕ) (l : List ℕ) → length l ≡ 20 → n < 2 ^ 64 → Spelling n (set l 19 (digit (n % 10))) 19 (n / 10)
-one_digit n l h k =
-    let q : drop 20 l ≡ [] = drop_of_length-le l {i = 20} (omega arith) in
-    record {
-      long = length-set l 19 (digit (n % 10)) ∙ h;
-      place = omega arith;
-      few = omega arith;
-      digits = ap (λ (x : List ℕ). digits_in (n / 10) (n / 10) ++ x) (written_there l 19 (digit (n % 10)) (omega arith) ∙ ap (λ (x : List ℕ). digit (n % 10) ∷ x) q) ∙ sym (all_digits n);
-    }
-
-pub next_digit : (n : ℕ) (l : List ℕ) (i rest : ℕ) → Spelling n l i rest → 0 < rest → Spelling n (set l (i - 1) (digit (rest % 10))) (i - 1) (rest / 10)
-next_digit n l zero rest g h = let f = g.few in absurd (omega arith)
-next_digit n l (suc i) rest g h =
-    let p = g.place in
-    let d = digit (rest % 10) in
-    let e : suc i - 1 ≡ i = omega arith in
-    rw e (record {
-      long = length-set l i d ∙ g.long;
-      place = omega arith;
-      few = tenth i rest g.few;
-      digits =
-          ap (λ (x : List ℕ). digits_in (rest / 10) (rest / 10) ++ x) (written_there l i d (let f = g.long in omega arith))
-          ∙ sym (append_assoc (digits_in (rest / 10) (rest / 10)) (d ∷ []) (drop (suc i) l))
-          ∙ ap (λ (x : List ℕ). x ++ drop (suc i) l) (sym (more_digits rest h))
-          ∙ g.digits;
-    })
-
-pub all_spelled : (n : ℕ) (l : List ℕ) (i rest : ℕ) → Spelling n l i rest → rest ≤ 0 → drop i l ≡ decimal n
-unfolding digits_in
-all_spelled n l i zero g h = g.digits
-all_spelled n l i (suc rest) g h = absurd (not-suc-le-zero h)
-
--- ---- 64 bits
-pub below_half : (n : ℕ) → n < 2 ^ 63 → signed64 n ≡ pos n
-unfolding signed64
-below_half n h = rw (lt-ltb n (2 ^ 63) h)
-
-pub from_half : (n : ℕ) → 2 ^ 63 ≤ n → n < 2 ^ 64 → signed64 n ≡ negsuc (2 ^ 64 - 1 - n)
-unfolding signed64
-from_half n h k = let e : 2 ^ 64 - suc n ≡ 2 ^ 64 - 1 - n = omega arith in rw (le-ltb n (2 ^ 63) h, e)
-
-pub wide_low : (n : ℕ) → n < 2 ^ 31 → signed64 n ≡ signed n
-unfolding signed
-wide_low n h = below_half n (omega arith) ∙ rw (lt-ltb n (2 ^ 31) h)
-
-pub wide_high : (n : ℕ) → 2 ^ 31 ≤ n → n < 2 ^ 32 → signed64 (18446744069414584320 + n) ≡ signed n
-unfolding signed
-wide_high n h k =
-    let e : 2 ^ 64 - 1 - (18446744069414584320 + n) ≡ 2 ^ 32 - suc n = omega arith in
-    from_half (18446744069414584320 + n) (omega arith) (omega arith) ∙ rw (le-ltb n (2 ^ 31) h, e)
-
--- a negative integer is printed by its sign and the number without it
-pub minus_digits : (n : ℕ) → 2 ^ 63 ≤ n → n < 2 ^ 64 → signed_decimal (signed64 n) ≡ 45 ∷ decimal (18446744073709551615 - n + 1)
+pub same_signed : (z : ℤ) → mag z < 2 ^ 63 → std.signed_decimal z ≡ signed_decimal z
 unfolding signed_decimal
-minus_digits n h k =
-    let e : suc (2 ^ 64 - 1 - n) ≡ 18446744073709551615 - n + 1 = omega arith in
-    ap signed_decimal (from_half n h k) ∙ ap (λ (m : ℕ). 45 ∷ decimal m) e
+same_signed (pos n) h = same_decimal n (omega arith)
+same_signed (negsuc n) h = ap (λ (s : List ℕ). 45 ∷ s) (same_decimal (suc n) (omega arith))
 
-pub plain_digits : (n : ℕ) → n < 2 ^ 63 → signed_decimal (signed64 n) ≡ decimal n
-unfolding signed_decimal
-plain_digits n h = ap signed_decimal (below_half n h)
-
--- ---- numbers put into memory
--- the digits that stand in d from i on
-pub digits_put : {l l' : List ℕ} {at e : ℕ} (d : List ℕ) (i n : ℕ) → drop i d ≡ decimal n → length d ≡ 20 → Puts l at (take (20 - i) (drop i d)) l' e → Puts l at (decimal n) l' e × (e ≤ at + 20)
-digits_put {l} {l'} {at} {e} d i n q h p =
-    let f : take (20 - i) (drop i d) ≡ decimal n = take_all (20 - i) (drop i d) (let a = length-drop i d in omega arith) ∙ q in
-    let k : Puts l at (decimal n) l' e = rw f at p in
-    let a = length-drop i d in
-    let b = ap length q in
-    let c = k.end in
-    (k, omega arith)
-
--- a number that is not negative, and one that is
-pub plain_put : {l l' : List ℕ} {at e : ℕ} (n : ℕ) → n < 2 ^ 63 → Puts l at (decimal n) l' e × (e ≤ at + 20) → Puts l at (signed_decimal (signed64 n)) l' e × (e ≤ at + 21)
-plain_put n h p = let a = p.1 in (rw (plain_digits n h) p.0, omega arith)
-
-pub minus_put : {l k l' : List ℕ} {at a e : ℕ} (n : ℕ) → 2 ^ 63 ≤ n → n < 2 ^ 64 → Puts l at (45 ∷ []) k a → Puts k a (decimal (18446744073709551615 - n + 1)) l' e × (e ≤ a + 20)
-    → Puts l at (signed_decimal (signed64 n)) l' e × (e ≤ at + 21)
-minus_put n h g p q = let a = p.end in let b = q.1 in (rw (minus_digits n h g) (puts_behind p q.0), omega arith)
+-- text of at most k bytes
+pub text_put : {l s t l' : List ℕ} {at e : ℕ} (k : ℕ) → t ≡ s → length t ≤ k → Puts l at t l' e → Puts l at s l' e × (e ≤ at + k)
+text_put k q h p = let i = p.end in (rw q at p, omega arith)

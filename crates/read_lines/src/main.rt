@@ -7,28 +7,11 @@ ghost use Rattle.text.specs.Bytes.{same_bytes, lines_of};
 
 use std::io;
 
-// Whether two lines hold the same bytes.
-fn same(a: &[u8], b: &[u8]) -> bool
-    ensures { result ≡ same_bytes a.now b.now }
-{
-    if a.len() != b.len() {
-        return false;
-    }
-    let mut i = 0;
-    while i < a.len() {
-        if a[i] != b[i] {
-            return false;
-        }
-        i += 1;
-    }
-    true
-}
-
 // 1 for two lines with the same bytes, else 0.
 fn agreement(a: &[u8], b: &[u8]) -> usize
     ensures { result ≡ cond (same_bytes a.now b.now) 1 0 }
 {
-    if same(a, b) { 1 } else { 0 }
+    usize::from(a == b)
 }
 
 // How many lines, read through the reader one after the other, are the line finder's.
@@ -38,6 +21,7 @@ fn agreeing(text: &[u8]) -> usize
     let mut at = 0;
     let mut n: usize = 0;
     let mut agree = 0;
+    // Kept: a `while`. What is tried is the reader, which moves `at` on.
     while at < text.len() {
         let line = text_reader::read(text, &mut at);
         agree += agreement(line, text_lines::line(text, n));

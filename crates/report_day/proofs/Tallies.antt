@@ -1,178 +1,164 @@
 -- The tally of a day's stops has its figures.
-use Rattle.std.proofs.Common.{◌≡◌, ℕ, suc, ◌+◌, ◌-◌, ◌*◌, ◌/◌, ◌<◌, ◌≤◌, min, max, Bool, true, false, cond, not, ◌&&◌, ◌||◌, eqb, ltb, leb, List, [], ◌∷◌, map, length, ℤ, ◌+ℤ◌, sym, refl, ap, ◌∙◌, add-zero, zero-add, arith, ltb-true, eq-eqb, ne_eqb, leb-false, leb-true}
-use native.Mathlib.Nat.{min-eq_left, min-eq_right, max-eq_left, max-eq_right, div-le_of_le-mul}
+use Rattle.std.proofs.Common.{◌≡◌, ℕ, suc, ◌+◌, ◌-◌, ◌^◌, ◌<◌, Bool, true, false, cond, eqb, ltb, List, [], ◌∷◌, map, length, ℤ, pos, negsuc, ◌+ℤ◌, ◌≤ℤ◌, sym, refl, ap, ◌∙◌, add-zero, add_comm, add-one, arith, eq-eqb, ne_eqb, ltb-true, ltb-false, lt-ltb, le-ltb}
+use Rattle.std.specs.Int.{int_min, int_max, int_div_euclid, int_rem_euclid}
+use Rattle.std.specs.Int.Signed.{le_z}
+use Rattle.std.proofs.lemmas.Int.{ints}
+use mir.Syntax.{w32, w64}
+use mir.Val.{SFits}
+use lib.IntN.{nat_abs}
 use lib.ListN.{length-map}
-use lib.IntN.{sub_ℕ}
 use Rattle.syntax.specs.Bits.{modulus, half, signed}
 use Rattle.syntax.specs.Partial.{guarded}
-use Rattle.types.proofs.Equal.{and_inv}
-use Rattle.exec.specs.Machine.{int_kind, junk_kind}
+use Rattle.exec.specs.Machine.{int_kind}
 use Rattle.exec.specs.Run.{Answer, refused, halted_after, paused_after, stack_full_after, heap_full_after, stuck_after}
-use Rattle.report.specs.Stops.{most_steps, word_fits, permitted}
 use Rattle.report.specs.Day as report
-use Rattle.report.specs.Day.{values, integer_of, integers_of, others_of, sum, least, greatest, no_integer, figures, figures_of, report_of, Report}
-use Rattle.report.specs.Claims.{AllPermitted}
+use Rattle.report.specs.Day.{values, integer_of, integers_of, others_of, sum, least, greatest, quotient_by, remainder_by, no_integer, figures, figures_of, report_of, Report}
 use Rattle.report.proofs.Figures.{all_counted}
 use Rattle.report_stop.specs.Told.{counted}
 use Rattle.report_stop.specs.declared.Stop.{Stop}
-use Rattle.report_stop.specs.declared.Stop.TheVariants.{Integer, Other, Bad}
+use Rattle.report_stop.specs.declared.Stop.TheVariants.{Integer, Other}
 use Rattle.report_day.specs.declared.Tally.{Tally}
-use Rattle.report_day.specs.Tally.{lifted, tally, plus, after, Small, figures_by}
-use Rattle.report_day.proofs.Numbers.{lift_small, lifted_back, same_order, same_sum, same_quotient, same_remainder}
+use Rattle.report_day.specs.Tally.{tally, plus, after, Small, figures_by}
 
--- ---- a tally stays small
-pub plus_small : (t : Tally) (x : ℕ) → Small t → x < modulus → t.count < 500 → Small (plus t x)
+-- ---- one integer more
+pub plus_small : (t : Tally) (z : ℤ) → Small t → t.count < 500 → pos 0 ≤ℤ (z +ℤ pos half) → z ≤ℤ pos half → Small (plus t z)
 unfolding plus
-plus_small t x g h l =
-    let a = g.sum in
-    let b = g.low in
-    let c = g.high in
-    record { few = omega arith; sum = omega arith; low = omega arith; high = omega arith }
+plus_small t z g l h k =
+    let a = g.from in
+    let b = g.to in
+    record { few = omega arith; from = omega (arith, ints); to = omega (arith, ints) }
 
-pub after_small : (t : Tally) (s : Stop) → ((bits : ℕ) → s ≡ Integer bits → bits < modulus) → Small t → t.count < 500 → Small (after t s)
-unfolding after
-after_small t (Integer bits) f g l = plus_small t (lifted bits) g (lift_small bits (f bits refl)) l
-after_small t Other f g l = g
-after_small t Bad f g l = g
+pub with_is : (t : Tally) {z r l h : ℤ} → r ≡ z → l ≡ int_min t.low r → h ≡ int_max t.high r → tally (t.count + 1) (t.sum +ℤ r) l h ≡ plus t z
+unfolding plus
+with_is t e f g = rw (f, g, e) refl
 
-pub after_count : (t : Tally) (s : Stop) → (after t s).count ≤ t.count + 1
-unfolding after plus
-after_count t (Integer bits) = omega arith
-after_count t Other = omega arith
-after_count t Bad = omega arith
+pub short_bounds : (z : ℤ) → SFits w32 z → (pos 0 ≤ℤ (z +ℤ pos half)) × (z ≤ℤ pos half)
+short_bounds z h = (omega (arith, ints), omega (arith, ints))
 
--- the mean is below 2^32
-pub mean_small : (t : Tally) → Small t → 0 < t.count → t.sum / t.count < modulus
-mean_small t g h = let a = div-le_of_le-mul t.count g.sum in omega arith
+fits_between : (y : ℤ) → pos 0 ≤ℤ (y +ℤ pos (2 ^ 62)) → y ≤ℤ pos (2 ^ 62) → SFits w64 y
+fits_between (pos n) h k = record { sfits = omega (arith, ints) }
+fits_between (negsuc n) h k = record { sfits = omega (arith, ints) }
 
--- ---- the numbers of stops
-abbrev with_lift : Stop → List ℕ → List ℕ
-with_lift (Integer bits) xs = lifted bits ∷ xs
-with_lift Other xs = xs
-with_lift Bad xs = xs
+-- the new sum fits
+pub sum_fits : (t : Tally) (z : ℤ) → Small t → t.count < 500 → SFits w32 z → SFits w64 (t.sum +ℤ z)
+sum_fits t z g l h =
+    let a = g.from in
+    let b = g.to in
+    let c = short_bounds z h in
+    fits_between (t.sum +ℤ z) (let d = c.0 in omega (arith, ints)) (let d = c.1 in omega (arith, ints))
 
-unfoldable lifts_of : List Answer → List ℕ
-lifts_of [] = []
-lifts_of (a ∷ stops) = with_lift (counted a) (lifts_of stops)
+-- division of the sum by the count
+pub quotient_is : (c : ℕ) (z : ℤ) → int_div_euclid z (pos c) ≡ quotient_by c z
+unfolding quotient_by
+quotient_is c (pos n) = refl
+quotient_is c (negsuc n) = refl
+
+pub remainder_is : (c : ℕ) (z : ℤ) → int_rem_euclid z (pos c) ≡ pos (remainder_by c z)
+unfolding remainder_by
+remainder_is c (pos n) = refl
+remainder_is c (negsuc n) = ap pos (omega arith)
+
+pub figures_are : (t : Tally) (others : ℕ) {q r : ℤ} → q ≡ int_div_euclid t.sum (pos t.count) → r ≡ int_rem_euclid t.sum (pos t.count)
+    → ◌≡◌ {A = report.Figures} (record { count = t.count; others = others; total = t.sum; smallest = t.low; largest = t.high; quotient = q; remainder = nat_abs r }) (figures_by t others)
+unfolding figures_by
+figures_are t others e f = rw (e ∙ quotient_is t.count t.sum, f ∙ remainder_is t.count t.sum) refl
+
+-- ---- the integers of stops
+abbrev with_integer : Stop → List ℤ → List ℤ
+with_integer (Integer z) zs = z ∷ zs
+with_integer Other zs = zs
+
+unfoldable counted_all : List Answer → List ℤ
+counted_all [] = []
+counted_all (a ∷ stops) = with_integer (counted a) (counted_all stops)
 
 -- the tally after stops, one by one
 unfoldable pub folded : Tally → List Answer → Tally
 folded t [] = t
 folded t (a ∷ stops) = folded (after t (counted a)) stops
 
-unfoldable plus_all : Tally → List ℕ → Tally
+unfoldable plus_all : Tally → List ℤ → Tally
 plus_all t [] = t
-plus_all t (x ∷ xs) = plus_all (plus t x) xs
+plus_all t (z ∷ zs) = plus_all (plus t z) zs
 
-folded_is : (t : Tally) (stops : List Answer) → folded t stops ≡ plus_all t (lifts_of stops)
-unfolding folded plus_all lifts_of after
+folded_is : (t : Tally) (stops : List Answer) → folded t stops ≡ plus_all t (counted_all stops)
+unfolding folded plus_all counted_all after
 folded_is t [] = refl
 folded_is t (a ∷ stops) = folded_is (after t (counted a)) stops ∙ go (counted a)
   where
-    go : (s : Stop) → plus_all (after t s) (lifts_of stops) ≡ plus_all t (with_lift s (lifts_of stops))
-    go (Integer bits) = refl
+    go : (s : Stop) → plus_all (after t s) (counted_all stops) ≡ plus_all t (with_integer s (counted_all stops))
+    go (Integer z) = refl
     go Other = refl
-    go Bad = refl
 
--- ---- sums and bounds
-unfoldable total : List ℕ → ℕ
-total [] = 0
-total (x ∷ xs) = x + total xs
-
-unfoldable lowest : ℕ → List ℕ → ℕ
-lowest l [] = l
-lowest l (x ∷ xs) = lowest (min l x) xs
-
-unfoldable highest : ℕ → List ℕ → ℕ
-highest h [] = h
-highest h (x ∷ xs) = highest (max h x) xs
-
-all_added : (xs : List ℕ) (c s l h : ℕ) → plus_all (tally c s l h) xs ≡ tally (c + length xs) (s + total xs) (lowest l xs) (highest h xs)
-unfolding plus_all plus total lowest highest
-all_added [] c s l h = rw (add-zero c, add-zero s)
-all_added (x ∷ xs) c s l h =
-    let e : c + 1 + length xs ≡ c + suc (length xs) = omega arith in
-    let f : s + x + total xs ≡ s + (x + total xs) = omega arith in
-    all_added xs (c + 1) (s + x) (min l x) (max h x) ∙ rw (e, f)
-
--- a number's integer
-abbrev lower : ℕ → ℤ
-lower x = sub_ℕ x half
-
-sums : (xs : List ℕ) → sum (map lower xs) ≡ sub_ℕ (total xs) (length xs * half)
-unfolding sum total
-sums [] = refl
-sums (x ∷ xs) =
-    let e : half + length xs * half ≡ suc (length xs) * half = omega arith in
-    ap (λ (z : ℤ). lower x +ℤ z) (sums xs) ∙ same_sum x (total xs) half (length xs * half) ∙ ap (sub_ℕ (x + total xs)) e
-
-min_is : (x y : ℕ) → cond (leb x y) (lower x) (lower y) ≡ lower (min x y)
-min_is x y = go (leb x y) refl
+-- those are the integers that the stops halted with
+integers_are : (stops : List Answer) → integers_of stops ≡ counted_all stops
+unfolding integers_of values counted_all integer_of counted
+integers_are [] = refl
+integers_are (refused n line ∷ stops) = integers_are stops
+integers_are (halted_after steps k n ∷ stops) = go (eqb k int_kind) (integers_are stops)
   where
-    go : (t : Bool) → leb x y ≡ t → cond t (lower x) (lower y) ≡ lower (min x y)
-    go true e = ap lower (sym (min-eq_left (leb-true x y e)))
-    go false e = let l = leb-false x y e in ap lower (sym (min-eq_right {n = y} {m = x} (omega arith)))
-
-max_is : (x y : ℕ) → cond (leb x y) (lower y) (lower x) ≡ lower (max x y)
-max_is x y = go (leb x y) refl
-  where
-    go : (t : Bool) → leb x y ≡ t → cond t (lower y) (lower x) ≡ lower (max x y)
-    go true e = ap lower (sym (max-eq_right (leb-true x y e)))
-    go false e = let l = leb-false x y e in ap lower (sym (max-eq_left {n = x} {m = y} (omega arith)))
-
-least_is : (x : ℕ) (xs : List ℕ) → least (lower x) (map lower xs) ≡ lower (lowest x xs)
-unfolding least lowest
-least_is x [] = refl
-least_is x (y ∷ xs) = ap (λ (z : ℤ). least z (map lower xs)) (ap (λ (b : Bool). cond b (lower x) (lower y)) (same_order x y half) ∙ min_is x y) ∙ least_is (min x y) xs
-
-greatest_is : (x : ℕ) (xs : List ℕ) → greatest (lower x) (map lower xs) ≡ lower (highest x xs)
-unfolding greatest highest
-greatest_is x [] = refl
-greatest_is x (y ∷ xs) = ap (λ (z : ℤ). greatest z (map lower xs)) (ap (λ (b : Bool). cond b (lower y) (lower x)) (same_order x y half) ∙ max_is x y) ∙ greatest_is (max x y) xs
-
--- ---- the integers of stops
-fits_small : (k n : ℕ) → word_fits k n ≡ true → n < modulus
-unfolding word_fits
-fits_small k n h =
-    let rest = not (eqb k junk_kind) || eqb n 0 in
-    ltb-true n modulus (and_inv (leb k junk_kind) (ltb n modulus) (and_inv (leb k junk_kind && ltb n modulus) rest h).0).1
-
-pub permitted_small : (steps k n : ℕ) → permitted (halted_after steps k n) ≡ true → n < modulus
-unfolding permitted
-permitted_small steps k n h = fits_small k n (and_inv (leb steps most_steps) (word_fits k n) h).1
-
-integers_are : (stops : List Answer) → AllPermitted stops → integers_of stops ≡ map lower (lifts_of stops)
-unfolding integers_of values lifts_of integer_of counted
-integers_are [] p = refl
-integers_are (refused n line ∷ stops) p = integers_are stops p.1
-integers_are (halted_after steps k n ∷ stops) p = go (eqb k int_kind) (integers_are stops p.1)
-  where
-    go : (t : Bool) → values (map integer_of stops) ≡ map lower (lifts_of stops) → values (guarded t (signed n) ∷ map integer_of stops) ≡ map lower (with_lift (cond t (Integer n) Other) (lifts_of stops))
-    go true e = rw (lifted_back n (permitted_small steps k n p.0), e)
+    go : (t : Bool) → values (map integer_of stops) ≡ counted_all stops → values (guarded t (signed n) ∷ map integer_of stops) ≡ with_integer (cond t (Integer (signed n)) Other) (counted_all stops)
+    go true e = ap (λ (zs : List ℤ). signed n ∷ zs) e
     go false e = e
-integers_are (paused_after steps ∷ stops) p = integers_are stops p.1
-integers_are (stack_full_after steps ∷ stops) p = integers_are stops p.1
-integers_are (heap_full_after steps ∷ stops) p = integers_are stops p.1
-integers_are (stuck_after steps ∷ stops) p = integers_are stops p.1
+integers_are (paused_after steps ∷ stops) = integers_are stops
+integers_are (stack_full_after steps ∷ stops) = integers_are stops
+integers_are (heap_full_after steps ∷ stops) = integers_are stops
+integers_are (stuck_after steps ∷ stops) = integers_are stops
 
--- every number is below 2^32
-pub data AllSmall : List ℕ → Type 0 where
-  nothing : AllSmall []
-  one_more : {x : ℕ} {xs : List ℕ} → x < modulus → AllSmall xs → AllSmall (x ∷ xs)
+-- ---- the smallest and the largest
+min_is : (y z : ℤ) → int_min y z ≡ cond (le_z y z) y z
+min_is y z = grind (arith, ints)
 
-lifts_small : (stops : List Answer) → AllPermitted stops → AllSmall (lifts_of stops)
-unfolding lifts_of counted
-lifts_small [] p = nothing
-lifts_small (refused n line ∷ stops) p = lifts_small stops p.1
-lifts_small (halted_after steps k n ∷ stops) p = go (eqb k int_kind) (lifts_small stops p.1)
+max_is : (y z : ℤ) → int_max y z ≡ cond (le_z y z) z y
+max_is y z = grind (arith, ints)
+
+all_added : (zs : List ℤ) (c : ℕ) (s l h : ℤ) → plus_all (tally c s l h) zs ≡ tally (c + length zs) (s +ℤ sum zs) (least l zs) (greatest h zs)
+unfolding plus_all plus sum least greatest
+all_added [] c s l h = let e : s +ℤ pos 0 ≡ s = omega (arith, ints) in rw (add-zero c, e)
+all_added (z ∷ zs) c s l h =
+    let e : c + 1 + length zs ≡ c + suc (length zs) = omega arith in
+    let f : s +ℤ z +ℤ sum zs ≡ s +ℤ (z +ℤ sum zs) = omega (arith, ints) in
+    all_added zs (c + 1) (s +ℤ z) (int_min l z) (int_max h z) ∙ rw (e, f, min_is l z, max_is h z)
+
+-- the tally of no stops
+abbrev pub untouched : Tally
+untouched = tally 0 (pos 0) (pos (2 ^ 63 - 1)) (negsuc (2 ^ 63 - 1))
+
+-- an integer of 32 bits is between the two that it begins with
+first_least : (n : ℕ) → int_min (pos (2 ^ 63 - 1)) (signed n) ≡ signed n
+unfolding signed
+first_least n = go (ltb n half) refl
   where
-    go : (t : Bool) → AllSmall (lifts_of stops) → AllSmall (with_lift (cond t (Integer n) Other) (lifts_of stops))
-    go true e = one_more (lift_small n (permitted_small steps k n p.0)) e
+    go : (t : Bool) → ltb n half ≡ t → int_min (pos (2 ^ 63 - 1)) (signed n) ≡ signed n
+    go true e = let h = ltb-true n half e in rw (e, lt-ltb n (2 ^ 63 - 1) (omega arith)) refl
+    go false e = rw e refl
+
+first_greatest : (n : ℕ) → int_max (negsuc (2 ^ 63 - 1)) (signed n) ≡ signed n
+unfolding signed
+first_greatest n = go (ltb n half) refl
+  where
+    go : (t : Bool) → ltb n half ≡ t → int_max (negsuc (2 ^ 63 - 1)) (signed n) ≡ signed n
+    go true e = rw e refl
+    go false e = let h = ltb-false n half e in rw (e, le-ltb (2 ^ 63 - 1) (modulus - suc n) (omega arith)) refl
+
+-- every integer is of 32 bits
+data AllShort : List ℤ → Type 0 where
+  nothing : AllShort []
+  one_more : (n : ℕ) {zs : List ℤ} → AllShort zs → AllShort (signed n ∷ zs)
+
+all_short : (stops : List Answer) → AllShort (counted_all stops)
+unfolding counted_all counted
+all_short [] = nothing
+all_short (refused n line ∷ stops) = all_short stops
+all_short (halted_after steps k n ∷ stops) = go (eqb k int_kind) (all_short stops)
+  where
+    go : (t : Bool) → AllShort (counted_all stops) → AllShort (with_integer (cond t (Integer (signed n)) Other) (counted_all stops))
+    go true e = one_more n e
     go false e = e
-lifts_small (paused_after steps ∷ stops) p = lifts_small stops p.1
-lifts_small (stack_full_after steps ∷ stops) p = lifts_small stops p.1
-lifts_small (heap_full_after steps ∷ stops) p = lifts_small stops p.1
-lifts_small (stuck_after steps ∷ stops) p = lifts_small stops p.1
+all_short (paused_after steps ∷ stops) = all_short stops
+all_short (stack_full_after steps ∷ stops) = all_short stops
+all_short (heap_full_after steps ∷ stops) = all_short stops
+all_short (stuck_after steps ∷ stops) = all_short stops
 
 -- ---- the report
 -- the report by a tally of n stops
@@ -187,41 +173,26 @@ pub finished_some : (n : ℕ) (t : Tally) → (t.count ≡ 0 → ⊥) → figure
 unfolding finished
 finished_some n t e = rw (ne_eqb t.count 0 e)
 
--- the tally of no stops
-abbrev pub untouched : Tally
-untouched = tally 0 0 (modulus - 1) 0
+-- the tally of integers, the first of which is the smallest and the largest so far
+first_added : (n : ℕ) (zs : List ℤ) → plus_all untouched (signed n ∷ zs) ≡ tally (suc (length zs)) (sum (signed n ∷ zs)) (least (signed n) zs) (greatest (signed n) zs)
+unfolding sum plus_all plus
+first_added n zs =
+    let z = signed n in
+    let e : pos 0 +ℤ z +ℤ sum zs ≡ z +ℤ sum zs = omega (arith, ints) in
+    all_added zs (0 + 1) (pos 0 +ℤ z) (int_min (pos (2 ^ 63 - 1)) z) (int_max (negsuc (2 ^ 63 - 1)) z) ∙ rw (e, first_least n, first_greatest n, ← add-one (length zs)) (rw (add_comm 1 (length zs)) refl)
 
--- the tally of numbers, the first of which is the smallest and the largest so far
-first_added : (x : ℕ) (xs : List ℕ) → x < modulus → plus_all untouched (x ∷ xs) ≡ tally (suc (length xs)) (total (x ∷ xs)) (lowest x xs) (highest x xs)
-unfolding total lowest highest
-first_added x xs h =
-    let a : min (modulus - 1) x ≡ x = min-eq_right {n = x} {m = modulus - 1} (omega arith) in
-    let b : max 0 x ≡ x = max-eq_right {n = 0} {m = x} (omega arith) in
-    all_added (x ∷ xs) 0 0 (modulus - 1) 0 ∙ ap (λ (l : ℕ). tally (0 + suc (length xs)) (0 + (x + total xs)) (lowest l xs) (highest (max 0 x) xs)) a
-    ∙ ap (λ (m : ℕ). tally (0 + suc (length xs)) (0 + (x + total xs)) (lowest x xs) (highest m xs)) b
-    ∙ rw (zero-add (suc (length xs)), zero-add (x + total xs))
+by_integers : (zs : List ℤ) (others n : ℕ) → AllShort zs → length zs + others ≡ n → finished n (plus_all untouched zs) ≡ figures_of zs others
+unfolding finished figures_of plus_all figures_by
+by_integers [] others n g e = ap no_integer (omega arith)
+by_integers (z ∷ zs) others n (one_more k g) e =
+    let f : n - suc (length zs) ≡ others = omega arith in
+    ap (finished n) (first_added k zs) ∙ rw (f, ne_eqb (suc (length zs)) 0 (λ x. omega arith)) refl
 
-figures_are : (x : ℕ) (xs : List ℕ) (others : ℕ) → figures (figures_by (tally (suc (length xs)) (total (x ∷ xs)) (lowest x xs) (highest x xs)) others) ≡ figures_of (map lower (x ∷ xs)) others
-unfolding figures_by figures_of
-figures_are x xs others =
-    let c = suc (length xs) in
-    let s = total (x ∷ xs) in
-    rw (length-map xs lower, sums (x ∷ xs), least_is x xs, greatest_is x xs) (rw (same_quotient c (omega arith) s half, same_remainder c (omega arith) s half) refl)
-
-by_lifts : (xs : List ℕ) (others n : ℕ) → AllSmall xs → length xs + others ≡ n → finished n (plus_all untouched xs) ≡ figures_of (map lower xs) others
-unfolding finished figures_of plus_all
-by_lifts [] others n g e = ap no_integer (omega arith)
-by_lifts (x ∷ xs) others n (one_more h g) e =
-    let f : n - suc (length xs) ≡ others = omega arith in
-    let t = tally (suc (length xs)) (total (x ∷ xs)) (lowest x xs) (highest x xs) in
-    ap (finished n) (first_added x xs h) ∙ sym (finished_some n t (λ z. omega arith)) ∙ ap (λ (k : ℕ). figures (figures_by t k)) f ∙ figures_are x xs others
-
-pub tallied : (stops : List Answer) → AllPermitted stops → finished (length stops) (folded untouched stops) ≡ report_of stops
+pub tallied : (stops : List Answer) → finished (length stops) (folded untouched stops) ≡ report_of stops
 unfolding report_of others_of integers_of
-tallied stops p =
-    let i = integers_are stops p in
-    let l = length-map (lifts_of stops) lower in
+tallied stops =
+    let i = integers_are stops in
     let k = all_counted (map integer_of stops) in
     let m = length-map stops integer_of in
     let j = ap length i in
-    ap (finished (length stops)) (folded_is untouched stops) ∙ by_lifts (lifts_of stops) (others_of stops) (length stops) (lifts_small stops p) (omega arith) ∙ ap (λ (zs : List ℤ). figures_of zs (others_of stops)) (sym i)
+    ap (finished (length stops)) (folded_is untouched stops) ∙ by_integers (counted_all stops) (others_of stops) (length stops) (all_short stops) (omega arith) ∙ ap (λ (zs : List ℤ). figures_of zs (others_of stops)) (sym i)

@@ -6,17 +6,15 @@ ghost use Rattle.print.specs.Decimal.{decimal, signed_decimal};
 ghost use Rattle.print.specs.Written.{written};
 ghost use Rattle.print_write.specs.Answers.{written_is};
 ghost use Rattle.print_write.specs.Put.{Puts};
-ghost use Rattle.print_write.specs.Wide.{signed64};
 ghost use Rattle.report.specs.Day.{report_line, figures, no_integer, refused};
 ghost use Rattle.report_day.specs.Answers.{figures_is, report_is};
 
-use crate::{Answer, Figures};
-use print_write::Written;
+use crate::{Day, Figures, Refused};
 
-// Puts a comma and the integer that has the bits n.
-fn put_next(n: u64, out: &mut [u8], at: usize) -> usize
+// Puts a comma and an integer.
+fn put_next(n: i64, out: &mut [u8], at: usize) -> usize
     requires { at + 22 ≤ length out.old }
-    ensures { Puts out.old at (44 ∷ signed_decimal (signed64 n)) out.new result × (result ≤ at + 22) }
+    ensures { Puts out.old at (44 ∷ signed_decimal n) out.new result × (result ≤ at + 22) }
 {
     let a = print_write::put(b",", out, at);
     print_write::put_signed(n, out, a)
@@ -75,19 +73,19 @@ fn refusal_line(line: usize, out: &mut [u8]) -> usize
 }
 
 // The line of an answer; where it ends.
-fn report_line(a: Answer, out: &mut [u8]) -> usize
+fn report_line(a: Result<Day, Refused>, out: &mut [u8]) -> usize
     requires { 160 ≤ length out.old }
     ensures { (result ≤ 160) × (take result out.new ≡ report_line (report_is a)) }
 {
     match a {
-        Answer::Refused(line) => refusal_line(line, out),
-        Answer::NoInteger(others) => none_line(others, out),
-        Answer::Tallied(f) => figures_line(f, out),
+        Err(r) => refusal_line(r.line, out),
+        Ok(Day::NoInteger(others)) => none_line(others, out),
+        Ok(Day::Tallied(f)) => figures_line(f, out),
     }
 }
 
-// Writes the line of a day's report.
-pub fn write_report(a: Answer, out: &mut [u8]) -> Written
+// Writes the line of a day's report: how many bytes, or none where the memory is too short.
+pub fn write_report(a: Result<Day, Refused>, out: &mut [u8]) -> Option<usize>
     ensures { (written_is result out.new ≡ written (report_line (report_is a)) out.old) × (length (report_line (report_is a)) ≤ 160) }
 {
     let mut line = [0u8; 160];

@@ -3,153 +3,108 @@
 #![tactic(auto)]
 
 ghost use Rattle.std.specs.Prelude.{◌≡◌, not, [], ◌∷◌, ℕ};
-ghost use Rattle.syntax.specs.Partial.{chain};
-ghost use Rattle.text.specs.Bytes.{same_bytes, number};
+ghost use Rattle.text.specs.Bytes.{number};
 ghost use Rattle.report.specs.Stops.{most_steps, kind_of, plain_stop, halt_with, stop_in, stop_of};
 ghost use Rattle.report.specs.Day.{is_none};
-ghost use Rattle.report_stop.specs.Told.{told, kind_in};
+ghost use Rattle.report_stop.specs.Told.{told, kind_in, kind_number};
 
-use text_fields::numbers::Number;
-
-// A halt with an integer, as its bits; any other stop; no stop at all.
+// A halt with an integer; any other stop.
 #[derive(Clone, Copy)]
 pub enum Stop {
-    Integer(u32),
+    Integer(i32),
     Other,
-    Bad,
 }
 
-// The two texts are equal.
-fn same(s: &[u8], t: &[u8]) -> bool
-    ensures { result ≡ same_bytes s.now t.now }
-{
-    if s.len() != t.len() {
-        return false;
-    }
-    let mut i = 0;
-    while i < s.len() {
-        if s[i] != t[i] {
-            return false;
-        }
-        i += 1;
-    }
-    true
+// The kinds of the word that a run halts with.
+#[derive(Clone, Copy)]
+enum Kind {
+    Int,
+    Code,
+    Tuple,
+    Height,
+    Junk,
 }
 
 // "steps 0 to 1,000,000"
 fn is_steps(n: &[u8]) -> bool
     ensures { result ≡ not (is_none (number 0 most_steps n.now)) }
 {
-    match text_fields::numbers::number_in(n, 0, 1000000) {
-        Number::Value(_) => true,
-        Number::Bad => false,
-    }
+    text_fields::numbers::number_in(n, 0, 1000000).is_some()
 }
 
 // The name of a stop other than a halt.
+#[tactic(auto, using(crate::proofs::Laws::plain_names), unfolding(text::specs::Bytes::bytes))]
 fn is_plain(w: &[u8]) -> bool
     ensures { result ≡ not (is_none (plain_stop w.now 0)) }
 {
-    if same(w, b"paused") {
-        return true;
-    }
-    if same(w, b"stack") {
-        return true;
-    }
-    if same(w, b"heap") {
-        return true;
-    }
-    same(w, b"stuck")
+    matches!(w, b"paused" | b"stack" | b"heap" | b"stuck")
 }
 
 // A line of two fields.
-fn plain(w: &[u8], n: &[u8]) -> Stop
+fn plain(w: &[u8], n: &[u8]) -> Option<Stop>
     ensures { result ≡ told (stop_in (w.now ∷ n.now ∷ [])) }
 {
-    if !is_steps(n) {
-        return Stop::Bad;
+    if is_steps(n) && is_plain(w) {
+        Some(Stop::Other)
+    } else {
+        None
     }
-    if is_plain(w) {
-        return Stop::Other;
-    }
-    Stop::Bad
 }
 
-// The kind of that name, 5 where it is none.
-fn kind_of(k: &[u8]) -> u8
+// The kind of that name.
+#[tactic(auto, using(crate::proofs::Laws::kind_names), unfolding(text::specs::Bytes::bytes))]
+fn kind_of(k: &[u8]) -> Option<Kind>
     ensures { kind_in result ≡ kind_of k.now }
 {
-    if same(k, b"int") {
-        return 0;
+    match k {
+        b"int" => Some(Kind::Int),
+        b"code" => Some(Kind::Code),
+        b"tuple" => Some(Kind::Tuple),
+        b"height" => Some(Kind::Height),
+        b"junk" => Some(Kind::Junk),
+        _ => None,
     }
-    if same(k, b"code") {
-        return 1;
-    }
-    if same(k, b"tuple") {
-        return 2;
-    }
-    if same(k, b"height") {
-        return 3;
-    }
-    if same(k, b"junk") {
-        return 4;
-    }
-    5
 }
 
 // A halt with a word of that kind and bits: "junk 0".
-fn halt_with(kind: u8, bits: u32) -> Stop
-    ensures { (steps : ℕ) → result ≡ told (chain (kind_in kind) (λ k. halt_with steps k bits)) }
+fn halt_with(kind: Kind, bits: u32) -> Option<Stop>
+    ensures { (steps : ℕ) → result ≡ told (halt_with steps (kind_number kind) bits) }
 {
-    if kind == 0 {
-        return Stop::Integer(bits);
+    match kind {
+        Kind::Int => Some(Stop::Integer(bits.cast_signed())),
+        Kind::Junk if bits != 0 => None,
+        _ => Some(Stop::Other),
     }
-    if 4 < kind {
-        return Stop::Bad;
-    }
-    if kind == 4 {
-        if bits != 0 {
-            return Stop::Bad;
-        }
-    }
-    Stop::Other
 }
 
 // A line of four fields.
-fn halt(w: &[u8], n: &[u8], k: &[u8], m: &[u8]) -> Stop
+fn halt(w: &[u8], n: &[u8], k: &[u8], m: &[u8]) -> Option<Stop>
     ensures { result ≡ told (stop_in (w.now ∷ n.now ∷ k.now ∷ m.now ∷ [])) }
 {
-    if !same(w, b"halted") {
-        return Stop::Bad;
+    if w != b"halted".as_slice() || !is_steps(n) {
+        return None;
     }
-    if !is_steps(n) {
-        return Stop::Bad;
-    }
+    let kind = kind_of(k)?;
     match text_fields::numbers::literal(m) {
-        Number::Value(bits) => halt_with(kind_of(k), bits),
-        Number::Bad => Stop::Bad,
+        Some(bits) => halt_with(kind, bits),
+        None => None,
     }
 }
 
 // The stop that a line tells, which is given without its LF.
-pub fn read_stop(s: &[u8]) -> Stop
+pub fn read_stop(s: &[u8]) -> Option<Stop>
     ensures { result ≡ told (stop_of s.now) }
 {
-    let a = text_lines::part_end(s, 0, b',');
-    if s.len() <= a {
-        return Stop::Bad;
+    let mut fields = s.split(|b| *b == b',');
+    match (
+        fields.next(),
+        fields.next(),
+        fields.next(),
+        fields.next(),
+        fields.next(),
+    ) {
+        (Some(w), Some(n), None, _, _) => plain(w, n),
+        (Some(w), Some(n), Some(k), Some(m), None) => halt(w, n, k, m),
+        _ => None,
     }
-    let b = text_lines::part_end(s, a + 1, b',');
-    if s.len() <= b {
-        return plain(&s[0..a], &s[a + 1..b]);
-    }
-    let c = text_lines::part_end(s, b + 1, b',');
-    if s.len() <= c {
-        return Stop::Bad;
-    }
-    let d = text_lines::part_end(s, c + 1, b',');
-    if d < s.len() {
-        return Stop::Bad;
-    }
-    halt(&s[0..a], &s[a + 1..b], &s[b + 1..c], &s[c + 1..d])
 }

@@ -8,7 +8,7 @@ use Rattle.exec_outcome.specs.declared.Outcome.{Outcome}
 use Rattle.exec_outcome.specs.Answers.{answer_is, outcome_is}
 use Rattle.stal_numbers.specs.declared.Reply.{Reply}
 use Rattle.print.specs.Written.{written}
-use Rattle.print_write.specs.declared.Written.{Written}
+use Rattle.std.specs.Prelude.{Option}
 use Rattle.print_write.specs.Answers.{written_is}
 use Rattle.report.specs.Day.{Report}
 use Rattle.stal_lines.specs.Day.{TellsDay}
@@ -26,5 +26,5 @@ pub day_told : {m m' : List ℕ} {c l : ℕ} {r r' : Report} → TellsDay m r c 
 day_told {m = m} {m' = m'} {c = c} {l = l} t e = subst (λ (r : Report). TellsDay m r c l m') e t
 
 -- a line s that was written is told as its length, and so is s', which is the same
-pub line_told : {c n : ℕ} {m s s' : List ℕ} (m₀ : List ℕ) (w : Written) → ((l : List ℕ) → told c n l ≡ told_of (written_is w l)) → written_is w m ≡ written s m₀ → s ≡ s' → told c n m ≡ told_of (written s' m₀)
+pub line_told : {c n : ℕ} {m s s' : List ℕ} (m₀ : List ℕ) (w : Option ℕ) → ((l : List ℕ) → told c n l ≡ told_of (written_is w l)) → written_is w m ≡ written s m₀ → s ≡ s' → told c n m ≡ told_of (written s' m₀)
 line_told {m = m} m₀ w t h e = t m ∙ rw (h, e)

@@ -6,21 +6,15 @@ ghost use Rattle.std.specs.Prelude.{◌≡◌, ◌≤◌, length, take};
 ghost use Rattle.valid.specs.Verdict.{check};
 ghost use Rattle.print.specs.Lines.{verdict_line};
 
-use print_write::Written;
 use std::io;
 use std::io::Write;
-use valid_verdict::Answer;
 
 // Writes the line of the verdict on a text, and says how many bytes it has.
 fn check_line(text: &[u8], out: &mut [u8]) -> usize
     requires { 64 ≤ length out.old }
     ensures { (result ≤ length out.new) × (take result out.new ≡ verdict_line (check text.now)) }
 {
-    let answer: Answer = checker::check(text);
-    match print_lines::write_verdict(answer, out) {
-        Written::Bytes(n) => n,
-        Written::Short => 0,
-    }
+    print_lines::write_verdict(checker::check(text), out).unwrap()
 }
 
 // One byte more than a program may have: a longer text is refused for its length, however long.
@@ -29,5 +23,5 @@ fn main(rt: HostRuntime) -> io::Result<()> {
     let n = read_input::read_full(&mut rt.stdin(), &mut text)?;
     let mut line = [0u8; 64];
     let k = check_line(&text[..n], &mut line);
-    rt.stdout().write_all(&line[0..k])
+    rt.stdout().write_all(&line[..k])
 }

@@ -1,2 +1,3 @@
 pub mod Day
 pub mod Line
+pub mod Wide

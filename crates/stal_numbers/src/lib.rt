@@ -28,56 +28,63 @@ pub struct Reply {
     pub number: u32,
 }
 
+// No halt: no word.
 fn stopped(code: usize, first: usize) -> Reply
     ensures { result ≡ reply code first 0 0 }
 {
     Reply {
-        code: code,
-        first: first,
+        code,
+        first,
         kind: 0,
         number: 0,
     }
 }
 
 // The numbers of an answer to start or continue.
-pub fn reply_of(a: Answer) -> Reply
-    ensures { result ≡ reply_of (answer_is a) }
-{
-    match a {
-        Answer::Refused(number, line) => stopped(number, line),
-        Answer::Halted(steps, kind, number) => Reply {
-            code: 0,
-            first: steps,
-            kind: kind,
-            number: number,
-        },
-        Answer::Paused(steps) => stopped(17, steps),
-        Answer::StackFull(steps) => stopped(18, steps),
-        Answer::HeapFull(steps) => stopped(19, steps),
-        Answer::Stuck(steps) => stopped(20, steps),
+impl From<Answer> for Reply {
+    ghost from_gives = { λ a r. r ≡ reply_of (answer_is a) };
+
+    #[tactic(auto, unfolding(crate::specs::Numbers::reply_of))]
+    fn from(a: Answer) -> Reply {
+        match a {
+            Answer::Refused(number, line) => stopped(number, line),
+            Answer::Halted(steps, kind, number) => Reply {
+                code: 0,
+                first: steps,
+                kind,
+                number,
+            },
+            Answer::Paused(steps) => stopped(17, steps),
+            Answer::StackFull(steps) => stopped(18, steps),
+            Answer::HeapFull(steps) => stopped(19, steps),
+            Answer::Stuck(steps) => stopped(20, steps),
+        }
     }
 }
 
 // The numbers of an answer to check.
-pub fn verdict_of(a: valid_verdict::Answer) -> Verdict
-    ensures { result ≡ verdict_of (verdict_is a) }
-{
-    match a {
-        valid_verdict::Answer::Accepted(blocks, instrs) => Verdict {
-            code: 0,
-            first: blocks,
-            second: instrs,
-        },
-        valid_verdict::Answer::Refused(number, line) => Verdict {
-            code: number,
-            first: line,
-            second: 100,
-        },
-        valid_verdict::Answer::Unfit(line, item) => Verdict {
-            code: 10,
-            first: line,
-            second: item,
-        },
+impl From<valid_verdict::Answer> for Verdict {
+    ghost from_gives = { λ a v. v ≡ verdict_of (verdict_is a) };
+
+    #[tactic(auto, unfolding(crate::specs::Numbers::verdict_of, crate::specs::Numbers::item_number, valid_verdict::specs::Answers::verdict_is))]
+    fn from(a: valid_verdict::Answer) -> Verdict {
+        match a {
+            valid_verdict::Answer::Accepted(blocks, instrs) => Verdict {
+                code: 0,
+                first: blocks,
+                second: instrs,
+            },
+            valid_verdict::Answer::Refused(number, line) => Verdict {
+                code: number,
+                first: line,
+                second: 100,
+            },
+            valid_verdict::Answer::Unfit(line, item) => Verdict {
+                code: 10,
+                first: line,
+                second: item,
+            },
+        }
     }
 }
 
@@ -86,7 +93,7 @@ pub fn verdict_of(a: valid_verdict::Answer) -> Verdict
 pub fn put_verdict(a: valid_verdict::Answer, first: &mut usize, second: &mut usize) -> usize
     ensures { verdict result first.new second.new ≡ verdict_of (verdict_is a) }
 {
-    let v = verdict_of(a);
+    let v = Verdict::from(a);
     *first = v.first;
     *second = v.second;
     v.code
@@ -96,7 +103,7 @@ pub fn put_verdict(a: valid_verdict::Answer, first: &mut usize, second: &mut usi
 pub fn put_reply(a: Answer, first: &mut usize, kind: &mut u8, number: &mut u32) -> usize
     ensures { reply result first.new kind.new number.new ≡ reply_of (answer_is a) }
 {
-    let r = reply_of(a);
+    let r = Reply::from(a);
     *first = r.first;
     *kind = r.kind;
     *number = r.number;

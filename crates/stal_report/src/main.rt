@@ -5,7 +5,6 @@
 ghost use Rattle.std.specs.Prelude.{◌≡◌, ◌≤◌, length, take};
 ghost use Rattle.report.specs.Day.{report, report_line};
 
-use print_write::Written;
 use std::io;
 use std::io::Write;
 
@@ -14,10 +13,7 @@ fn report_line(text: &[u8], out: &mut [u8]) -> usize
     requires { 160 ≤ length out.old }
     ensures { (result ≤ length out.new) × (take result out.new ≡ report_line (report text.now)) }
 {
-    match report_day::line::write_report(report_day::report(text), out) {
-        Written::Bytes(n) => n,
-        Written::Short => 0,
-    }
+    report_day::line::write_report(report_day::report(text), out).unwrap()
 }
 
 // One byte more than 500 of the longest stop lines have: these bytes decide every report, however long the input is (crate report,
@@ -27,5 +23,5 @@ fn main(rt: HostRuntime) -> io::Result<()> {
     let n = read_input::read_full(&mut rt.stdin(), &mut text)?;
     let mut line = [0u8; 160];
     let k = report_line(&text[..n], &mut line);
-    rt.stdout().write_all(&line[0..k])
+    rt.stdout().write_all(&line[..k])
 }

@@ -9,8 +9,6 @@ ghost use Rattle.print.specs.Lines.{answer_line};
 ghost use Rattle.stal_run.specs.Fresh.{fresh};
 
 use exec_machine::Place;
-use exec_outcome::Answer;
-use print_write::Written;
 use std::io;
 use std::io::Write;
 
@@ -33,11 +31,7 @@ fn run_line(text: &[u8], samples: &[u8], out: &mut [u8]) -> usize
     let outcome = execute::start(
         text, samples, 1000000, &mut rk, &mut rn, &mut sk, &mut sn, &mut hk, &mut hn, place,
     );
-    let answer: Answer = outcome.answer;
-    match print_lines::write_answer(answer, out) {
-        Written::Bytes(n) => n,
-        Written::Short => 0,
-    }
+    print_lines::write_answer(outcome.answer, out).unwrap()
 }
 
 // One byte more than a program may have: a longer text is refused for its length, however long. Samples as large as their buffer are
@@ -49,5 +43,5 @@ fn main(rt: HostRuntime) -> io::Result<()> {
     let k = read_input::load(&rt, "samples.txt", &mut samples)?;
     let mut line = [0u8; 64];
     let l = run_line(&text[..n], &samples[..k], &mut line);
-    rt.stdout().write_all(&line[0..l])
+    rt.stdout().write_all(&line[..l])
 }

@@ -1,9 +1,9 @@
 -- Laws of what the tables say, one line more.
 -- Assumes nothing.
 use mathlib.Core.Path.{◌≡◌, refl, ap, ap₂, sym, ◌∙◌}
-use mathlib.Core.Bool.{Bool, true, false}
+use mathlib.Core.Bool.{Bool, true, false, true≢false}
 use mathlib.Core.List.{List, [], ◌∷◌, ◌++◌}
-use Prim.Native.Nat.{ℕ, zero, suc, ◌+◌, ◌*◌, ◌<◌, ◌≤◌}
+use Prim.Native.Nat.{ℕ, suc, ◌+◌, ◌*◌, ◌<◌, ◌≤◌}
 use native.Mathlib.Omega.{arith}
 use native.Mathlib.Nat.{zero-add}
 use native.Mathlib.Numerals.{add-one}
@@ -11,7 +11,8 @@ use lib.Dec.{ltb}
 use lib.ListN.{take}
 use borrow.Author.Tests.{ltb-true, ltb-false}
 use Rattle.syntax.specs.Syntax.{Row, Instr, Entry, row, block, instr}
-use Rattle.text.specs.PassOne.{Place, at_rows, in_block, behind_block, rows_of, Listing, listings_of}
+use Rattle.text.specs.PassOne.{at_rows, in_block, behind_block, rows_of, Listing, listings_of}
+use Rattle.text.specs.PassOne as one
 use Rattle.text.proofs.Growth.{rows_row, rows_block, rows_instr, lengthened, listings_row, listings_block, listings_instr}
 use Rattle.tables.specs.Tables.{cell, row_at, rows_in, instr_at, blocks_from}
 use Rattle.tables.proofs.Spans.{same_at, rows_snoc, blocks_block, blocks_instr}
@@ -19,6 +20,9 @@ use Rattle.text_decode.proofs.line.OperandLaws.{same_on}
 use Rattle.text_decode.specs.store.Store.{Store, row_table, operands_of, Same}
 use Rattle.text_decode.specs.store.Lines.{used_after}
 use Rattle.text_decode.specs.Decoded.{place_of}
+use Rattle.text_decode.specs.state.State.{inside_block}
+use Rattle.text_decode.specs.declared.state.Place.{Place}
+use Rattle.text_decode.specs.declared.state.Place.TheVariants.{TypeLines, InBlock, BehindBlock}
 use Rattle.text_decode.specs.declared.store.Used.{Used}
 use Rattle.text_decode.specs.declared.store.Line.{Line}
 use Rattle.text_decode.specs.declared.store.Line.TheVariants as line
@@ -80,12 +84,12 @@ module _ (u : Used) (σ π : Store) (es : List Entry) (says : Says u σ es) (kep
           ∙ ap (λ (j : ℕ). lengthened (instr_at ρ.instrs (operands_of ρ) u.instrs) (blocks_from ρ.blocks ρ.instrs (operands_of ρ) u.instrs 0 j)) (sym some_blocks)
 
 -- ---- where the blocks start
-abbrev LastStart : Place → Used → List ℕ → Type 0
+abbrev LastStart : one.Place → Used → List ℕ → Type 0
 LastStart at_rows u β = (u.blocks ≡ 0) × (u.instrs ≡ 0)
 LastStart in_block u β = (m : ℕ) × (u.blocks ≡ suc m) × (cell 2 β m 1 ≤ u.instrs)
 LastStart behind_block u β = (m : ℕ) × (u.blocks ≡ suc m) × (cell 2 β m 1 < u.instrs)
 
-pub record Starts (place : ℕ) (u : Used) (β : List ℕ) : Type 0 where
+pub record Starts (place : Place) (u : Used) (β : List ℕ) : Type 0 where
   pub first : 0 < u.blocks → cell 2 β 0 1 ≡ 0
   pub rising : (l : ℕ) → suc l < u.blocks → cell 2 β l 1 < cell 2 β (suc l) 1
   pub last : LastStart (place_of place) u β
@@ -94,14 +98,14 @@ module _ (u : Used) (β γ : List ℕ) (same : take (2 * u.blocks) γ ≡ take (
   start_same : (l : ℕ) → l < u.blocks → cell 2 γ l 1 ≡ cell 2 β l 1
   start_same l h = let q : 2 * l + 1 < 2 * u.blocks = omega arith in same_at (2 * u.blocks) γ β (2 * l + 1) q same
 
-  pub starts_row : Starts 0 u β → Starts 0 (used_after u line.Row) γ
+  pub starts_row : Starts TypeLines u β → Starts TypeLines (used_after u line.Row) γ
   starts_row s = record {
     first = λ h. let z = s.last.0 in absurd (omega arith);
     rising = λ l h. let z = s.last.0 in absurd (omega arith);
     last = s.last;
   }
 
-  pub starts_instr : (n k : ℕ) → Starts 1 u β → Starts 1 (used_after u (line.Instruction n k)) γ × Starts 2 (used_after u (line.Instruction n k)) γ
+  pub starts_instr : (n k : ℕ) → Starts InBlock u β → Starts InBlock (used_after u (line.Instruction n k)) γ × Starts BehindBlock (used_after u (line.Instruction n k)) γ
   starts_instr n k s =
       let m : ℕ = s.last.0 in
       let e : u.blocks ≡ suc m = s.last.1 in
@@ -113,14 +117,14 @@ module _ (u : Used) (β γ : List ℕ) (same : take (2 * u.blocks) γ ≡ take (
         record { first = first; rising = rising; last = (m, e, omega arith) },
       )
 
-  pub starts_block : (p : ℕ) → (p ≡ 1 → ⊥) → Starts p u β → cell 2 γ u.blocks 1 ≡ u.instrs → Starts 1 (used_after u line.Block) γ
-  starts_block zero h s here = record {
+  pub starts_block : (p : Place) → inside_block p ≡ false → Starts p u β → cell 2 γ u.blocks 1 ≡ u.instrs → Starts InBlock (used_after u line.Block) γ
+  starts_block TypeLines h s here = record {
     first = λ k. let z = s.last.0 in let w = s.last.1 in omega (arith, ap (λ (l : ℕ). cell 2 γ l 1) z);
     rising = λ l k. let z = s.last.0 in absurd (omega arith);
     last = (u.blocks, add-one u.blocks, omega arith);
   }
-  starts_block (suc zero) h s here = absurd (h refl)
-  starts_block (suc (suc n)) h s here =
+  starts_block InBlock h s here = absurd (true≢false h)
+  starts_block BehindBlock h s here =
       let m : ℕ = s.last.0 in
       let e : u.blocks ≡ suc m = s.last.1 in
       let in_use_lem : m < u.blocks = omega arith in

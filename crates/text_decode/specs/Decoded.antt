@@ -1,15 +1,35 @@
 -- What decoding a text answers, and what it leaves in the tables.
-use Rattle.std.specs.Prelude.{ℕ, zero, suc, ◌+◌, ◌*◌, ◌≤◌, ◌<◌, ◌≡◌, Bool, true, cond, List, eqb, length}
+use Rattle.std.specs.Prelude.{ℕ, suc, ◌+◌, ◌*◌, ◌≤◌, ◌<◌, ◌≡◌, Bool, true, false, List, length, Result, Ok, Err}
 use Rattle.std.proofs.Math.Option.{Option, none, some}
+use Rattle.faults.specs.declared.LineFault.{LineFault}
+use Rattle.faults.specs.Numbers.{number}
 use Rattle.syntax.specs.Fault.{Refusal, lowest_line}
-use Rattle.text.specs.PassOne.{Place, at_rows, in_block, behind_block, pass_one, entries_of, rows_of, listings_of}
+use Rattle.text.specs.PassOne.{at_rows, in_block, behind_block, pass_one, entries_of, rows_of, listings_of}
+use Rattle.text.specs.PassOne as one
 use Rattle.tables.specs.Tables.{cell, rows_in, blocks_from}
+use Rattle.image.specs.declared.Counts.{Counts}
 use Rattle.text_decode.specs.store.Store.{Store, row_table, operands_of}
-use Rattle.text_decode.specs.declared.state.Read.{Read}
+use Rattle.text_decode.specs.declared.state.Unread.{Unread}
+use Rattle.text_decode.specs.declared.state.Unread.TheVariants.{Unfit, Faulty}
+use Rattle.text_decode.specs.declared.state.Place.{Place}
+use Rattle.text_decode.specs.declared.state.Place.TheVariants.{TypeLines, InBlock, BehindBlock}
 
--- the fault that an answer names; 0 for none
-abbrev pub refusal_of : Read → Option Refusal
-refusal_of r = cond (eqb r.fault 0) none (some (record { number = r.fault; line = r.line; item = none }))
+-- ---- an answer about a text: something, or why the text is not read
+-- whether the text fits the image
+abbrev pub fits : {A : Type 0} → Result A Unread → Bool
+fits (Ok x) = true
+fits (Err Unfit) = false
+fits (Err (Faulty f)) = true
+
+-- a fault and its line, as a refusal
+abbrev pub refusal_at : LineFault → Refusal
+refusal_at f = record { number = number f.fault; line = f.line; item = none }
+
+-- the fault that the answer names
+abbrev pub refusal_of : {A : Type 0} → Result A Unread → Option Refusal
+refusal_of (Ok x) = none
+refusal_of (Err Unfit) = none
+refusal_of (Err (Faulty f)) = some (refusal_at f)
 
 -- the operands of instruction j stand in the tables: entry 5 says where they start, entry 6 how many they are
 abbrev pub OperandsIn : Store → ℕ → Type 0
@@ -18,7 +38,7 @@ OperandsIn σ j =
 
 -- The tables stand for the text. A block's second entry is where its instructions start: the first at 0, each later one behind an
 -- instruction of the block before it.
-pub record Decoded (text : List ℕ) (σ : Store) (r : Read) : Type 0 where
+pub record Decoded (text : List ℕ) (σ : Store) (r : Counts) : Type 0 where
   pub rows : rows_in (row_table σ) r.rows ≡ rows_of (entries_of text)
   pub blocks : blocks_from σ.blocks σ.instrs (operands_of σ) r.instrs 0 r.blocks ≡ listings_of (entries_of text)
   pub few_rows : r.rows ≤ 512
@@ -37,13 +57,12 @@ pub record Fitting (room : Type 0) (fits : Bool) (answer : Type 0) : Type 0 wher
   pub answered : fits ≡ true → answer
 
 -- r names the fault of pass one; where there is none, the tables stand for the text
-pub record ReadIs (text : List ℕ) (σ : Store) (r : Read) : Type 0 where
+pub record ReadIs (text : List ℕ) (σ : Store) (r : Result Counts Unread) : Type 0 where
   pub fault : refusal_of r ≡ lowest_line 0 (pass_one text)
-  pub decoded : r.fault ≡ 0 → Decoded text σ r
+  pub decoded : (c : Counts) → r ≡ Ok c → Decoded text σ c
 
--- ---- the places of a line, as numbers
--- 0 among the type lines, 1 in a block, else behind one
-abbrev pub place_of : ℕ → Place
-place_of zero = at_rows
-place_of (suc zero) = in_block
-place_of (suc (suc n)) = behind_block
+-- the place of a line, as pass one has it
+abbrev pub place_of : Place → one.Place
+place_of TypeLines = at_rows
+place_of InBlock = in_block
+place_of BehindBlock = behind_block

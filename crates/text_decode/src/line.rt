@@ -1,19 +1,19 @@
 // A line's fields into the image, in one walk up to the line's LF: `rest` is a text from a place within a line on, and a field is looked
 // for behind a comma of that line. Promises: what the fields say by the line's form (`FormIs` of specs/line/Answers.antt), and where the
 // line ends if they are of that form.
-ghost use Rattle.std.specs.Prelude.{◌≡◌, true, ◌&&◌, [], ◌∷◌, ◌+◌, ◌*◌, ◌≤◌, ◌<◌, length, get_or, set};
+ghost use Rattle.std.specs.Prelude.{◌≡◌, true, [], ◌∷◌, ◌+◌, ◌*◌, ◌≤◌, ◌<◌, length, get_or, set};
 ghost use Rattle.image.specs.Sections.{Ordered, Outside, part_section, operand_section, arg_section};
 ghost use Rattle.text_lines.specs.Parts.{line_in, field_in, InLine, StopAt};
 ghost use Rattle.text_fields.specs.numbers.Numbers.{ScanIs};
 ghost use Rattle.text_decode.specs.line.Fields.{fields_from, plain_field, most_of, part_number};
 ghost use Rattle.text_decode.specs.line.Forms.{form_of, fewest};
-ghost use Rattle.text_decode.specs.line.Answers.{no_slot, SlotIs, SlotsAre, PartsRead, with_operand, operands_in, OperandRoom, OperandsRead, Carried, AtEnd, no_entry, PlainForm, PlainIs, RowIs, FormIs};
+ghost use Rattle.text_decode.specs.line.Answers.{SlotIs, SlotsAre, PartsRead, kind_number, base_number, with_operand, operands_in, OperandRoom, OperandsRead, CountThrough, SaidThrough, PlainForm, PlainIs, RowIs, FormIs};
 ghost use Rattle.text_decode.specs.store.Store.{FieldRoom};
 
 use crate::store::Used;
 use image::Places;
-use text_fields::numbers::{Number, Scan};
-use text_fields::plain_operands::OperandRead;
+use text_fields::numbers::Scan;
+use text_fields::plain_operands::{Base, OperandRead};
 
 // By the form's place: the kinds of its plain fields, 1 register, 2 row, 3 index, 4 amount, 0 for none, the first the lowest of four octal
 // digits; above them how many operands follow: none, one, or up to 16.
@@ -69,7 +69,6 @@ pub struct Form {
 // A plain field's number, and where the field ends.
 #[derive(Clone, Copy)]
 pub struct Slot {
-    pub ok: bool,
     pub value: u16,
     pub next: usize,
 }
@@ -77,7 +76,6 @@ pub struct Slot {
 // The numbers of a form's plain fields, 0 for those that it has not, and where the last one ends.
 #[derive(Clone, Copy)]
 pub struct Slots {
-    pub ok: bool,
     pub a: u16,
     pub b: u16,
     pub c: u16,
@@ -85,10 +83,9 @@ pub struct Slots {
     pub next: usize,
 }
 
-// How many operands or components were read, if all of them could be, how many arguments they carry, and where the line ends.
+// How many operands or components were read, how many arguments they carry, and where the line ends.
 #[derive(Clone, Copy)]
 pub struct Count {
-    pub ok: bool,
     pub count: u16,
     pub args: u16,
     pub next: usize,
@@ -98,7 +95,6 @@ pub struct Count {
 // line ends. Of U a and b are where its components start and how many there are; of C they are its stack and where its registers start.
 #[derive(Clone, Copy)]
 pub struct Said {
-    pub ok: bool,
     pub a: u16,
     pub b: u16,
     pub c: u16,
@@ -106,21 +102,6 @@ pub struct Said {
     pub count: u16,
     pub args: u16,
     pub next: usize,
-}
-
-fn no_entry() -> Said
-    ensures { result ≡ no_entry }
-{
-    Said {
-        ok: false,
-        a: 0,
-        b: 0,
-        c: 0,
-        d: 0,
-        count: 0,
-        args: 0,
-        next: 0,
-    }
 }
 
 // The entry of FORMS, taken apart.
@@ -138,30 +119,19 @@ fn form_at(code: usize) -> Form
     }
 }
 
-fn both(a: bool, b: bool) -> bool
-    ensures { result ≡ (a && b) }
-{
-    if a {
-        return b;
-    }
-    false
-}
-
 // The greatest number of a field of kind 2 row, 3 index, 4 amount.
 fn most_of(kind: u16) -> u32
     ensures { result ≡ most_of kind }
 {
-    if kind == 2 {
-        return 511;
+    match kind {
+        2 => 511,
+        3 => 63,
+        _ => 64,
     }
-    if kind == 3 {
-        return 63;
-    }
-    64
 }
 
 // The number of the field of that kind that starts at `at`.
-fn plain_field(rest: &[u8], at: usize, kind: u16) -> Scan
+fn plain_field(rest: &[u8], at: usize, kind: u16) -> Option<Scan>
     requires { InLine rest.now at }
     ensures { ScanIs rest.now at (plain_field kind (field_in rest.now at)) result }
 {
@@ -171,100 +141,64 @@ fn plain_field(rest: &[u8], at: usize, kind: u16) -> Scan
     text_fields::numbers::number_at(rest, at, 0, most_of(kind))
 }
 
-fn no_slot(at: usize) -> Slot
-    ensures { result ≡ no_slot at }
-{
-    Slot {
-        ok: false,
-        value: 0,
-        next: at,
-    }
-}
-
 // The field behind the stop at `at`, if there is one.
-fn read_field(rest: &[u8], at: usize, kind: u16) -> Slot
+fn read_field(rest: &[u8], at: usize, kind: u16) -> Option<Slot>
     requires { (kind ≡ 0 → ⊥) × StopAt rest.now at }
     ensures { SlotIs rest.now at kind result }
 {
     if rest[at] != b',' {
-        return no_slot(at);
+        return None;
     }
-    let x = plain_field(rest, at + 1, kind);
-    if !x.ok {
-        return no_slot(at);
-    }
-    Slot {
-        ok: true,
+    let x = plain_field(rest, at + 1, kind)?;
+    Some(Slot {
         value: x.value as u16,
         next: x.next,
-    }
+    })
 }
 
 // The same; kind 0 takes no field.
-fn read_slot(rest: &[u8], at: usize, kind: u16) -> Slot
+fn read_slot(rest: &[u8], at: usize, kind: u16) -> Option<Slot>
     requires { StopAt rest.now at }
     ensures { SlotIs rest.now at kind result }
 {
     if kind == 0 {
-        return Slot {
-            ok: true,
-            value: 0,
-            next: at,
-        };
+        return Some(Slot { value: 0, next: at });
     }
     read_field(rest, at, kind)
 }
 
 // The plain fields of a form.
-fn read_slots(rest: &[u8], at: usize, f: Form) -> Slots
+fn read_slots(rest: &[u8], at: usize, f: Form) -> Option<Slots>
     requires { StopAt rest.now at }
     ensures { SlotsAre rest.now at (f.a ∷ f.b ∷ f.c ∷ f.d ∷ []) result }
 {
-    let a = read_slot(rest, at, f.a);
-    let b = read_slot(rest, a.next, f.b);
-    let ok = both(a.ok, b.ok);
-    if f.c == 0 {
-        if f.d == 0 {
-            return Slots {
-                ok,
-                a: a.value,
-                b: b.value,
-                c: 0,
-                d: 0,
-                next: b.next,
-            };
-        }
-    }
-    let c = read_slot(rest, b.next, f.c);
-    let d = read_slot(rest, c.next, f.d);
-    Slots {
-        ok: both(ok, both(c.ok, d.ok)),
+    let a = read_slot(rest, at, f.a)?;
+    let b = read_slot(rest, a.next, f.b)?;
+    let c = read_slot(rest, b.next, f.c)?;
+    let d = read_slot(rest, c.next, f.d)?;
+    Some(Slots {
         a: a.value,
         b: b.value,
         c: c.value,
         d: d.value,
         next: d.next,
-    }
+    })
 }
 
 // The dash that starts at `at`, if it is alone: no row.
-fn dash_at(rest: &[u8], at: usize) -> Scan
+fn dash_at(rest: &[u8], at: usize) -> Option<Scan>
     requires { InLine rest.now at × (get_or rest.now at 0 ≡ 45) }
     ensures { ScanIs rest.now at (part_number true (field_in rest.now at)) result }
 {
-    let e = at + 1;
-    if text_lines::is_stop(rest[e]) {
-        return Scan {
-            ok: true,
-            value: 0,
-            next: e,
-        };
+    let next = at + 1;
+    if text_lines::is_stop(rest[next]) {
+        return Some(Scan { value: 0, next });
     }
-    text_fields::numbers::no_scan(at)
+    None
 }
 
 // A component's row, or a register's: 0 for `-`, else one more than the row.
-fn part_at(rest: &[u8], at: usize, known: bool) -> Scan
+fn part_at(rest: &[u8], at: usize, known: bool) -> Option<Scan>
     requires { InLine rest.now at }
     ensures { ScanIs rest.now at (part_number known (field_in rest.now at)) result }
 {
@@ -274,66 +208,78 @@ fn part_at(rest: &[u8], at: usize, known: bool) -> Scan
     if rest[at] == b'-' {
         return dash_at(rest, at);
     }
-    let x = text_fields::numbers::number_at(rest, at, 0, 511);
-    if !x.ok {
-        return text_fields::numbers::no_scan(at);
-    }
-    Scan {
-        ok: true,
+    let x = text_fields::numbers::number_at(rest, at, 0, 511)?;
+    Some(Scan {
         value: x.value + 1,
         next: x.next,
-    }
+    })
 }
 
+// Kept: in this and in read_operands the walk goes from stop to stop, which is no range, and n says how many fields were read.
 // All the fields behind the stop at `at`, at most `most`, as rows or registers from p on.
-fn read_parts(rest: &[u8], at: usize, known: bool, most: u16, parts: &mut [u16], p: usize) -> Count
+fn read_parts(
+    rest: &[u8],
+    at: usize,
+    known: bool,
+    most: u16,
+    parts: &mut [u16],
+    p: usize,
+) -> Option<Count>
     requires { (p + most ≤ length parts.old) × (most ≤ 16) × StopAt rest.now at }
-    ensures { PartsRead (fields_from (line_in rest.now) (at + 1)) known most p parts.old parts.new result × AtEnd rest.now result.ok result.next }
+    ensures { PartsRead (fields_from (line_in rest.now) (at + 1)) known most p parts.old parts.new result × CountThrough rest.now result }
 {
     let mut i = at;
     let mut n: u16 = 0;
     while rest[i] == b',' {
         if n == most {
-            return Count {
-                ok: false,
-                count: n,
-                args: 0,
-                next: i,
-            };
+            return None;
         }
-        let x = part_at(rest, i + 1, known);
-        if !x.ok {
-            return Count {
-                ok: false,
-                count: n,
-                args: 0,
-                next: i,
-            };
-        }
-        let to = p + (n as usize);
-        parts[to] = x.value as u16;
+        let x = part_at(rest, i + 1, known)?;
+        parts[p + usize::from(n)] = x.value as u16;
         n += 1;
         i = x.next;
     }
-    Count {
-        ok: true,
+    Some(Count {
         count: n,
         args: 0,
         next: i,
+    })
+}
+
+// An operand's kind as the tables keep it: 0 register, 1 literal, 2 label; 4, 5, 6 a package of such.
+fn kind_number(o: OperandRead) -> u16
+    ensures { result ≡ kind_number o }
+{
+    let kind: u16 = match o.base {
+        Base::Register(_) => 0,
+        Base::Literal(_) => 1,
+        Base::Label(_) => 2,
+    };
+    if o.packed { kind + 4 } else { kind }
+}
+
+// The number of an operand's base.
+fn base_number(b: Base) -> u32
+    ensures { result ≡ base_number b }
+{
+    match b {
+        Base::Register(n) => n,
+        Base::Literal(n) => n,
+        Base::Label(n) => n,
     }
 }
 
 // Stores operand v, with its arguments from `start` on.
 fn put_operand(o: OperandRead, start: u16, operands: &mut [u16], numbers: &mut [u32], v: usize)
     requires { (4 * v + 4 ≤ length operands.old) × (v < length numbers.old) }
-    ensures { (operands.new ≡ with_operand operands.old v o start) × (numbers.new ≡ set numbers.old v o.number) }
+    ensures { (operands.new ≡ with_operand operands.old v o start) × (numbers.new ≡ set numbers.old v (base_number o.base)) }
 {
     let i = 4 * v;
-    operands[i] = o.kind;
+    operands[i] = kind_number(o);
     operands[i + 1] = o.count;
     operands[i + 2] = o.row;
     operands[i + 3] = start;
-    numbers[v] = o.number;
+    numbers[v] = base_number(o.base);
 }
 
 // All the fields behind the stop at `at`, at most `most`, as operands from v on, their arguments from a on.
@@ -346,9 +292,9 @@ fn read_operands(
     numbers: &mut [u32],
     v: usize,
     a: usize,
-) -> Count
+) -> Option<Count>
     requires { Ordered p (length image.old) × OperandRoom (v + most) (a + 8 * most) (length (operand_section p image.old)) (length numbers.old) (length (arg_section p image.old)) × (most ≤ 16) × StopAt rest.now at }
-    ensures { OperandsRead (fields_from (line_in rest.now) (at + 1)) most v a (operands_in p image.old numbers.old) (operands_in p image.new numbers.new) result × Carried rest.now result.args × AtEnd rest.now result.ok result.next × Outside p.operands p.uses image.old image.new }
+    ensures { OperandsRead (fields_from (line_in rest.now) (at + 1)) most v a (operands_in p image.old numbers.old) (operands_in p image.new numbers.new) result × CountThrough rest.now result × Outside p.operands p.uses image.old image.new }
 {
     let from = p.operands;
     let mid = p.args;
@@ -358,46 +304,28 @@ fn read_operands(
     let mut m: u16 = 0;
     while rest[i] == b',' {
         if n == most {
-            return Count {
-                ok: false,
-                count: n,
-                args: m,
-                next: i,
-            };
+            return None;
         }
-        let w = v + (n as usize);
-        let start = a + (m as usize);
-        let x = text_fields::operand_at(rest, i + 1, &mut image[mid..to], start);
-        let o = x.read;
-        if o.kind == 3 {
-            return Count {
-                ok: false,
-                count: n,
-                args: m,
-                next: i,
-            };
-        }
-        put_operand(o, start as u16, &mut image[from..mid], numbers, w);
+        let start = a + usize::from(m);
+        let x = text_fields::operand_at(rest, i + 1, &mut image[mid..to], start)?;
+        let w = v + usize::from(n);
+        put_operand(x.read, start as u16, &mut image[from..mid], numbers, w);
         n += 1;
-        m += o.count;
+        m += x.read.count;
         i = x.next;
     }
-    Count {
-        ok: true,
+    Some(Count {
         count: n,
         args: m,
         next: i,
-    }
+    })
 }
 
 // Where one operand may follow it must.
 fn fewest(most: u16) -> u16
     ensures { result ≡ fewest most }
 {
-    if most == 1 {
-        return 1;
-    }
-    0
+    if most == 1 { 1 } else { 0 }
 }
 
 // A line of any form but U and C: operands are written from v on, their arguments from a on.
@@ -410,25 +338,17 @@ fn read_plain(
     numbers: &mut [u32],
     v: usize,
     a: usize,
-) -> Said
+) -> Option<Said>
     requires { Ordered p (length image.old) × PlainForm code × OperandRoom (v + 16) (a + 128) (length (operand_section p image.old)) (length numbers.old) (length (arg_section p image.old)) × StopAt rest.now at }
-    ensures { PlainIs code (fields_from (line_in rest.now) (at + 1)) v a (operands_in p image.old numbers.old) (operands_in p image.new numbers.new) result × Carried rest.now result.args × AtEnd rest.now result.ok result.next × Outside p.operands p.uses image.old image.new }
+    ensures { PlainIs code (fields_from (line_in rest.now) (at + 1)) v a (operands_in p image.old numbers.old) (operands_in p image.new numbers.new) result × SaidThrough rest.now result × Outside p.operands p.uses image.old image.new }
 {
     let f = form_at(code);
-    let x = read_slots(rest, at, f);
-    if !x.ok {
-        return no_entry();
+    let x = read_slots(rest, at, f)?;
+    let n = read_operands(rest, x.next, f.most, image, p, numbers, v, a)?;
+    if n.count < fewest(f.most) {
+        return None;
     }
-    let most = f.most;
-    let n = read_operands(rest, x.next, most, image, p, numbers, v, a);
-    if !n.ok {
-        return no_entry();
-    }
-    if n.count < fewest(most) {
-        return no_entry();
-    }
-    Said {
-        ok: true,
+    Some(Said {
         a: x.a,
         b: x.b,
         c: x.c,
@@ -436,20 +356,16 @@ fn read_plain(
         count: n.count,
         args: n.args,
         next: n.next,
-    }
+    })
 }
 
 // The line of a tuple: up to 16 components.
-fn read_tuple(rest: &[u8], at: usize, parts: &mut [u16], p: usize) -> Said
+fn read_tuple(rest: &[u8], at: usize, parts: &mut [u16], p: usize) -> Option<Said>
     requires { (p + 17 ≤ length parts.old) × (p < 65536) × StopAt rest.now at }
-    ensures { RowIs 3 (fields_from (line_in rest.now) (at + 1)) p parts.old parts.new result × AtEnd rest.now result.ok result.next }
+    ensures { RowIs 3 (fields_from (line_in rest.now) (at + 1)) p parts.old parts.new result × SaidThrough rest.now result }
 {
-    let n = read_parts(rest, at, false, 16, parts, p);
-    if !n.ok {
-        return no_entry();
-    }
-    Said {
-        ok: true,
+    let n = read_parts(rest, at, false, 16, parts, p)?;
+    Some(Said {
         a: p as u16,
         b: n.count,
         c: 0,
@@ -457,36 +373,27 @@ fn read_tuple(rest: &[u8], at: usize, parts: &mut [u16], p: usize) -> Said
         count: 0,
         args: 0,
         next: n.next,
-    }
+    })
 }
 
 // The line of a code row: its letters, its stack and eight registers.
-fn read_code(rest: &[u8], at: usize, parts: &mut [u16], p: usize) -> Said
+fn read_code(rest: &[u8], at: usize, parts: &mut [u16], p: usize) -> Option<Said>
     requires { (p + 17 ≤ length parts.old) × (p < 65536) × StopAt rest.now at }
-    ensures { RowIs 5 (fields_from (line_in rest.now) (at + 1)) p parts.old parts.new result × AtEnd rest.now result.ok result.next }
+    ensures { RowIs 5 (fields_from (line_in rest.now) (at + 1)) p parts.old parts.new result × SaidThrough rest.now result }
 {
     if rest[at] != b',' {
-        return no_entry();
+        return None;
     }
     let b = at + 1;
     let e = text_lines::field_end(rest, b);
-    let x = read_slot(rest, e, 2);
-    if !x.ok {
-        return no_entry();
-    }
-    let n = read_parts(rest, x.next, true, 8, parts, p);
-    if !n.ok {
-        return no_entry();
-    }
+    let x = read_slot(rest, e, 2)?;
+    let n = read_parts(rest, x.next, true, 8, parts, p)?;
     if n.count < 8 {
-        return no_entry();
+        return None;
     }
-    let Number::Value(q) = text_fields::names::letters(&rest[b..e], parts, p + 9) else {
-        return no_entry();
-    };
+    let q = text_fields::names::letters(&rest[b..e], parts, p + 9)?;
     parts[p + 8] = q as u16;
-    Said {
-        ok: true,
+    Some(Said {
         a: x.value,
         b: p as u16,
         c: 0,
@@ -494,7 +401,7 @@ fn read_code(rest: &[u8], at: usize, parts: &mut [u16], p: usize) -> Said
         count: 0,
         args: 0,
         next: n.next,
-    }
+    })
 }
 
 // The fields behind the stop at `at` of a line of the form at place `code`, written to the first places that are not in use.
@@ -506,18 +413,16 @@ pub(crate) fn read_form(
     p: Places,
     numbers: &mut [u32],
     u: Used,
-) -> Said
+) -> Option<Said>
     requires { FieldRoom p image.old numbers.old u × (code < 36) × (u.rows ≤ 512) × StopAt rest.now at }
-    ensures { FormIs code (fields_from (line_in rest.now) (at + 1)) (17 * u.rows) u.operands u.args (part_section p image.old) (part_section p image.new) (operands_in p image.old numbers.old) (operands_in p image.new numbers.new) result × Carried rest.now result.args × AtEnd rest.now result.ok result.next × Outside p.parts p.uses image.old image.new }
+    ensures { FormIs code (fields_from (line_in rest.now) (at + 1)) (17 * u.rows) u.operands u.args (part_section p image.old) (part_section p image.new) (operands_in p image.old numbers.old) (operands_in p image.new numbers.new) result × SaidThrough rest.now result × Outside p.parts p.uses image.old image.new }
 {
     let from = p.parts;
     let to = p.operands;
     let k = 17 * u.rows;
-    if code == 3 {
-        return read_tuple(rest, at, &mut image[from..to], k);
+    match code {
+        3 => read_tuple(rest, at, &mut image[from..to], k),
+        5 => read_code(rest, at, &mut image[from..to], k),
+        _ => read_plain(rest, at, code, image, p, numbers, u.operands, u.args),
     }
-    if code == 5 {
-        return read_code(rest, at, &mut image[from..to], k);
-    }
-    read_plain(rest, at, code, image, p, numbers, u.operands, u.args)
 }

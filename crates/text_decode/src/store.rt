@@ -1,14 +1,14 @@
 // One line of a text into the image: what its fields say is stored at the first places that are not in use. Promises: behind the line the
 // tables say what it says (`LineIs` of specs/store/Lines.antt), what was in use is kept, and the answer says where a line of some form
 // ends. Asked: that the line has an LF, and room for one line more behind what is in use (`RoomFor`).
-ghost use Rattle.std.specs.Prelude.{◌≡◌, [], ◌∷◌, ◌+◌, ◌*◌, ◌≤◌, ◌<◌, length};
+ghost use Rattle.std.specs.Prelude.{◌≡◌, ◌+◌, ◌*◌, ◌≤◌, ◌<◌, length};
 ghost use Rattle.std.proofs.lemmas.List.Edits.{sets};
 ghost use Rattle.image.specs.Sections.{Ordered, Outside, row_section, block_section, instr_section, part_section};
 ghost use Rattle.text_lines.specs.Parts.{line_in, InLine, StopAt};
 ghost use Rattle.text_decode.specs.line.Fields.{fields_from};
-ghost use Rattle.text_decode.specs.line.Answers.{operands_in, Carried, AtEnd, FormIs};
+ghost use Rattle.text_decode.specs.line.Answers.{operands_in, FormIs};
 ghost use Rattle.text_decode.specs.store.Store.{store_in, FieldRoom, EntryRoom, RoomFor, Few};
-ghost use Rattle.text_decode.specs.store.Lines.{no_line, LineIs, LineEnds, Stored};
+ghost use Rattle.text_decode.specs.store.Lines.{RestThrough, ReadAs, Stored};
 
 use crate::line::Said;
 use image::Places;
@@ -23,54 +23,28 @@ pub struct Used {
     pub args: usize,
 }
 
-// What a line is: an instruction with the numbers of its operands and of their arguments, the last of a block apart.
+// What a line of some form is: an instruction with the numbers of its operands and of their arguments, the last of a block apart.
 #[derive(Clone, Copy)]
 pub enum Line {
-    NoForm,
     Row,
     Block,
     Instruction(usize, usize),
     Last(usize, usize),
 }
 
-// The same, and where the line ends if it is of some form.
+// The same, and where the line ends.
 #[derive(Clone, Copy)]
 pub struct LineRead {
     pub line: Line,
     pub next: usize,
 }
 
-fn put_row(rows: &mut [u16], r: usize, kind: u16, a: u16, b: u16)
-    requires { 4 * r + 4 ≤ length rows.old }
-    ensures { rows.new ≡ sets rows.old (4 * r) (kind ∷ a ∷ b ∷ []) }
+// Writes entries from place i on.
+fn put_entries(table: &mut [u16], i: usize, entries: &[u16])
+    requires { i + length entries.now ≤ length table.old }
+    ensures { table.new ≡ sets table.old i entries.now }
 {
-    let i = 4 * r;
-    rows[i] = kind;
-    rows[i + 1] = a;
-    rows[i + 2] = b;
-}
-
-fn put_block(blocks: &mut [u16], l: usize, code: u16, start: u16)
-    requires { 2 * l + 2 ≤ length blocks.old }
-    ensures { blocks.new ≡ sets blocks.old (2 * l) (code ∷ start ∷ []) }
-{
-    let i = 2 * l;
-    blocks[i] = code;
-    blocks[i + 1] = start;
-}
-
-fn put_instr(instrs: &mut [u16], j: usize, code: u16, s: Said, v: u16)
-    requires { 8 * j + 8 ≤ length instrs.old }
-    ensures { instrs.new ≡ sets instrs.old (8 * j) (code ∷ s.a ∷ s.b ∷ s.c ∷ s.d ∷ v ∷ s.count ∷ []) }
-{
-    let i = 8 * j;
-    instrs[i] = code;
-    instrs[i + 1] = s.a;
-    instrs[i + 2] = s.b;
-    instrs[i + 3] = s.c;
-    instrs[i + 4] = s.d;
-    instrs[i + 5] = v;
-    instrs[i + 6] = s.count;
+    table[i..i + entries.len()].copy_from_slice(entries);
 }
 
 // Stores what the fields of a line say, at the first place that is not in use.
@@ -83,27 +57,40 @@ fn put_line(code: usize, s: Said, image: &mut [u16], p: Places, u: Used) -> Line
     let instrs = p.instrs;
     let parts = p.parts;
     if code < 11 {
-        put_row(&mut image[rows..blocks], u.rows, code as u16, s.a, s.b);
+        put_entries(
+            &mut image[rows..blocks],
+            4 * u.rows,
+            &[code as u16, s.a, s.b],
+        );
         return Line::Row;
     }
     if code == 11 {
-        put_block(&mut image[blocks..instrs], u.blocks, s.a, u.instrs as u16);
+        put_entries(
+            &mut image[blocks..instrs],
+            2 * u.blocks,
+            &[s.a, u.instrs as u16],
+        );
         return Line::Block;
     }
-    put_instr(
+    put_entries(
         &mut image[instrs..parts],
-        u.instrs,
-        (code - 12) as u16,
-        s,
-        u.operands as u16,
+        8 * u.instrs,
+        &[
+            (code - 12) as u16,
+            s.a,
+            s.b,
+            s.c,
+            s.d,
+            u.operands as u16,
+            s.count,
+        ],
     );
-    if code < 33 {
-        return Line::Instruction(s.count as usize, s.args as usize);
+    let operands = usize::from(s.count);
+    let args = s.args as usize;
+    match code {
+        33 | 34 => Line::Last(operands, args),
+        _ => Line::Instruction(operands, args),
     }
-    if code < 35 {
-        return Line::Last(s.count as usize, s.args as usize);
-    }
-    Line::Instruction(s.count as usize, s.args as usize)
 }
 
 // The fields behind a line's first, which ends at f: the text from there on goes to their reader, which stops at the line's LF.
@@ -115,18 +102,11 @@ fn read_rest(
     p: Places,
     numbers: &mut [u32],
     u: Used,
-) -> Said
+) -> Option<Said>
     requires { FieldRoom p image.old numbers.old u × (code < 36) × StopAt text.now f × Few u }
-    ensures { FormIs code (fields_from (line_in text.now) (f + 1)) (17 * u.rows) u.operands u.args (part_section p image.old) (part_section p image.new) (operands_in p image.old numbers.old) (operands_in p image.new numbers.new) result × Carried text.now result.args × AtEnd text.now result.ok (f + result.next) × Outside p.parts p.uses image.old image.new }
+    ensures { FormIs code (fields_from (line_in text.now) (f + 1)) (17 * u.rows) u.operands u.args (part_section p image.old) (part_section p image.new) (operands_in p image.old numbers.old) (operands_in p image.new numbers.new) result × RestThrough text.now f result × Outside p.parts p.uses image.old image.new }
 {
     crate::line::read_form(&text[f..], 0, code, image, p, numbers, u)
-}
-
-fn no_line() -> LineRead
-    ensures { result ≡ no_line }
-{
-    let l = Line::NoForm;
-    LineRead { line: l, next: 0 }
 }
 
 // The first line of the text, read into the first places of the image that are not in use.
@@ -136,22 +116,20 @@ pub(crate) fn read_line(
     p: Places,
     numbers: &mut [u32],
     u: Used,
-) -> LineRead
+) -> Option<LineRead>
     requires { Ordered p (length image.old) × RoomFor u (store_in p image.old numbers.old) × Few u × InLine text.now 0 }
-    ensures { LineIs (line_in text.now) u (store_in p image.old numbers.old) (store_in p image.new numbers.new) result.line × LineEnds text.now result × Outside p.rows p.uses image.old image.new }
+    ensures { ReadAs text.now u (store_in p image.old numbers.old) (store_in p image.new numbers.new) result × Outside p.rows p.uses image.old image.new }
 {
     let f = text_lines::field_end(text, 0);
-    let code = text_fields::names::name_code(&text[0..f]);
+    let code = text_fields::names::name_code(&text[..f]);
     if 36 <= code {
-        return no_line();
+        return None;
     }
-    let s = read_rest(text, f, code, image, p, numbers, u);
-    if !s.ok {
-        return no_line();
-    }
-    let l = put_line(code, s, image, p, u);
-    LineRead {
-        line: l,
+    let Some(s) = read_rest(text, f, code, image, p, numbers, u) else {
+        return None;
+    };
+    Some(LineRead {
+        line: put_line(code, s, image, p, u),
         next: f + s.next,
-    }
+    })
 }

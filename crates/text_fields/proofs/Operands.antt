@@ -1,79 +1,45 @@
 -- Laws of operands.
 -- Assumes nothing.
-use Rattle.std.proofs.Common.{◌≡◌, ℕ, suc, ◌+◌, ◌-◌, ◌<◌, ◌≤◌, Bool, true, false, ◌&&◌, leb, List, [], ◌∷◌, length, get_or, take, drop, sym, refl, ap, ◌∙◌, ap₂, true≢false, pos_of_ne-zero, zero-add, arith, eq-eqb, ne_eqb, le-leb}
+use Rattle.std.proofs.Common.{◌≡◌, ℕ, suc, ◌+◌, ◌-◌, ◌<◌, ◌≤◌, Bool, true, false, ◌&&◌, leb, List, [], ◌∷◌, length, get_or, take, drop, sym, refl, ap, ◌∙◌, ap₂, true≢false, zero-add, arith, eq-eqb, ne_eqb, le-leb}
+use Rattle.std.specs.Prelude.{Option as Maybe, Some, None}
 use mathlib.Core.Option.{Option, none, some, none-ne-some, some-injective}
 use lib.Seq.{sets}
 use borrow.Author.Tests.{lt-leb}
 use Rattle.syntax.specs.Partial.{chain, guarded}
-use Rattle.syntax.specs.Syntax.{Base, reg, lit, lab, Operand, inst, pack}
-use Rattle.text.specs.Bytes.{split, number, literal}
+use Rattle.syntax.specs.Syntax as S
+use Rattle.syntax.specs.Syntax.{reg, lit, lab, Operand, plain, inst, pack}
+use Rattle.text.specs.Bytes.{split}
 use Rattle.text.specs.Grammar.{row_number, index, label_number, register, each, carrier, or_literal, carried, packed, before, from_parts, operand}
 use Rattle.text_lines.specs.Parts.{first_part}
 use Rattle.text_lines.proofs.Parts.{only, split_is, split_more, split_last}
+use Rattle.text_fields.specs.declared.plain_operands.Base.{Base}
 use Rattle.text_fields.specs.declared.plain_operands.OperandRead.{OperandRead}
-use Rattle.text_fields.specs.plain_operands.Answers.{base_kind, base_number, answer_of, args_of, OperandIs}
-use Rattle.text_fields.specs.Pieces.{plain_read, as_plain, is_some, or_zero, row_count, rows_in}
+use Rattle.text_fields.specs.plain_operands.Answers.{base_of, read_of, answer_of, args_of, OperandIs}
+use Rattle.text_fields.specs.Pieces.{base_read, any_read, is_some, or_zero, row_count, rows_in}
 
 and_false : (b : Bool) → (b && false) ≡ false
 and_false true = refl
 and_false false = refl
 
 -- ---- carriers and literals
-label_read : (o : Option ℕ) → plain_read 2 o ≡ answer_of (as_plain (chain o (λ n. some (lab n))))
-unfolding plain_read answer_of
-label_read none = refl
-label_read (some n) = refl
-
-register_read : (o : Option ℕ) → plain_read 0 o ≡ answer_of (as_plain (chain o (λ n. some (reg n))))
-unfolding plain_read answer_of
-register_read none = refl
-register_read (some n) = refl
-
-literal_read : (o : Option ℕ) → plain_read 1 o ≡ answer_of (as_plain (chain o (λ n. some (lit n))))
-unfolding plain_read answer_of
-literal_read none = refl
-literal_read (some n) = refl
-
-pub carrier_none : (f : List ℕ) → length f ≡ 0 → answer_of none ≡ answer_of (as_plain (carrier f))
-unfolding carrier
-carrier_none [] e = refl
-carrier_none (b ∷ s) e = absurd (omega arith)
-
-pub carrier_label : (f : List ℕ) → (length f ≡ 0 → ⊥) → get_or f 0 0 ≡ 35 → plain_read 2 (index (drop 1 f)) ≡ answer_of (as_plain (carrier f))
+pub carrier_label : (f : List ℕ) → 1 ≤ length f → get_or f 0 0 ≡ 35 → carrier f ≡ chain (index (drop 1 f)) (λ n. some (lab n))
 unfolding carrier label_number index
-carrier_label [] h e = absurd (h refl)
-carrier_label (b ∷ s) h e = simp (eq-eqb b 35 e) (label_read (number 0 63 s))
+carrier_label [] h e = absurd (omega arith)
+carrier_label (b ∷ s) h e = simp (eq-eqb b 35 e)
 
-pub carrier_register : (f : List ℕ) → (length f ≡ 0 → ⊥) → (get_or f 0 0 ≡ 35 → ⊥) → plain_read 0 (register f) ≡ answer_of (as_plain (carrier f))
-unfolding carrier
-carrier_register [] h e = absurd (h refl)
-carrier_register (b ∷ s) h e = simp (ne_eqb b 35 e) (register_read (register (b ∷ s)))
+pub carrier_register : (f : List ℕ) → (get_or f 0 0 ≡ 35 → ⊥) → carrier f ≡ chain (register f) (λ n. some (reg n))
+unfolding carrier register
+carrier_register [] e = refl
+carrier_register (b ∷ s) e = simp (ne_eqb b 35 e)
 
--- kind 3 tells that there is none
-kind_small : (b : Base) → base_kind b < 3
-kind_small (reg n) = omega arith
-kind_small (lit n) = omega arith
-kind_small (lab n) = omega arith
-
-base_is : (o : Option Base) (f : List ℕ) → (answer_of (as_plain o)).kind < 3 → answer_of (as_plain o) ≡ answer_of (as_plain (or_literal o f))
-unfolding answer_of
-base_is none f h = absurd (omega arith)
-base_is (some b) f h = refl
-
-base_none : (o : Option Base) → 3 ≤ (answer_of (as_plain o)).kind → o ≡ none
-unfolding answer_of
+-- what an answer tells of the base
+base_none : (o : Option S.Base) → None ≡ base_read o → o ≡ none
 base_none none h = refl
-base_none (some b) h = absurd (let q = kind_small b in omega arith)
+base_none (some b) h = absurd (cc)
 
-module _ (f : List ℕ) (c : OperandRead) (e : c ≡ answer_of (as_plain (carrier f))) where
-  pub base_carrier : c.kind < 3 → c ≡ answer_of (from_parts (f ∷ []))
-  base_carrier h = e ∙ base_is (carrier f) f (let q = ap (λ (r : OperandRead). r.kind) e in omega arith)
-
-  pub no_carrier : 3 ≤ c.kind → carrier f ≡ none
-  no_carrier h = base_none (carrier f) (let q = ap (λ (r : OperandRead). r.kind) e in omega arith)
-
-  pub base_literal : 3 ≤ c.kind → plain_read 1 (literal f) ≡ answer_of (from_parts (f ∷ []))
-  base_literal h = literal_read (literal f) ∙ sym (ap (λ (o : Option Base). answer_of (as_plain (or_literal o f))) (no_carrier h))
+base_there : (o : Option S.Base) (b : Base) → Some b ≡ base_read o → (x : S.Base) × (o ≡ some x) × (b ≡ base_of x)
+base_there none b h = absurd (cc)
+base_there (some x) b h = (x, refl, cc)
 
 -- ---- row numbers between colons
 module _ (n : ℕ) (p : List ℕ) where
@@ -136,19 +102,19 @@ each_is (p ∷ ps) ts e = go (row_number p) (each row_number ps) refl refl e (ea
         (ap suc w.0 ∙ ap length q, ap₂ (λ (y : ℕ) (ys : List ℕ). y ∷ ys) (ap or_zero a) w.1 ∙ q)
 
 -- ---- the two sides of `=`
-abbrev joined : Option Base → Option (List ℕ) → Option ℕ → Bool → Option Operand
+abbrev joined : Option S.Base → Option (List ℕ) → Option ℕ → Bool → Option Operand
 joined c ts r s = chain c (λ x. chain ts (λ xs. chain r (λ y. guarded s (inst x xs y))))
 
-no_list : (c : Option Base) (r : Option ℕ) (s : Bool) → joined c none r s ≡ none
+no_list : (c : Option S.Base) (r : Option ℕ) (s : Bool) → joined c none r s ≡ none
 no_list none r s = refl
 no_list (some x) r s = refl
 
-no_row : (c : Option Base) (ts : Option (List ℕ)) (s : Bool) → joined c ts none s ≡ none
+no_row : (c : Option S.Base) (ts : Option (List ℕ)) (s : Bool) → joined c ts none s ≡ none
 no_row none ts s = refl
 no_row (some x) none s = refl
 no_row (some x) (some xs) s = refl
 
-no_size : (c : Option Base) (ts : Option (List ℕ)) (r : Option ℕ) → joined c ts r false ≡ none
+no_size : (c : Option S.Base) (ts : Option (List ℕ)) (r : Option ℕ) → joined c ts r false ≡ none
 no_size none ts r = refl
 no_size (some x) none r = refl
 no_size (some x) (some xs) none = refl
@@ -156,29 +122,6 @@ no_size (some x) (some xs) (some y) = refl
 
 abbrev sized : ℕ → Bool
 sized k = leb 1 k && leb k 8
-
--- 1 to 8 are counted, and no other number
-sized_no : (k : ℕ) → or_zero (guarded (leb k 8) k) ≡ 0 → sized k ≡ false
-sized_no k h = go (leb k 8) refl h
-  where
-    go : (t : Bool) → leb k 8 ≡ t → or_zero (guarded t k) ≡ 0 → (leb 1 k && t) ≡ false
-    go true e q = let l : k < 1 = omega arith in simp (lt-leb 1 k l)
-    go false e q = and_false (leb 1 k)
-
-sized_yes : (k : ℕ) → (or_zero (guarded (leb k 8) k) ≡ 0 → ⊥) → (sized k ≡ true) × (or_zero (guarded (leb k 8) k) ≡ k)
-sized_yes k h = go (leb k 8) h
-  where
-    go : (t : Bool) → (or_zero (guarded t k) ≡ 0 → ⊥) → ((leb 1 k && t) ≡ true) × (or_zero (guarded t k) ≡ k)
-    go true q = let l : 1 ≤ k = pos_of_ne-zero q in (simp (le-leb 1 k l), refl)
-    go false q = absurd (q refl)
-
-count_none : (ps : List (List ℕ)) → each row_number ps ≡ none → or_zero (row_count 0 ps) ≡ 0
-unfolding row_count
-count_none ps e = simp e
-
-count_some : (ps : List (List ℕ)) (ts : List ℕ) → each row_number ps ≡ some ts → or_zero (row_count 0 ps) ≡ or_zero (guarded (leb (length ps) 8) (length ps))
-unfolding row_count
-count_some ps ts e = simp (e, zero-add)
 
 module _ (b t : List ℕ) where
   pub carried_alone : carried (b ∷ []) t ≡ none
@@ -197,57 +140,66 @@ module _ (b t : List ℕ) where
     pub carried_row : row_number t ≡ none → carried (b ∷ ps) t ≡ none
     carried_row e = carried_def ∙ ap (λ (r : Option ℕ). joined (carrier b) (each row_number ps) r (sized (length ps))) e ∙ no_row (carrier b) (each row_number ps) (sized (length ps))
 
-    pub carried_count : or_zero (row_count 0 ps) ≡ 0 → carried (b ∷ ps) t ≡ none
-    carried_count h = carried_def ∙ go (each row_number ps) refl
-      where
-        go : (u : Option (List ℕ)) → each row_number ps ≡ u → joined (carrier b) u (row_number t) (sized (length ps)) ≡ none
-        go none e = no_list (carrier b) (row_number t) (sized (length ps))
-        go (some ts) e =
-            ap (joined (carrier b) (some ts) (row_number t)) (sized_no (length ps) (sym (count_some ps ts e) ∙ h)) ∙ no_size (carrier b) (some ts) (row_number t)
+    few_as : (x : Bool) → leb (0 + length ps) 8 ≡ x → leb (length ps) 8 ≡ x
+    few_as x e = ap (λ (k : ℕ). leb k 8) (sym (zero-add (length ps))) ∙ e
 
-    pub carried_is : (c : Base) (r : ℕ) → carrier b ≡ some c → (or_zero (row_count 0 ps) ≡ 0 → ⊥) → row_number t ≡ some r → (ts : List ℕ) × (each row_number ps ≡ some ts) × (or_zero (row_count 0 ps) ≡ length ts) × (carried (b ∷ ps) t ≡ some (inst c ts r))
-    unfolding carried
-    carried_is c r e h f = go (each row_number ps) refl
+    pub carried_count : none ≡ row_count 0 ps → carried (b ∷ ps) t ≡ none
+    unfolding row_count
+    carried_count h = carried_def ∙ go (each row_number ps) (leb (0 + length ps) 8) refl h
       where
-        go : (u : Option (List ℕ)) → each row_number ps ≡ u → (ts : List ℕ) × (each row_number ps ≡ some ts) × (or_zero (row_count 0 ps) ≡ length ts) × (carried (b ∷ ps) t ≡ some (inst c ts r))
-        go none g = absurd (h (count_none ps g))
-        go (some ts) g =
-            let w = sized_yes (length ps) (λ q. h (count_some ps ts g ∙ q)) in
-            (ts, g, count_some ps ts g ∙ w.1 ∙ (each_is ps ts g).0, simp (e, g, f, w.0))
+        go : (u : Option (List ℕ)) (x : Bool) → leb (0 + length ps) 8 ≡ x → none ≡ chain u (λ ts. guarded x (0 + length ps)) → joined (carrier b) u (row_number t) (sized (length ps)) ≡ none
+        go none x e q = no_list (carrier b) (row_number t) (sized (length ps))
+        go (some ts) true e q = absurd (none-ne-some (0 + length ps) q)
+        go (some ts) false e q =
+            let s : sized (length ps) ≡ false = ap (λ (y : Bool). leb 1 (length ps) && y) (few_as false e) ∙ and_false (leb 1 (length ps)) in
+            ap (joined (carrier b) (some ts) (row_number t)) s ∙ no_size (carrier b) (some ts) (row_number t)
+
+    pub carried_is : (c : S.Base) (n r : ℕ) → carrier b ≡ some c → some n ≡ row_count 0 ps → 0 < length ps → row_number t ≡ some r → (ts : List ℕ) × (each row_number ps ≡ some ts) × (n ≡ length ts) × (carried (b ∷ ps) t ≡ some (inst c ts r))
+    unfolding row_count carried
+    carried_is c n r e h l f = go (each row_number ps) refl (leb (0 + length ps) 8) refl h
+      where
+        go : (u : Option (List ℕ)) → each row_number ps ≡ u → (x : Bool) → leb (0 + length ps) 8 ≡ x → some n ≡ chain u (λ ts. guarded x (0 + length ps)) → (ts : List ℕ) × (each row_number ps ≡ some ts) × (n ≡ length ts) × (carried (b ∷ ps) t ≡ some (inst c ts r))
+        go none g x q h = absurd (none-ne-some n (sym h))
+        go (some ts) g false q h = absurd (none-ne-some n (sym h))
+        go (some ts) g true q h =
+            let k : leb 1 (length ps) ≡ true = le-leb 1 (length ps) l in
+            let m : leb (length ps) 8 ≡ true = few_as true q in
+            let w : n ≡ length ts = some-injective n (0 + length ps) h ∙ zero-add (length ps) ∙ (each_is ps ts g).0 in
+            (ts, g, w, simp (e, g, f, k, m))
 
 -- ---- the answer and what is stored
-pub nothing_is : (o : Option Operand) (l : List ℕ) (at : ℕ) (r : OperandRead) → o ≡ none → r ≡ answer_of none → OperandIs o l at r l
-unfolding args_of
-nothing_is o l at r e a =
+pub nothing_is : {o : Option Operand} {l : List ℕ} {at : ℕ} {r : Maybe OperandRead} → o ≡ none → r ≡ None → OperandIs o l at r l
+unfolding answer_of args_of
+nothing_is {l = l} {at = at} e a =
     record { answer = a ∙ ap answer_of (sym e); stored = ap (λ (x : Option Operand). sets l at (args_of x)) (sym e) }
 
-pub inst_is : (o : Option Operand) (l : List ℕ) (at : ℕ) (c : Base) (ts : List ℕ) (t k n m : ℕ) → o ≡ some (inst c ts t) → k ≡ base_kind c → n ≡ base_number c → m ≡ length ts → OperandIs o l at (record { kind = k; number = n; count = m; row = t }) (sets l at ts)
+inst_is : (o : Option Operand) (l : List ℕ) (at : ℕ) (b : Base) (c : S.Base) (ts : List ℕ) (t m : ℕ) → o ≡ some (inst c ts t) → b ≡ base_of c → m ≡ length ts → OperandIs o l at (Some (record { base = b; packed = false; count = m; row = t })) (sets l at ts)
 unfolding answer_of args_of
-inst_is o l at c ts t k n m e p q w =
-    let a : ◌≡◌ {A = OperandRead} (record { kind = k; number = n; count = m; row = t }) (answer_of (some (inst c ts t))) = λ i. record { kind = p i; number = q i; count = w i; row = t } in
-    record { answer = a ∙ ap answer_of (sym e); stored = ap (λ (x : Option Operand). sets l at (args_of x)) (sym e) }
+inst_is o l at b c ts t m e p w =
+    let a : ◌≡◌ {A = OperandRead} (record { base = b; packed = false; count = m; row = t }) (read_of (inst c ts t)) = λ i. record { base = p i; packed = false; count = w i; row = t } in
+    record { answer = ap {B = Maybe OperandRead} Some a ∙ ap answer_of (sym e); stored = ap (λ (x : Option Operand). sets l at (args_of x)) (sym e) }
 
 -- the same of an equal operand
-pub same_is : {o p : Option Operand} {l : List ℕ} {at : ℕ} {r : OperandRead} {after : List ℕ} → o ≡ p → OperandIs o l at r after → OperandIs p l at r after
+pub same_is : {o p : Option Operand} {l : List ℕ} {at : ℕ} {r : Maybe OperandRead} {after : List ℕ} → o ≡ p → OperandIs o l at r after → OperandIs p l at r after
 same_is {l = l} {at = at} e g =
     record { answer = g.answer ∙ ap answer_of e; stored = g.stored ∙ ap (λ (x : Option Operand). sets l at (args_of x)) e }
 
-plain_args : (o : Option Base) → args_of (as_plain o) ≡ []
+plain_args : (o : Option S.Base) → args_of (chain o (λ b. some (plain b))) ≡ []
 unfolding args_of
 plain_args none = refl
 plain_args (some b) = refl
 
-pub plain_is : (f : List ℕ) (o : Option Operand) (l : List ℕ) (at : ℕ) (r : OperandRead) → o ≡ from_parts (f ∷ []) → r ≡ answer_of (from_parts (f ∷ [])) → OperandIs o l at r l
-plain_is f o l at r e a =
+plain_answer : (o : Option S.Base) → any_read o ≡ answer_of (chain o (λ b. some (plain b)))
+unfolding answer_of
+plain_answer none = refl
+plain_answer (some b) = refl
+
+pub plain_is : (f : List ℕ) (l : List ℕ) (at : ℕ) (r : Maybe OperandRead) → operand f ≡ from_parts (f ∷ []) → r ≡ any_read (or_literal (carrier f) f) → OperandIs (operand f) l at r l
+plain_is f l at r e a =
     record {
-      answer = a ∙ ap answer_of (sym e);
+      answer = a ∙ plain_answer (or_literal (carrier f) f) ∙ ap answer_of (sym e);
       stored = sym (ap (sets l at) (ap args_of e ∙ plain_args (or_literal (carrier f) f)));
     }
-
-a_carrier : (o : Option Base) (c : OperandRead) → c ≡ answer_of (as_plain o) → c.kind < 3 → (b : Base) × (o ≡ some b) × (c.kind ≡ base_kind b) × (c.number ≡ base_number b)
-unfolding answer_of
-a_carrier none c e h = absurd (let q = ap (λ (r : OperandRead). r.kind) e in omega arith)
-a_carrier (some b) c e h = (b, refl, ap (λ (r : OperandRead). r.kind) e, ap (λ (r : OperandRead). r.number) e)
 
 -- on each way through `carried`, e being where the carrier ends
 module _ (l t : List ℕ) (e : ℕ) (is : e ≡ 0 + length (first_part 58 (drop 0 l))) where
@@ -258,51 +210,51 @@ module _ (l t : List ℕ) (e : ℕ) (is : e ≡ 0 + length (first_part 58 (drop 
     sides : carried (split 58 l) t ≡ carried (take (e - 0) (drop 0 l) ∷ split 58 (drop (e + 1) l)) t
     sides = ap (λ (ps : List (List ℕ)). carried ps t) (split_more 58 l 0 e is h)
 
-    pub sides_row : row_number t ≡ none → carried (split 58 l) t ≡ none
-    sides_row q = sides ∙ carried_row (take (e - 0) (drop 0 l)) t (split 58 (drop (e + 1) l)) q
+    pub sides_base : None ≡ base_read (carrier (take (e - 0) (drop 0 l))) → carried (split 58 l) t ≡ none
+    sides_base q = sides ∙ carried_base (take (e - 0) (drop 0 l)) t (split 58 (drop (e + 1) l)) (base_none (carrier (take (e - 0) (drop 0 l))) q)
 
-    pub sides_count : or_zero (row_count 0 (split 58 (drop (e + 1) l))) ≡ 0 → carried (split 58 l) t ≡ none
+    pub sides_row : none ≡ row_number t → carried (split 58 l) t ≡ none
+    sides_row q = sides ∙ carried_row (take (e - 0) (drop 0 l)) t (split 58 (drop (e + 1) l)) (sym q)
+
+    pub sides_count : none ≡ row_count 0 (split 58 (drop (e + 1) l)) → carried (split 58 l) t ≡ none
     sides_count q = sides ∙ carried_count (take (e - 0) (drop 0 l)) t (split 58 (drop (e + 1) l)) q
 
-    module _ (c : OperandRead) (ce : c ≡ answer_of (as_plain (carrier (take (e - 0) (drop 0 l))))) where
-      pub sides_base : 3 ≤ c.kind → carried (split 58 l) t ≡ none
-      sides_base k = sides ∙ carried_base (take (e - 0) (drop 0 l)) t (split 58 (drop (e + 1) l)) (no_carrier (take (e - 0) (drop 0 l)) c ce k)
-
-      pub sides_all : c.kind < 3 → (n r : ℕ) → n ≡ or_zero (row_count 0 (split 58 (drop (e + 1) l))) → (n ≡ 0 → ⊥) → row_number t ≡ some r
-          → (out : List ℕ) (at : ℕ) → OperandIs (carried (split 58 l) t) out at (record {
-            kind = c.kind;
-            number = c.number;
-            count = n;
-            row = r;
-          }) (sets out at (rows_in (split 58 (drop (e + 1) l))))
-      sides_all k n r ne nz re out at =
-          let ps = split 58 (drop (e + 1) l) in
-          let w = a_carrier (carrier (take (e - 0) (drop 0 l))) c ce k in
-          let v = carried_is (take (e - 0) (drop 0 l)) t ps w.0 r w.1 (λ q. nz (ne ∙ q)) re in
-          let i = inst_is (carried (split 58 l) t) out at w.0 v.0 r c.kind c.number n (sides ∙ v.3) w.2 w.3 (ne ∙ v.2) in
-          record { answer = i.answer; stored = ap (sets out at) (each_is ps v.0 v.1).1 ∙ i.stored }
+    pub sides_all : (b : Base) → Some b ≡ base_read (carrier (take (e - 0) (drop 0 l))) → (n r : ℕ) → some n ≡ row_count 0 (split 58 (drop (e + 1) l)) → some r ≡ row_number t
+        → (out : List ℕ) (at : ℕ) → OperandIs (carried (split 58 l) t) out at (Some (record {
+          base = b;
+          packed = false;
+          count = n;
+          row = r;
+        })) (sets out at (rows_in (split 58 (drop (e + 1) l))))
+    sides_all b be n r ne re out at =
+        let ps = split 58 (drop (e + 1) l) in
+        let w = base_there (carrier (take (e - 0) (drop 0 l))) b be in
+        let q : 0 < length ps = omega (arith, ap length (split_is 58 (drop (e + 1) l))) in
+        let v = carried_is (take (e - 0) (drop 0 l)) t ps w.0 n r w.1 ne q (sym re) in
+        let i = inst_is (carried (split 58 l) t) out at b w.0 v.0 r n (sides ∙ v.3) w.2 v.2 in
+        record { answer = i.answer; stored = ap (sets out at) (each_is ps v.0 v.1).1 ∙ i.stored }
 
 -- ---- packages
-abbrev wrapped : Option ℕ → Option Base → Option ℕ → Option Operand
+abbrev wrapped : Option ℕ → Option S.Base → Option ℕ → Option Operand
 wrapped a b h = chain a (λ u. chain b (λ c. chain h (λ t. some (pack u c t))))
 
 no_base : (a h : Option ℕ) → wrapped a none h ≡ none
 no_base none h = refl
 no_base (some u) h = refl
 
-no_hidden : (a : Option ℕ) (b : Option Base) → wrapped a b none ≡ none
+no_hidden : (a : Option ℕ) (b : Option S.Base) → wrapped a b none ≡ none
 no_hidden none b = refl
 no_hidden (some u) none = refl
 no_hidden (some u) (some c) = refl
 
-wrapped_is : {a : Option ℕ} {b : Option Base} {h : Option ℕ} {u t : ℕ} {c : Base} → a ≡ some u → b ≡ some c → h ≡ some t → wrapped a b h ≡ some (pack u c t)
+wrapped_is : {a : Option ℕ} {b : Option S.Base} {h : Option ℕ} {u t : ℕ} {c : S.Base} → a ≡ some u → b ≡ some c → h ≡ some t → wrapped a b h ≡ some (pack u c t)
 wrapped_is p q r = λ i. wrapped (p i) (q i) (r i)
 
-pack_is : (o : Option Operand) (l : List ℕ) (at : ℕ) (a : ℕ) (c : Base) (h k n : ℕ) → o ≡ some (pack a c h) → k ≡ base_kind c → n ≡ base_number c → OperandIs o l at (record { kind = k + 4; number = n; count = 1; row = h }) (sets l at (a ∷ []))
+pack_is : (o : Option Operand) (l : List ℕ) (at : ℕ) (b : Base) (a : ℕ) (c : S.Base) (h : ℕ) → o ≡ some (pack a c h) → b ≡ base_of c → OperandIs o l at (Some (record { base = b; packed = true; count = 1; row = h })) (sets l at (a ∷ []))
 unfolding answer_of args_of
-pack_is o l at a c h k n e p q =
-    let w : ◌≡◌ {A = OperandRead} (record { kind = k + 4; number = n; count = 1; row = h }) (answer_of (some (pack a c h))) = λ i. record { kind = p i + 4; number = q i; count = 1; row = h } in
-    record { answer = w ∙ ap answer_of (sym e); stored = ap (λ (x : Option Operand). sets l at (args_of x)) (sym e) }
+pack_is o l at b a c h e p =
+    let w : ◌≡◌ {A = OperandRead} (record { base = b; packed = true; count = 1; row = h }) (read_of (pack a c h)) = λ i. record { base = p i; packed = true; count = 1; row = h } in
+    record { answer = ap {B = Maybe OperandRead} Some w ∙ ap answer_of (sym e); stored = ap (λ (x : Option Operand). sets l at (args_of x)) (sym e) }
 
 -- on each way through `packed`: e is where the argument's row ends, d where the first part of what follows does
 module _ (l t : List ℕ) (e : ℕ) (is : e ≡ 0 + length (first_part 58 (drop 0 l))) where
@@ -327,56 +279,54 @@ module _ (l t : List ℕ) (e : ℕ) (is : e ≡ 0 + length (first_part 58 (drop 
           let m : length v ≤ length (first_part 58 v) = omega arith in
           ap (λ (ps : List (List ℕ)). packed ps t) (parts ∙ ap (λ (ps : List (List ℕ)). take (e - 0) (drop 0 l) ∷ ps) (only 58 v m))
 
-      pub pack_argument : row_number (take (e - 0) (drop 0 l)) ≡ none → packed (split 58 l) t ≡ none
-      pack_argument q = parts_two ∙ ap (λ (a : Option ℕ). wrapped a (or_literal (carrier v) v) (row_number t)) q
+      pub pack_argument : none ≡ row_number (take (e - 0) (drop 0 l)) → packed (split 58 l) t ≡ none
+      pack_argument q = parts_two ∙ ap (λ (a : Option ℕ). wrapped a (or_literal (carrier v) v) (row_number t)) (sym q)
 
-      pub pack_row : row_number t ≡ none → packed (split 58 l) t ≡ none
+      pub pack_row : none ≡ row_number t → packed (split 58 l) t ≡ none
       pack_row q =
           let a = row_number (take (e - 0) (drop 0 l)) in
-          parts_two ∙ ap (wrapped a (or_literal (carrier v) v)) q ∙ no_hidden a (or_literal (carrier v) v)
+          parts_two ∙ ap (wrapped a (or_literal (carrier v) v)) (sym q) ∙ no_hidden a (or_literal (carrier v) v)
 
-      module _ (c : OperandRead) (ce : c ≡ answer_of (from_parts (v ∷ []))) where
-        pub pack_base : 3 ≤ c.kind → packed (split 58 l) t ≡ none
-        pack_base q =
-            let a = row_number (take (e - 0) (drop 0 l)) in
-            let b = base_none (or_literal (carrier v) v) (let w = ap (λ (r : OperandRead). r.kind) ce in omega arith) in
-            parts_two ∙ ap (λ (o : Option Base). wrapped a o (row_number t)) b ∙ no_base a (row_number t)
+      pub pack_base : None ≡ base_read (or_literal (carrier v) v) → packed (split 58 l) t ≡ none
+      pack_base q =
+          let a = row_number (take (e - 0) (drop 0 l)) in
+          parts_two ∙ ap (λ (o : Option S.Base). wrapped a o (row_number t)) (base_none (or_literal (carrier v) v) q) ∙ no_base a (row_number t)
 
-        pub pack_all : c.kind < 3 → (a r : ℕ) → row_number (take (e - 0) (drop 0 l)) ≡ some a → row_number t ≡ some r
-            → (out : List ℕ) (at : ℕ) → OperandIs (packed (split 58 l) t) out at (record {
-              kind = c.kind + 4;
-              number = c.number;
-              count = 1;
-              row = r;
-            }) (sets out at (a ∷ []))
-        pack_all q a r ae re out at =
-            let w = a_carrier (or_literal (carrier v) v) c ce q in
-            pack_is (packed (split 58 l) t) out at a w.0 r c.kind c.number (parts_two ∙ wrapped_is ae w.1 re) w.2 w.3
+      pub pack_all : (b : Base) → Some b ≡ base_read (or_literal (carrier v) v) → (a r : ℕ) → some a ≡ row_number (take (e - 0) (drop 0 l)) → some r ≡ row_number t
+          → (out : List ℕ) (at : ℕ) → OperandIs (packed (split 58 l) t) out at (Some (record {
+            base = b;
+            packed = true;
+            count = 1;
+            row = r;
+          })) (sets out at (a ∷ []))
+      pack_all b be a r ae re out at =
+          let w = base_there (or_literal (carrier v) v) b be in
+          pack_is (packed (split 58 l) t) out at b a w.0 r (parts_two ∙ wrapped_is (sym ae) w.1 (sym re)) w.2
 
 -- on each way through `before`
 module _ (l t : List ℕ) where
-  pub before_none : length l ≡ 0 → before l t ≡ none
+  pub before_none : length l < 1 → before l t ≡ none
   unfolding before
   before_none e = go l e
     where
-      go : (l : List ℕ) → length l ≡ 0 → before l t ≡ none
+      go : (l : List ℕ) → length l < 1 → before l t ≡ none
       go [] e = refl
       go (b ∷ l) e = absurd (omega arith)
 
-  pub before_pack : (length l ≡ 0 → ⊥) → get_or l 0 0 ≡ 33 → before l t ≡ packed (split 58 (drop 1 l)) t
+  pub before_pack : 1 ≤ length l → get_or l 0 0 ≡ 33 → before l t ≡ packed (split 58 (drop 1 l)) t
   unfolding before
   before_pack h e = go l h e
     where
-      go : (l : List ℕ) → (length l ≡ 0 → ⊥) → get_or l 0 0 ≡ 33 → before l t ≡ packed (split 58 (drop 1 l)) t
-      go [] h e = absurd (h refl)
+      go : (l : List ℕ) → 1 ≤ length l → get_or l 0 0 ≡ 33 → before l t ≡ packed (split 58 (drop 1 l)) t
+      go [] h e = absurd (omega arith)
       go (b ∷ l) h e = simp (eq-eqb b 33 e)
 
-  pub before_carried : (length l ≡ 0 → ⊥) → (get_or l 0 0 ≡ 33 → ⊥) → before l t ≡ carried (split 58 l) t
+  pub before_carried : 1 ≤ length l → (get_or l 0 0 ≡ 33 → ⊥) → before l t ≡ carried (split 58 l) t
   unfolding before
   before_carried h e = go l h e
     where
-      go : (l : List ℕ) → (length l ≡ 0 → ⊥) → (get_or l 0 0 ≡ 33 → ⊥) → before l t ≡ carried (split 58 l) t
-      go [] h e = absurd (h refl)
+      go : (l : List ℕ) → 1 ≤ length l → (get_or l 0 0 ≡ 33 → ⊥) → before l t ≡ carried (split 58 l) t
+      go [] h e = absurd (omega arith)
       go (b ∷ l) h e = simp (ne_eqb b 33 e)
 
 -- ---- the parts of the field

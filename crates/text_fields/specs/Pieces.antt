@@ -1,25 +1,27 @@
 -- What the private functions of this crate give: the pieces that an operand with arguments is made of.
-use Rattle.std.specs.Prelude.{ℕ, ◌+◌, Bool, true, false, List, map, length, nat_le}
+use Rattle.std.specs.Prelude.{ℕ, ◌+◌, Bool, true, false, List, map, length, nat_le, Option as Maybe, Some, None}
 use Prim.Native.Char.{code}
 use Rattle.std.proofs.Math.Option.{Option, none, some}
 use Rattle.syntax.specs.Partial.{chain, guarded}
-use Rattle.syntax.specs.Syntax.{Base, Operand, plain}
+use Rattle.syntax.specs.Syntax as S
 use Rattle.text.specs.Grammar.{row_number, each}
+use Rattle.text_fields.specs.declared.plain_operands.Base.{Base}
 use Rattle.text_fields.specs.declared.plain_operands.OperandRead.{OperandRead}
-use Rattle.text_fields.specs.plain_operands.Answers.{answer_of}
+use Rattle.text_fields.specs.plain_operands.Answers.{base_of, plain_read}
 
 -- what parts the arguments of an operand
 abbrev pub colon : ℕ
 colon = code ":"
 
--- the answer for a plain operand of kind k, if there is a number
-unfoldable pub plain_read : ℕ → Option ℕ → OperandRead
-plain_read k none = answer_of none
-plain_read k (some n) = record { kind = k; number = n; count = 0; row = 0 }
+-- a base, as the code has it, if there is one
+abbrev pub base_read : Option S.Base → Maybe Base
+base_read none = None
+base_read (some b) = Some (base_of b)
 
--- a base as a plain operand
-abbrev pub as_plain : Option Base → Option Operand
-as_plain o = chain o (λ b. some (plain b))
+-- a base as a plain operand, as the code has it
+abbrev pub any_read : Option S.Base → Maybe OperandRead
+any_read none = None
+any_read (some b) = Some (plain_read (base_of b))
 
 -- there is a number
 abbrev pub is_some : Option ℕ → Bool

@@ -2,22 +2,14 @@
 // Promises: each answer, and what is written into lent memory, is what crate text says of the field, on every input; a reader takes
 // the field alone, as a part of the caller's line, and nothing is written past the end of what is lent.
 ghost use Rattle.std.specs.Prelude.{◌≡◌, ◌≤◌, map, reverse, length, take, drop};
+ghost use Rattle.std.specs.List.{list_all};
 ghost use Rattle.std.proofs.lemmas.List.Edits.{sets};
 ghost use Rattle.text.specs.Bytes.{bytes, same_bytes};
 ghost use Rattle.text.specs.Grammar.{forms, letters};
 ghost use Rattle.text_fields.specs.numbers.Numbers.{number_of};
 ghost use Rattle.text_fields.specs.names.Letters.{count_of, codes_of};
-ghost use Rattle.text_fields.specs.names.Pieces.{all_letters, letter_code, word_count, packed, keys_of, key_place};
+ghost use Rattle.text_fields.specs.names.Pieces.{is_letter, letter_code, word_count, packed, keys_of, key_place};
 ghost use Rattle.text_fields.specs.names.Names.{name_code};
-
-use crate::numbers::Number;
-
-// The byte as a wider number.
-fn wide(b: u8) -> u64
-    ensures { result ≡ b }
-{
-    b as u64
-}
 
 // The bytes as one number, the first the least, below a 1: two fields are equal if their numbers are.
 fn pack(f: &[u8]) -> u64
@@ -25,14 +17,13 @@ fn pack(f: &[u8]) -> u64
     ensures { result ≡ packed f.now }
 {
     let mut k: u64 = 1;
-    let mut i = f.len();
-    while 0 < i {
-        i -= 1;
-        k = k * 256 + wide(f[i]);
+    for i in (0..f.len()).rev() {
+        k = k * 256 + u64::from(f[i]);
     }
     k
 }
 
+// Kept: these two compare packed names and not the bytes, since one comparison of machine words a name is faster.
 // The place of a packed name among those of type lines and of blocks; 12 where it is none of them.
 fn row_name(k: u64) -> usize
     ensures { result ≡ key_place (take 12 (keys_of forms)) k }
@@ -96,92 +87,56 @@ pub fn name_code(f: &[u8]) -> usize
     }
     let k = pack(f);
     let r = row_name(k);
-    if r < 12 {
-        return r;
-    }
-    instr_name(k) + 12
+    if r < 12 { r } else { instr_name(k) + 12 }
 }
 
 // The field is a dash alone.
 fn is_dash(f: &[u8]) -> bool
     ensures { result ≡ same_bytes f.now (bytes "-") }
 {
-    if f.len() == 1 {
-        return f[0] == b'-';
-    }
-    false
+    matches!(f, [b'-'])
 }
 
 // Each byte is a letter v or s.
 fn all_letters(f: &[u8]) -> bool
-    ensures { result ≡ all_letters f.now }
+    ensures { result ≡ list_all is_letter f.now }
 {
-    let mut i = 0;
-    while i < f.len() {
-        if letter(f[i]) == 2 {
-            return false;
-        }
-        i += 1;
-    }
-    true
-}
-
-// 0 for v, 1 for s, 2 for any other byte.
-fn letter(b: u8) -> u16
-    ensures { result ≡ letter_code b }
-{
-    match b {
-        b'v' => 0,
-        b's' => 1,
-        _ => 2,
-    }
+    f.iter().all(|b| matches!(*b, b'v' | b's'))
 }
 
 // How many letters the field has, 1 to 8 and no other byte.
-fn letter_count(f: &[u8]) -> Number
+fn letter_count(f: &[u8]) -> Option<u32>
     ensures { number_of result ≡ word_count f.now }
 {
-    if f.len() == 0 {
-        return Number::Bad;
+    if f.is_empty() || 8 < f.len() || !all_letters(f) {
+        return None;
     }
-    if 8 < f.len() {
-        return Number::Bad;
-    }
-    if all_letters(f) {
-        return Number::Value(f.len() as u32);
-    }
-    Number::Bad
+    Some(f.len() as u32)
 }
 
 // Writes the letters from `at` on, the last first.
 fn put_letters(f: &[u8], out: &mut [u16], at: usize)
     ensures { out.new ≡ sets out.old at (map letter_code (reverse f.now)) }
 {
-    let mut i = f.len();
     let mut to = at;
-    while 0 < i {
+    for i in (0..f.len()).rev() {
         if out.len() <= to {
             return;
         }
-        i -= 1;
-        out[to] = letter(f[i]);
+        out[to] = u16::from(f[i] == b's');
         to += 1;
     }
 }
 
 // The letters of a code row: how many, and from `at` on 0 for v and 1 for s in the order of their variables, the last
 // letter first. Where the field is no such field nothing is written.
-pub fn letters(f: &[u8], out: &mut [u16], at: usize) -> Number
+pub fn letters(f: &[u8], out: &mut [u16], at: usize) -> Option<u32>
     ensures { (number_of result ≡ count_of (letters f.now)) × (out.new ≡ sets out.old at (codes_of (letters f.now))) }
 {
     if is_dash(f) {
-        return Number::Value(0);
+        return Some(0);
     }
-    match letter_count(f) {
-        Number::Value(n) => {
-            put_letters(f, out, at);
-            Number::Value(n)
-        }
-        Number::Bad => Number::Bad,
-    }
+    let n = letter_count(f)?;
+    put_letters(f, out, at);
+    Some(n)
 }

@@ -10,7 +10,7 @@ use native.Mathlib.Numerals.{add-one}
 use lib.Dec.{eqb, ltb}
 use lib.ListN.{length, get_or, take, drop, length-drop, take-append-drop}
 use lib.Seq.{drop-cons, get_or-take, get_or-drop, take-append-le, drop-append-le}
-use borrow.Author.Tests.{eq-eqb, ne_eqb, eqb-true, eqb-false, ltb-true, ltb-false}
+use borrow.Author.Tests.{ne_eqb, eqb-true, eqb-false, ltb-true, ltb-false}
 use Rattle.text_lines.specs.Parts.{first_part, line_in, field_in, InLine, StopAt, LastEnd}
 use Rattle.text_lines.proofs.Parts.{first_at, first_past, first_none, cut, within, first_end, first_here, first_on, part_is}
 
@@ -109,12 +109,6 @@ no_stop b h = go (eqb b 44) (eqb b 10) refl refl h
     go false true p q w = absurd (true≢false w)
     go false false p q w = (eqb-false b 44 p, eqb-false b 10 q)
 
-pub stop_comma : (b : ℕ) → b ≡ 44 → true ≡ (eqb b 44 || eqb b 10)
-stop_comma b e = ap (λ (t : Bool). t || eqb b 10) (sym (eq-eqb b 44 e))
-
-pub stop_other : (b : ℕ) → (b ≡ 44 → ⊥) → eqb b 10 ≡ (eqb b 44 || eqb b 10)
-stop_other b e = ap (λ (t : Bool). t || eqb b 10) (sym (ne_eqb b 44 e))
-
 -- ---- from one stop to the next
 module _ (s : List ℕ) (i : ℕ) (p : StopAt s i) where
   pub stop_on : get_or s i 0 ≡ 44 → InLine s (i + 1)
@@ -152,11 +146,6 @@ module _ (s : List ℕ) (at e : ℕ) (p : InLine s at) (is : e ≡ at + length (
       ∙ part_is 44 (line_in s) at e is
 
 -- ---- the last LF of a text
-pub last_none : (text : List ℕ) (i : ℕ) → i ≤ 0 → i + length (first_part 10 (drop i text)) ≡ length text → LastEnd text 0
-last_none text i h w =
-    let q : i ≡ 0 = omega arith in
-    record { within = omega arith; ended = λ z. absurd (not-suc-le-zero z); rest = sym (ap (λ (k : ℕ). k + length (first_part 10 (drop k text))) q) ∙ w }
-
 pub last_back : (text : List ℕ) (i : ℕ) → 0 < i → i ≤ length text → (get_or text (i - 1) 0 ≡ 10 → ⊥) → i + length (first_part 10 (drop i text)) ≡ length text → i - 1 + length (first_part 10 (drop (i - 1) text)) ≡ length text
 last_back text i a h e w =
     let q : i - 1 + 1 ≡ i = omega arith in

@@ -11,14 +11,12 @@ ghost use Rattle.text_lines.specs.Parts.{comma, lf, first_part, field_in, InLine
 pub fn part_end(s: &[u8], at: usize, c: u8) -> usize
     ensures { result ≡ at + length (first_part c (drop at s.now)) }
 {
-    let mut i = at;
-    while i < s.len() {
+    for i in at..s.len() {
         if s[i] == c {
             return i;
         }
-        i += 1;
     }
-    i
+    at.max(s.len())
 }
 
 // Where the line that starts at `at` ends: at its LF, or at the end of the text.
@@ -32,10 +30,7 @@ pub fn line_end(text: &[u8], at: usize) -> usize
 pub fn is_stop(b: u8) -> bool
     ensures { result ≡ (eqb b comma || eqb b lf) }
 {
-    if b == b',' {
-        return true;
-    }
-    b == b'\n'
+    matches!(b, b',' | b'\n')
 }
 
 // Where the field that starts at `at` in the first line ends: at the next comma, or at the line's LF.
@@ -43,23 +38,22 @@ pub fn field_end(s: &[u8], at: usize) -> usize
     requires { InLine s.now at }
     ensures { result ≡ at + length (field_in s.now at) }
 {
-    let mut i = at;
-    while !is_stop(s[i]) {
-        i += 1;
+    for i in at..s.len() {
+        if is_stop(s[i]) {
+            return i;
+        }
     }
-    i
+    s.len()
 }
 
 // Where the last line that has an LF ends: past that LF, or at 0 if there is none.
 pub fn last_end(text: &[u8]) -> usize
     ensures { LastEnd text.now result }
 {
-    let mut i = text.len();
-    while 0 < i {
-        if text[i - 1] == b'\n' {
-            return i;
+    for i in (0..text.len()).rev() {
+        if text[i] == b'\n' {
+            return i + 1;
         }
-        i -= 1;
     }
     0
 }
@@ -77,13 +71,11 @@ fn line_start(text: &[u8], n: usize) -> usize
     ensures { (result ≤ length text.now) × (lines_of (drop result text.now) ≡ drop n (lines_of text.now)) }
 {
     let mut at = 0;
-    let mut left = n;
-    while at < text.len() {
-        if left == 0 {
-            return at;
+    for _ in 0..n {
+        if text.len() <= at {
+            break;
         }
         at = next_line(text, at);
-        left -= 1;
     }
     at
 }

@@ -3,7 +3,7 @@
 use mathlib.Core.Path.{◌≡◌, refl, ◌∙◌}
 use mathlib.Core.Bool.{Bool, true, false}
 use mathlib.Core.List.{List, []}
-use Prim.Native.Nat.{ℕ, suc, ◌+◌, ◌*◌, ◌≤◌, ◌<◌}
+use Prim.Native.Nat.{ℕ, suc, ◌+◌, ◌-◌, ◌*◌, ◌≤◌, ◌<◌}
 use native.Mathlib.Omega.{arith}
 use lib.ListN.{get_or}
 use Rattle.tables.specs.Tables.{RowTable}
@@ -14,11 +14,18 @@ use Rattle.types_equal.specs.declared.stack_pairs.Context.{Context}
 use Rattle.types_equal.specs.declared.value_pairs.Span.{Span}
 use Rattle.types_equal.specs.declared.value_pairs.Pair.{Pair}
 use Rattle.types_equal.specs.declared.value_pairs.Pair.TheVariants.{Tuples, Codes, Inside}
+use Rattle.types_equal.specs.declared.value_pairs.Within.{Within}
+use Rattle.types_equal.specs.declared.value_pairs.Within.TheVariants.{Argument, Package}
+use Rattle.std.specs.Prelude.{Option, Some}
 use Rattle.types_equal.specs.value_pairs.Pairs.{span_of}
-use Rattle.types_equal.specs.stack_pairs.Fit.{fit_values, fit_parts, same_stacks}
-use Rattle.types_equal.specs.Bounds.{big, Tabled, Rooms, PartRooms, SpanIn, Depths, Spare, given_of, under_of, inside_of}
+use Rattle.types_equal.specs.stack_pairs.Fit.{fit_values, fit_rows, fit_parts, same_stacks}
+use Rattle.types_equal.specs.Bounds.{source_of, big, Tabled, Rooms, PartRooms, SpanIn, Depths, Spare, given_of, under_of, inside_of}
+use Rattle.types_equal.specs.declared.pending.Source.{Source}
+use Rattle.types_equal.specs.declared.pending.Source.TheVariants.{Own, Given}
+use Rattle.types_equal.specs.pending.Pending.{RowLow}
+use Rattle.std.proofs.Common.{max}
 use Rattle.types_equal.proofs.pending.Meets.{no_args}
-use Rattle.types_equal.proofs.Items.{tabled_low, tabled_arg, few_arg, spare_low, spare_arg}
+use Rattle.types_equal.proofs.Items.{tabled_low, tabled_given, spare_own, spare_given, tabled_arg, few_arg, spare_low, spare_arg}
 use Rattle.types_equal.proofs.Values.{big_of, Filler, OkInside, on_pair, both_same, one_differs}
 
 pub depths_in : {E : List ℕ} {k : Context} {l r : ℕ} → Rooms E k l r → Depths k
@@ -46,9 +53,38 @@ module _ (τ : RowTable) (args E : List ℕ) (k : Context) (l r n : ℕ) (T : Ta
         rw (e, q) s,
       )
 
-  pub inside_asks : (b : Bool) (x y : ℕ) {t : Context} → t ≡ inside_of E k b → OkInside args k.m l r b x y → Asks t x y
-  inside_asks true x y e f = rw e (given_asks x y f)
-  inside_asks false x y e f =
+  -- two value rows, the left one of a source, each with what is pending behind it: x words are left
+  pub rows_ask : (f : Source) (t u a b x : ℕ) {e : ℕ} {g : Context} → g ≡ source_of E k f → e ≡ max a b → RowLow k.m f l a t × (b + u ≤ r) → x ≡ n - e
+      → (big g.m + 131072 * t + 70000 < big k.m + 131072 * l + 70001) × Tabled τ args g.m t u × Rooms E g t u × Spare g.m t u x
+  rows_ask Own t u a b x i j w y =
+      let rl = R.left in
+      let rr = R.right in
+      let w0 = w.0 in
+      let w1 = w.1 in
+      rw i (
+        omega arith,
+        tabled_low τ args t u T (omega arith) (omega arith),
+        record { left = omega arith; right = omega arith; envs = R.envs; env = R.env; env2 = R.env2 },
+        spare_own k.m l r n a t b u j S x w y,
+      )
+  rows_ask Given t u a b x i j w y =
+      let rl = R.left in
+      let rr = R.right in
+      let re = R.envs in
+      let w1 = w.0.1 in
+      let w2 = w.0.2 in
+      let w3 = w.1 in
+      let c = big_of 0 k.m w.0.0 in
+      rw i (
+        omega arith,
+        tabled_given τ args t u T (omega arith) (omega arith),
+        record { left = omega arith; right = omega arith; envs = R.envs; env = omega arith; env2 = R.env2 },
+        spare_given k.m l r n a t b u j S x w.0 w.1 y,
+      )
+
+  pub inside_asks : (b : Within) (x y : ℕ) {t : Context} → t ≡ inside_of E k b → OkInside args k.m l r b x y → Asks t x y
+  inside_asks Argument x y e f = rw e (given_asks x y f)
+  inside_asks Package x y e f =
       let rl = R.left in
       let rr = R.right in
       let f0 = f.0 in
@@ -99,25 +135,29 @@ module _ (τ : RowTable) (args E : List ℕ) (k : Context) where
   abbrev same_stacks_in : Context → ℕ → ℕ → Bool
   same_stacks_in t x y = same_stacks τ (args_of τ args t.m) (shifted E t.env t.by) t.d x (shifted E t.env2 0) t.d2 y
 
-  abbrev on_pair_in : ℕ → ℕ → Pair → Bool
+  abbrev on_pair_in : ℕ → ℕ → Option Pair → Bool
   on_pair_in l r p = on_pair τ (args_of τ args k.m) (shifted E k.env k.by) k.d (shifted E k.env2 0) k.d2 l r p
 
-  pub given_is : (x y : ℕ) {t : Context} {o : Bool} → t ≡ given_of E k → o ≡ fit_in t x y → o ≡ fit_values τ [] (lift k.d) 0 x (shifted E k.env2 0) k.d2 y
+  given_is : (x y : ℕ) {t : Context} {o : Bool} → t ≡ given_of E k → o ≡ fit_in t x y → o ≡ fit_values τ [] (lift k.d) 0 x (shifted E k.env2 0) k.d2 y
   given_is x y {t} {o} e f = (rw e at f) ∙ rw (no_args τ args 0 refl, shifted_now E k.d) refl
 
-  pub inside_is : (l r : ℕ) (b : Bool) (x y : ℕ) {t : Context} {o : Bool} → t ≡ inside_of E k b → o ≡ fit_in t x y → o ≡ on_pair_in l r (Inside b x y)
-  inside_is l r true x y e f = given_is x y e f
-  inside_is l r false x y e f =
+  pub rows_are : (f : Source) (x y : ℕ) {t : Context} {o : Bool} → t ≡ source_of E k f → o ≡ fit_in t x y → o ≡ fit_rows τ (args_of τ args k.m) (shifted E k.env k.by) k.d (shifted E k.env2 0) k.d2 f x y
+  rows_are Own x y e f = rw e at f
+  rows_are Given x y e f = given_is x y e f
+
+  pub inside_is : (l r : ℕ) (b : Within) (x y : ℕ) {t : Context} {o : Bool} → t ≡ inside_of E k b → o ≡ fit_in t x y → o ≡ on_pair_in l r (Some (Inside b x y))
+  inside_is l r Argument x y e f = given_is x y e f
+  inside_is l r Package x y e f =
       let q : 1 + k.d ≡ suc k.d = omega arith in
       let q2 : 1 + k.d2 ≡ suc k.d2 = omega arith in
       (rw e at f) ∙ rw (q, q2) refl
 
-  pub tuples_are : (l r p q n : ℕ) {s : Span} {o : Bool} → s ≡ span_of false p q n → o ≡ fit_parts_in k s l r → o ≡ on_pair_in l r (Tuples p q n)
+  pub tuples_are : (l r p q n : ℕ) {s : Span} {o : Bool} → s ≡ span_of false p q n → o ≡ fit_parts_in k s l r → o ≡ on_pair_in l r (Some (Tuples p q n))
   tuples_are l r p q n e f = rw e at f
 
   module _ (l r x p y q : ℕ) {t : Context} {v : Bool} (e : t ≡ under_of τ.parts k p q) (f : v ≡ same_stacks_in t x y) where
-    pub codes_are : {s : Span} {o : Bool} → v ≡ true → s ≡ span_of true p q 8 → o ≡ fit_parts_in t s l r → o ≡ on_pair_in l r (Codes x p y q)
+    pub codes_are : {s : Span} {o : Bool} → v ≡ true → s ≡ span_of true p q 8 → o ≡ fit_parts_in t s l r → o ≡ on_pair_in l r (Some (Codes x p y q))
     codes_are g h i = both_same g (rw e at f) (rw (h, e) at i)
 
-    pub codes_not : v ≡ false → false ≡ on_pair_in l r (Codes x p y q)
+    pub codes_not : v ≡ false → false ≡ on_pair_in l r (Some (Codes x p y q))
     codes_not g = one_differs _ g (rw e at f)

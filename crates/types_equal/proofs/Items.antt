@@ -8,7 +8,10 @@ use lib.ListN.{length, get_or, take}
 use lib.Seq.{length-take-le}
 use Rattle.tables.specs.Tables.{RowTable}
 use Rattle.types_rows.specs.Environments.{EnvironmentIn}
-use Rattle.types_equal.specs.pending.Pending.{room, Givens}
+use Rattle.std.proofs.Common.{max}
+use Rattle.types_equal.specs.pending.Pending.{room, Givens, RowLow}
+use Rattle.types_equal.specs.declared.pending.Source.{Source}
+use Rattle.types_equal.specs.declared.pending.Source.TheVariants.{Own, Given}
 use Rattle.types_equal.specs.Bounds.{Tabled, Rooms, Spare}
 use Rattle.types_equal.specs.declared.stack_pairs.Context.{Context}
 
@@ -74,25 +77,18 @@ length_first n ws h = length-take-le n ws h
 pub spare_kept : (m l r n x : ℕ) → Spare m l r n → x ≡ n → Spare m l r x
 spare_kept m l r n x s p = let s0 = s.0 in let s1 = s.1 in (omega arith, omega arith)
 
--- e is the greater of a and b
-abbrev pub Greater : ℕ → ℕ → ℕ → Type 0
-Greater a b e = (a ≤ e) × (b ≤ e) × ((c : ℕ) → a ≤ c → b ≤ c → e ≤ c)
+-- e is the greater of a and b: what is pending behind a entries on the left and b on the right starts there
+module _ (m l r n a t b u : ℕ) {e : ℕ} (g : e ≡ max a b) (s : Spare m l r n) where
+  pub rows_room : (f : Source) → RowLow m f l a t × (b + u ≤ r) → (e < n) × (n ≤ 32768)
+  rows_room Own w = let w0 = w.0 in let w1 = w.1 in let s0 = s.0 in (omega arith, s.1)
+  rows_room Given w =
+      let h = room_of 0 m w.0.0 in let w2 = w.0.2 in let w3 = w.1 in let s0 = s.0 in (omega arith, s.1)
 
--- the words behind what is pending, a entries on the left and b on the right: x of n words are left from e on
-module _ (m l r n a t b u e : ℕ) (g : Greater a b e) (s : Spare m l r n) where
-  pub own_room : (a + t ≤ l) × (b + u ≤ r) → (e < n) × (n ≤ 32768)
-  own_room w = let w0 = w.0 in let w1 = w.1 in let s0 = s.0 in let k = g.2 (l + r) (omega arith) (omega arith) in (omega arith, s.1)
-
+  -- x of n words are left from there on
   pub spare_own : (x : ℕ) → (a + t ≤ l) × (b + u ≤ r) → x ≡ n - e → Spare m t u x
-  spare_own x w f =
-      let w0 = w.0 in let w1 = w.1 in let s0 = s.0 in let s1 = s.1 in let k = g.2 ((l + r) - (t + u)) (omega arith) (omega arith) in (omega arith, omega arith)
+  spare_own x w f = let w0 = w.0 in let w1 = w.1 in let s0 = s.0 in let s1 = s.1 in (omega arith, omega arith)
 
   -- the same behind a row of an argument
-  pub given_room : (0 < m) × (t < 514) × (a + t ≤ 514 + l) × (b + u ≤ r) → (e < n) × (n ≤ 32768)
-  given_room w =
-      let h = room_of 0 m w.0 in let w2 = w.2 in let w3 = w.3 in let s0 = s.0 in let k = g.2 (514 + l + r) (omega arith) (omega arith) in (omega arith, s.1)
-
-  pub spare_given : (x : ℕ) → (0 < m) × (t < 514) × (a + t ≤ 514 + l) × (b + u ≤ r) → x ≡ n - e → Spare 0 t u x
-  spare_given x w f =
-      let h = room_of 0 m w.0 in let w1 = w.1 in let w2 = w.2 in let w3 = w.3 in let s0 = s.0 in let s1 = s.1 in
-      let k = g.2 ((514 + l + r) - (t + u)) (omega arith) (omega arith) in (omega arith, omega arith)
+  pub spare_given : (x : ℕ) → (0 < m) × (t < 514) × (a + t ≤ 514 + l) → b + u ≤ r → x ≡ n - e → Spare 0 t u x
+  spare_given x w w3 f =
+      let h = room_of 0 m w.0 in let w1 = w.1 in let w2 = w.2 in let s0 = s.0 in let s1 = s.1 in (omega arith, omega arith)

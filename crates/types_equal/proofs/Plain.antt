@@ -15,6 +15,7 @@ use Rattle.types_rows.proofs.Laws.{lower_low}
 use Rattle.types_rows.proofs.Environments.{plain, shifted_now, shifted_none, shifted_plain}
 use Rattle.types_rows.proofs.Bridge.{type_at_lem}
 use Rattle.types_equal.proofs.pending.Meets.{and_true, no_args, meets_none}
+use Rattle.types_equal.specs.declared.stack_pairs.Context.{Context}
 use Rattle.types_equal.specs.Bounds.{Tabled, Spare}
 use Rattle.types_equal.specs.stack_pairs.Fit.{fit_values, same_stacks}
 
@@ -34,6 +35,10 @@ module _ (τ : RowTable) where
   pub plain_code : (d h x p : ℕ) → code_under τ [] (lift 0) d h x p ≡ code_of τ h x p
   unfolding code_under
   plain_code d h x p = plain d (code_of τ h x p)
+
+-- a context in which nothing is filled or raised
+pub plain_context : (k : Context) → (k.m ≡ 0) × ((k.by ≡ 0) × ((k.d ≡ 0) × ((k.env ≡ 0) × ((k.d2 ≡ 0) × (k.env2 ≡ 0))))) → k ≡ record { m = 0; by = 0; d = 0; env = 0; d2 = 0; env2 = 0 }
+plain_context k e = λ i. record { m = e.0 i; by = e.1.0 i; d = e.1.1.0 i; env = e.1.1.1.0 i; d2 = e.1.1.1.1.0 i; env2 = e.1.1.1.1.1 i }
 
 -- what is read now is only raised
 pub now_lift : (E : List ℕ) (x by : ℕ) → x ≡ 2 * length E → shifted E x by ≡ lift by

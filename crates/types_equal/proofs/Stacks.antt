@@ -10,15 +10,18 @@ use Rattle.types.specs.Types.{nil, join, Arg, meets}
 use Rattle.types.specs.Equal.{same}
 use Rattle.types.proofs.Filling.{join_nil}
 use Rattle.tables.specs.Tables.{RowTable}
-use Rattle.types_rows.specs.Read.{mean_s, lift, stack_under}
-use Rattle.types_equal.specs.pending.Pending.{side, entry_type, pending_type, entry_meets, pending_meets, Low, Pends, mass}
+use Rattle.types_rows.specs.Read.{mean_s, stack_under}
+use Rattle.types_equal.specs.pending.Pending.{list_of, entry_type, pending_type, entry_meets, pending_meets, Low, Pends, RowLow, mass}
 use Rattle.types_equal.proofs.pending.Meets.{and_true}
 use Rattle.types_equal.proofs.pending.Entries.{own_type, own_meets}
 use Rattle.types_equal.proofs.pending.Sides.{length_side}
 use Rattle.types_equal.proofs.pending.Lists.{Agree, mass_agree, pends_agree, type_agree, meets_agree}
 use Rattle.types_equal.specs.declared.stack_pairs.Duo.{Duo}
-use Rattle.types_equal.specs.declared.stack_pairs.Duo.TheVariants.{Over, Unlike, Onward, OwnTwo, GivenTwo}
-use Rattle.types_equal.specs.stack_pairs.Fit.{fit_values, same_stacks, fit_pending, DuoIs}
+use Rattle.types_equal.specs.declared.stack_pairs.Duo.TheVariants.{Over, Onward, Rows}
+use Rattle.types_equal.specs.declared.pending.Source.{Source}
+use Rattle.types_equal.specs.declared.pending.Side.TheVariants.{Left, Right}
+use Rattle.std.specs.Prelude.{Option, Some, None}
+use Rattle.types_equal.specs.stack_pairs.Fit.{fit_rows, same_stacks, fit_pending, DuoIs}
 
 -- ---- a part lent
 pub length_part : (n : ℕ) (ws : List ℕ) → length (take (length ws - n) (drop n ws)) ≡ length ws - n
@@ -63,74 +66,54 @@ module _ (τ : RowTable) (A : List Arg) (m : ℕ) (ρ : ℕ → ℕ) (d l : ℕ)
       }
 
   -- the rows are stored in a list of two: ws at first, then ws₂, then ws₃
-  pub match_stored : (ws ws₂ ws₃ : List ℕ) → l ≤ 514 → r ≤ 514 → 0 < length ws → side false ws₂ ≡ set (side false ws) 0 l → side true ws₂ ≡ side true ws → side true ws₃ ≡ set (side true ws₂) 0 r → side false ws₃ ≡ side false ws₂
-      → Matching (side false ws₃) 1 (side true ws₃) 1
+  pub match_stored : (ws ws₂ ws₃ : List ℕ) → l ≤ 514 → r ≤ 514 → 0 < length ws → list_of Left ws₂ ≡ set (list_of Left ws) 0 l → list_of Right ws₂ ≡ list_of Right ws → list_of Right ws₃ ≡ set (list_of Right ws₂) 0 r → list_of Left ws₃ ≡ list_of Left ws₂
+      → Matching (list_of Left ws₃) 1 (list_of Right ws₃) 1
   match_stored ws ws₂ ws₃ a b p e f g h =
-      let u = length_side false ws in
-      let v = length_side true ws in
-      let x : side false ws₃ ≡ set (side false ws) 0 l = h ∙ e in
-      let y : side true ws₃ ≡ set (side true ws) 0 r = g ∙ ap (λ (z : List ℕ). set z 0 r) f in
-      rw (x, y) (match_first (side false ws) (side true ws) a b (omega arith) (omega arith))
+      let u = length_side Left ws in
+      let v = length_side Right ws in
+      let x : list_of Left ws₃ ≡ set (list_of Left ws) 0 l = h ∙ e in
+      let y : list_of Right ws₃ ≡ set (list_of Right ws) 0 r = g ∙ ap (λ (z : List ℕ). set z 0 r) f in
+      rw (x, y) (match_first (list_of Left ws) (list_of Right ws) a b (omega arith) (omega arith))
 
   module _ (ls : List ℕ) (i : ℕ) (rs : List ℕ) (j : ℕ) (g : Matching ls i rs j) (ls₂ rs₂ : List ℕ) where
-    abbrev D : Duo → Type 0
+    abbrev D : Option Duo → Type 0
     D o = DuoIs τ A m ρ d ρ₂ d₂ ls i rs j ls₂ rs₂ o
 
-    pub match_over : (o : Duo) → D o → o ≡ Over → true ≡ same_stacks τ A ρ d l ρ₂ d₂ r
-    match_over o f e = sym (subst (λ (z : Duo). D z) e f) ∙ g.fit
+    abbrev D_at : {o p : Option Duo} → D o → o ≡ p → D p
+    D_at {o} {p} f e = subst (λ (z : Option Duo). D z) e f
 
-    pub match_unlike : (o : Duo) → D o → o ≡ Unlike → false ≡ same_stacks τ A ρ d l ρ₂ d₂ r
-    match_unlike o f e = sym (subst (λ (z : Duo). D z) e f) ∙ g.fit
+    pub match_over : (o : Option Duo) → D o → o ≡ Some Over → true ≡ same_stacks τ A ρ d l ρ₂ d₂ r
+    match_over o f e = sym (D_at f e) ∙ g.fit
 
-    pub match_onward : (s : Duo) (n o : ℕ) → D s → s ≡ Onward n o → Matching ls₂ n rs₂ o × (mass ls₂ n < mass ls i)
-    match_onward s n o f e =
-        let h = subst (λ (z : Duo). D z) e f in
+    pub match_unlike : (o : Option Duo) → D o → o ≡ None → false ≡ same_stacks τ A ρ d l ρ₂ d₂ r
+    match_unlike o f e = sym (D_at f e) ∙ g.fit
+
+    pub match_onward : (x : Option Duo) (n o : ℕ) → D x → x ≡ Some (Onward n o) → Matching ls₂ n rs₂ o × (mass ls₂ n < mass ls i)
+    match_onward x n o f e =
+        let h = D_at f e in
         (record { lefts = h.1.keeps l g.lefts; rights = h.2.keeps r g.rights; fit = sym h.0 ∙ g.fit }, h.1.less)
 
     -- two value rows
-    module _ (ls₃ rs₃ : List ℕ) where
-      pub match_own : (s : Duo) (t n u o : ℕ) {v : Bool} → Agree n ls₂ ls₃ → Agree o rs₂ rs₃ → D s → s ≡ OwnTwo t n u o → v ≡ fit_values τ A ρ d t ρ₂ d₂ u → v ≡ true → Matching ls₃ n rs₃ o × (mass ls₃ n < mass ls i)
-      match_own s t n u o p q f e w x =
-          let h = subst (λ (z : Duo). D z) e f in
+    module _ (x : Option Duo) (s : Source) (t n u o : ℕ) (f : D x) (e : x ≡ Some (Rows s t n u o)) {v : Bool} (w : v ≡ fit_rows τ A ρ d ρ₂ d₂ s t u) where
+      pub match_rows : (ls₃ rs₃ : List ℕ) → Agree n ls₂ ls₃ → Agree o rs₂ rs₃ → v ≡ true → Matching ls₃ n rs₃ o × (mass ls₃ n < mass ls i)
+      match_rows ls₃ rs₃ p q z =
+          let h = D_at f e in
           let y = h.1.less in
           let k = mass_agree n ls₂ ls₃ p in (
             record {
               lefts = pends_agree m l n ls₂ ls₃ p (h.1.keeps l g.lefts);
               rights = pends_agree 0 r o rs₂ rs₃ q (h.2.keeps r g.rights);
-              fit = fit_agree τ A ρ d ρ₂ d₂ n o ls₂ ls₃ rs₂ rs₃ p q ∙ ap (λ z. z && fit_pending τ A ρ d ρ₂ d₂ ls₂ n rs₂ o) (sym x ∙ w) ∙ sym h.0 ∙ g.fit;
+              fit = fit_agree τ A ρ d ρ₂ d₂ n o ls₂ ls₃ rs₂ rs₃ p q ∙ ap (λ b. b && fit_pending τ A ρ d ρ₂ d₂ ls₂ n rs₂ o) (sym z ∙ w) ∙ sym h.0 ∙ g.fit;
             },
             omega arith,
           )
 
-      pub match_given : (s : Duo) (t n u o : ℕ) {v : Bool} → Agree n ls₂ ls₃ → Agree o rs₂ rs₃ → D s → s ≡ GivenTwo t n u o → v ≡ fit_values τ [] (lift d) 0 t ρ₂ d₂ u → v ≡ true → Matching ls₃ n rs₃ o × (mass ls₃ n < mass ls i)
-      match_given s t n u o p q f e w x =
-          let h = subst (λ (z : Duo). D z) e f in
-          let y = h.1.less in
-          let k = mass_agree n ls₂ ls₃ p in (
-            record {
-              lefts = pends_agree m l n ls₂ ls₃ p (h.1.keeps l g.lefts);
-              rights = pends_agree 0 r o rs₂ rs₃ q (h.2.keeps r g.rights);
-              fit = fit_agree τ A ρ d ρ₂ d₂ n o ls₂ ls₃ rs₂ rs₃ p q ∙ ap (λ z. z && fit_pending τ A ρ d ρ₂ d₂ ls₂ n rs₂ o) (sym x ∙ w) ∙ sym h.0 ∙ g.fit;
-            },
-            omega arith,
-          )
-
-    pub own_not : (s : Duo) (t n u o : ℕ) {v : Bool} → D s → s ≡ OwnTwo t n u o → v ≡ fit_values τ A ρ d t ρ₂ d₂ u → v ≡ false → false ≡ same_stacks τ A ρ d l ρ₂ d₂ r
-    own_not s t n u o f e w x =
-        let h = subst (λ (z : Duo). D z) e f in
-        ap (λ z. z && fit_pending τ A ρ d ρ₂ d₂ ls₂ n rs₂ o) (sym x ∙ w) ∙ sym h.0 ∙ g.fit
-
-    pub given_not : (s : Duo) (t n u o : ℕ) {v : Bool} → D s → s ≡ GivenTwo t n u o → v ≡ fit_values τ [] (lift d) 0 t ρ₂ d₂ u → v ≡ false → false ≡ same_stacks τ A ρ d l ρ₂ d₂ r
-    given_not s t n u o f e w x =
-        let h = subst (λ (z : Duo). D z) e f in
-        ap (λ z. z && fit_pending τ A ρ d ρ₂ d₂ ls₂ n rs₂ o) (sym x ∙ w) ∙ sym h.0 ∙ g.fit
+      pub rows_not : v ≡ false → false ≡ same_stacks τ A ρ d l ρ₂ d₂ r
+      rows_not z = let h = D_at f e in ap (λ b. b && fit_pending τ A ρ d ρ₂ d₂ ls₂ n rs₂ o) (sym z ∙ w) ∙ sym h.0 ∙ g.fit
 
     -- how far the two rows and what is pending reach
-    pub own_low : (s : Duo) (t n u o : ℕ) → D s → s ≡ OwnTwo t n u o → (n + t ≤ l) × (o + u ≤ r)
-    own_low s t n u o f e = let h = subst (λ (z : Duo). D z) e f in (h.3 l g.lefts, h.4 r g.rights)
-
-    pub given_low : (s : Duo) (t n u o : ℕ) → D s → s ≡ GivenTwo t n u o → (0 < m) × (t < 514) × (n + t ≤ 514 + l) × (o + u ≤ r)
-    given_low s t n u o f e = let h = subst (λ (z : Duo). D z) e f in let k = h.3 l g.lefts in (k.0, k.1, k.2, h.4 r g.rights)
+    pub rows_low : (x : Option Duo) (s : Source) (t n u o : ℕ) → D x → x ≡ Some (Rows s t n u o) → RowLow m s l n t × (o + u ≤ r)
+    rows_low x s t n u o f e = let h = D_at f e in (h.3 l g.lefts, h.4 r g.rights)
 
 -- ---- tests
 pub not_true : {b : Bool} → not b ≡ false → b ≡ true

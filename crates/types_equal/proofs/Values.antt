@@ -16,16 +16,16 @@ use Rattle.types.proofs.Equal.{same_refl}
 use Rattle.tables.specs.Tables.{RowTable, span, letter_of, letters_at}
 use Rattle.types_rows.specs.declared.Val.{Val}
 use Rattle.types_rows.specs.declared.Val.TheVariants.{Int, Junk, ValVar, ValFill, Tuple, Pointer, Code, Hidden}
-use Rattle.types_rows.specs.declared.Slot.{Slot}
-use Rattle.types_rows.specs.declared.Slot.TheVariants.{Gap, Known}
+use Rattle.std.specs.Prelude.{Option, Some, None}
 use Rattle.types_rows.specs.Read.{value_at, is_stack_at, slot_at, on_slot, parts_of, mean_v, mean_s, value_to, acting, value_under, stack_under, parts_under, code_of, code_under, args_of, lift, place_v, OkV, OkSlot}
 use Rattle.types_rows.specs.Environments.{shifted}
 use Rattle.types_rows.proofs.Laws.{no_arg, type_v, value_read}
 use Rattle.types_equal.specs.declared.stack_pairs.Context.{Context}
 use Rattle.types_equal.specs.declared.value_pairs.Pair.{Pair}
-use Rattle.types_equal.specs.declared.value_pairs.Pair.TheVariants.{Same, Differ, Tuples, Pointers, Codes, Inside}
+use Rattle.types_equal.specs.declared.value_pairs.Pair.TheVariants.{Same, Tuples, Pointers, Codes, Inside}
+use Rattle.types_equal.specs.declared.value_pairs.Within.{Within}
+use Rattle.types_equal.specs.declared.value_pairs.Within.TheVariants.{Argument, Package}
 use Rattle.types_equal.specs.declared.value_pairs.Heads.{Heads}
-use Rattle.types_equal.specs.declared.value_pairs.Heads.TheVariants.{Apart, Both}
 use Rattle.types_equal.specs.value_pairs.Pairs.{pair_of, Placed, slots_of, letters_from}
 use Rattle.types_equal.specs.stack_pairs.Fit.{AtSame, fit_values, fit_parts, same_stacks}
 use Rattle.types_equal.specs.Bounds.{big}
@@ -37,10 +37,10 @@ big_of j zero h = absurd (not-suc-le-zero h)
 big_of j (suc m) h = refl
 
 -- ---- parts have as many items as they are
-items_on : (f : Act) (d : ℕ) (v : ℕ → Ty value) (s : Slot) (a : Ty stack) → items (walk f d (on_slot v s a)) ≡ suc (items (walk f d a))
+items_on : (f : Act) (d : ℕ) (v : ℕ → Ty value) (s : Option ℕ) (a : Ty stack) → items (walk f d (on_slot v s a)) ≡ suc (items (walk f d a))
 unfolding walk items
-items_on f d v Gap a = refl
-items_on f d v (Known t) a = refl
+items_on f d v None a = refl
+items_on f d v (Some t) a = refl
 
 items_parts : (f : Act) (d : ℕ) (v : ℕ → Ty value) (ps : List ℕ) (file : Bool) (h p n : ℕ) → items (walk f d (parts_of v ps file h p n)) ≡ n
 unfolding walk items parts_of
@@ -85,17 +85,17 @@ pub record Filler (args : List ℕ) (m r x y : ℕ) : Type 0 where
   pub row : x ≡ get_or args j 0 + 1
   pub beside : y ≡ r
 
-abbrev pub OkInside : List ℕ → ℕ → ℕ → ℕ → Bool → ℕ → ℕ → Type 0
-OkInside args m l r true x y = Filler args m r x y
-OkInside args m l r false x y = (x < l) × (y < r)
+abbrev pub OkInside : List ℕ → ℕ → ℕ → ℕ → Within → ℕ → ℕ → Type 0
+OkInside args m l r Argument x y = Filler args m r x y
+OkInside args m l r Package x y = (x < l) × (y < r)
 
-abbrev pub OkP : List ℕ → ℕ → ℕ → ℕ → Pair → Type 0
-OkP args m l r Same = Unit
-OkP args m l r Differ = Unit
-OkP args m l r (Tuples p q n) = (p ≤ 65535) × (q ≤ 65535) × (n ≤ 65535) × (0 < l) × (0 < r)
-OkP args m l r (Pointers x y) = (x < l) × (y < r)
-OkP args m l r (Codes x p y q) = (x < l) × (p ≤ 65535) × (y < r) × (q ≤ 65535)
-OkP args m l r (Inside b x y) = OkInside args m l r b x y
+abbrev pub OkP : List ℕ → ℕ → ℕ → ℕ → Option Pair → Type 0
+OkP args m l r None = Unit
+OkP args m l r (Some Same) = Unit
+OkP args m l r (Some (Tuples p q n)) = (p ≤ 65535) × (q ≤ 65535) × (n ≤ 65535) × (0 < l) × (0 < r)
+OkP args m l r (Some (Pointers x y)) = (x < l) × (y < r)
+OkP args m l r (Some (Codes x p y q)) = (x < l) × (p ≤ 65535) × (y < r) × (q ≤ 65535)
+OkP args m l r (Some (Inside b x y)) = OkInside args m l r b x y
 
 pub placed_form : (m h : ℕ) (n : Val) → OkV m h n → Placed n
 placed_form m h Int f = tt
@@ -107,20 +107,31 @@ placed_form m h (Pointer x) f = tt
 placed_form m h (Code x p) f = f.1
 placed_form m h (Hidden x) f = tt
 
+-- an integer beside another form
+pub int_alone : (τ : RowTable) (args : List ℕ) (r : ℕ) (w : Val) → (w ≡ Int → ⊥) → None ≡ pair_of τ args r Int w
+int_alone τ args r Int h = absurd (h refl)
+int_alone τ args r Junk h = refl
+int_alone τ args r (ValVar i) h = refl
+int_alone τ args r (ValFill i) h = refl
+int_alone τ args r (Tuple q o) h = refl
+int_alone τ args r (Pointer y) h = refl
+int_alone τ args r (Code y q) h = refl
+int_alone τ args r (Hidden y) h = refl
+
 module _ (τ : RowTable) (args : List ℕ) (m l r : ℕ) where
-  ok_same : (b : Bool) → OkP args m l r (cond b Same Differ)
+  ok_same : (b : Bool) → OkP args m l r (cond b (Some Same) None)
   ok_same true = tt
   ok_same false = tt
 
-  ok_long : (p q n : ℕ) {o : ℕ} (b : Bool) → (p ≤ 65535) × (n ≤ 65535) × (0 < l) → (q ≤ 65535) × (o ≤ 65535) × (0 < r) → OkP args m l r (cond b (Tuples p q n) Differ)
+  ok_long : (p q n : ℕ) {o : ℕ} (b : Bool) → (p ≤ 65535) × (n ≤ 65535) × (0 < l) → (q ≤ 65535) × (o ≤ 65535) × (0 < r) → OkP args m l r (cond b (Some (Tuples p q n)) None)
   ok_long p q n true f g = (f.0, g.0, f.1, f.2, g.2)
   ok_long p q n false f g = tt
 
-  ok_fill : (j : ℕ) (b : Bool) → j < m → OkP args m l r (cond b Differ (Inside true (get_or args j 0 + 1) r))
+  ok_fill : (j : ℕ) (b : Bool) → j < m → OkP args m l r (cond b None (Some (Inside Argument (get_or args j 0 + 1) r)))
   ok_fill j true h = tt
   ok_fill j false h = record { j = j; low = h; row = refl; beside = refl }
 
-  ok_codes : (x p y q : ℕ) (b : Bool) → (x < l) × (p ≤ 65535) → (y < r) × (q ≤ 65535) → OkP args m l r (cond b (Codes x p y q) Differ)
+  ok_codes : (x p y q : ℕ) (b : Bool) → (x < l) × (p ≤ 65535) → (y < r) × (q ≤ 65535) → OkP args m l r (cond b (Some (Codes x p y q)) None)
   ok_codes x p y q true f g = (f.0, f.1, g.0, g.1)
   ok_codes x p y q false f g = tt
 
@@ -183,8 +194,16 @@ module _ (τ : RowTable) (args : List ℕ) (m l r : ℕ) where
   ok_pair (Hidden x) (Code y q) f g = tt
   ok_pair (Hidden x) (Hidden y) f g = (f, g)
 
-  pub pair_ok : (n w : Val) {p q : Pair} → OkV m l n → OkV 0 r w → p ≡ pair_of τ args r n w → p ≡ q → OkP args m l r q
-  pair_ok n w f g e h = subst (λ (z : Pair). OkP args m l r z) (sym e ∙ h) (ok_pair n w f g)
+  pub pair_ok : (n w : Val) {p q : Option Pair} → OkV m l n → OkV 0 r w → p ≡ pair_of τ args r n w → p ≡ q → OkP args m l r q
+  pair_ok n w f g e h = subst (λ (z : Option Pair). OkP args m l r z) (sym e ∙ h) (ok_pair n w f g)
+
+-- nothing is left where there is nothing
+pub none_left : {A : Type 0} {o : Option A} → ((x : A) → o ≡ Some x → ⊥) → o ≡ None
+none_left {A} {o} h = go o h
+  where
+    go : (o : Option A) → ((x : A) → o ≡ Some x → ⊥) → o ≡ None
+    go None h = refl
+    go (Some x) h = absurd (h x refl)
 
 -- ---- a value argument
 module _ (τ : RowTable) (args : List ℕ) (m d : ℕ) (ρ₂ : ℕ → ℕ) (d₂ r j : ℕ) (h : j < m) where
@@ -213,32 +232,32 @@ module _ (τ : RowTable) (A : List Arg) (ρ : ℕ → ℕ) (d : ℕ) (ρ₂ : �
       (λ h. let f = items_parts (acting A ρ) d (mean_v τ) τ.parts false l p n in let g = items_parts (acting [] ρ₂) d₂ (mean_v τ) τ.parts false r q o in z (omega arith))
 
   -- the value rows that they come to
-  abbrev pub on_inside : Bool → ℕ → ℕ → Bool
-  on_inside true x y = fit_values τ [] (lift d) 0 x ρ₂ d₂ y
-  on_inside false x y = fit_values τ A ρ (suc d) x ρ₂ (suc d₂) y
+  abbrev pub on_inside : Within → ℕ → ℕ → Bool
+  on_inside Argument x y = fit_values τ [] (lift d) 0 x ρ₂ d₂ y
+  on_inside Package x y = fit_values τ A ρ (suc d) x ρ₂ (suc d₂) y
 
-  abbrev pub on_pair : ℕ → ℕ → Pair → Bool
-  on_pair l r Same = true
-  on_pair l r Differ = false
-  on_pair l r (Tuples p q n) = fit_parts τ A ρ d false l p ρ₂ d₂ r q n
-  on_pair l r (Pointers x y) = same_stacks τ A ρ d x ρ₂ d₂ y
-  on_pair l r (Codes x p y q) =
+  abbrev pub on_pair : ℕ → ℕ → Option Pair → Bool
+  on_pair l r None = false
+  on_pair l r (Some Same) = true
+  on_pair l r (Some (Tuples p q n)) = fit_parts τ A ρ d false l p ρ₂ d₂ r q n
+  on_pair l r (Some (Pointers x y)) = same_stacks τ A ρ d x ρ₂ d₂ y
+  on_pair l r (Some (Codes x p y q)) =
       same_stacks τ A ρ (get_or τ.parts (p + 8) 0 + d) x ρ₂ (get_or τ.parts (q + 8) 0 + d₂) y
       && fit_parts τ A ρ (get_or τ.parts (p + 8) 0 + d) true l p ρ₂ (get_or τ.parts (q + 8) 0 + d₂) r q 8
-  on_pair l r (Inside b x y) = on_inside b x y
+  on_pair l r (Some (Inside b x y)) = on_inside b x y
 
-  pair_same : (l r : ℕ) (b : Bool) → b && true ≡ on_pair l r (cond b Same Differ)
+  pair_same : (l r : ℕ) (b : Bool) → b && true ≡ on_pair l r (cond b (Some Same) None)
   pair_same l r true = refl
   pair_same l r false = refl
 
   pair_long : (l r p q n o : ℕ) (b : Bool) → eqb n o ≡ b
-      → same (parts_under τ A ρ d false l p n) (parts_under τ [] ρ₂ d₂ false r q o) && meets A d (parts_of (mean_v τ) τ.parts false l p n) ≡ on_pair l r (cond b (Tuples p q n) Differ)
+      → same (parts_under τ A ρ d false l p n) (parts_under τ [] ρ₂ d₂ false r q o) && meets A d (parts_of (mean_v τ) τ.parts false l p n) ≡ on_pair l r (cond b (Some (Tuples p q n)) None)
   unfolding fit_parts
   pair_long l r p q n o true e = let h = eqb-true n o e in rw h refl
   pair_long l r p q n o false e = ap (λ z. z && meets A d (parts_of (mean_v τ) τ.parts false l p n)) (parts_unlike l r p q n o (eqb-false n o e))
 
   pair_codes : (l r x p y q : ℕ) (b : Bool) → same_letters (letters_at τ.parts p) (letters_at τ.parts q) ≡ b
-      → same (code_under τ A ρ d l x p) (code_under τ [] ρ₂ d₂ r y q) && meets A d (code_of τ l x p) ≡ on_pair l r (cond b (Codes x p y q) Differ)
+      → same (code_under τ A ρ d l x p) (code_under τ [] ρ₂ d₂ r y q) && meets A d (code_of τ l x p) ≡ on_pair l r (cond b (Some (Codes x p y q)) None)
   unfolding same same_stacks fit_parts
   pair_codes l r x p y q b e =
       ap₂ ◌&&◌ (ap₂ same (code_under_lem τ p A ρ d l x) (code_under_lem τ q [] ρ₂ d₂ r y)) (code_meets τ p A d l x) ∙ rw e (go b)
@@ -261,7 +280,7 @@ module _ (τ : RowTable) (A : List Arg) (ρ : ℕ → ℕ) (d : ℕ) (ρ₂ : �
       N : Bool
       N = meets A a (parts_of (mean_v τ) τ.parts true l p 8)
 
-      go : (b : Bool) → (b && (S && F)) && (M && N) ≡ on_pair l r (cond b (Codes x p y q) Differ)
+      go : (b : Bool) → (b && (S && F)) && (M && N) ≡ on_pair l r (cond b (Some (Codes x p y q)) None)
       go true = and_swap S F M N
       go false = refl
 
@@ -269,7 +288,7 @@ module _ (τ : RowTable) (args : List ℕ) (m : ℕ) (ρ : ℕ → ℕ) (d : ℕ
   abbrev filling : List Arg
   filling = args_of τ args m
 
-  pair_fill_lem : (l r j : ℕ) (b : Bool) (h : j < m) → is_stack_at τ.rows (get_or args j 0) ≡ b → fills τ args m d ρ₂ d₂ r j h ≡ on_pair τ filling ρ d ρ₂ d₂ l r (cond b Differ (Inside true (get_or args j 0 + 1) r))
+  pair_fill_lem : (l r j : ℕ) (b : Bool) (h : j < m) → is_stack_at τ.rows (get_or args j 0) ≡ b → fills τ args m d ρ₂ d₂ r j h ≡ on_pair τ filling ρ d ρ₂ d₂ l r (cond b None (Some (Inside Argument (get_or args j 0 + 1) r)))
   pair_fill_lem l r j true h e = filled_not τ args m d ρ₂ d₂ r j h e
   pair_fill_lem l r j false h e = filled_value τ args m d ρ₂ d₂ r j h e
 
@@ -334,7 +353,7 @@ module _ (τ : RowTable) (args : List ℕ) (m : ℕ) (ρ : ℕ → ℕ) (d : ℕ
   pair_is l r (Hidden x) (Code y q) f ok e = refl
   pair_is l r (Hidden x) (Hidden y) f ok e = refl
 
-  pub value_pair : (l r : ℕ) {n w : Val} {p q : Pair} → n ≡ value_at τ.rows (place_v m ρ d) l → OkV m l n → w ≡ value_at τ.rows (place_v 0 ρ₂ d₂) r → OkV 0 r w → p ≡ pair_of τ args r n w → p ≡ q
+  pub value_pair : (l r : ℕ) {n w : Val} {p q : Option Pair} → n ≡ value_at τ.rows (place_v m ρ d) l → OkV m l n → w ≡ value_at τ.rows (place_v 0 ρ₂ d₂) r → OkV 0 r w → p ≡ pair_of τ args r n w → p ≡ q
       → on_pair τ filling ρ d ρ₂ d₂ l r q ≡ fit_values τ filling ρ d l ρ₂ d₂ r
   unfolding fit_values
   value_pair l r {n} {w} {p} {q} e o f ok g h =
@@ -358,17 +377,15 @@ pub one_differs : {v x : Bool} (y : Bool) → v ≡ false → v ≡ x → false 
 one_differs {v} {x} y t e = ap (λ (z : Bool). z && y) (sym t ∙ e)
 
 -- ---- parts
-pub heads_low : (l r t u : ℕ) (x y : Slot) {h : Heads} → 0 < l → 0 < r → OkSlot l x → OkSlot r y → h ≡ slots_of x y → h ≡ Both t u → (t < l) × (u < r)
-heads_low l r t u Gap Gap a b f g e i =
-    let p : 0 ≡ t = cc in
-    let q : 0 ≡ u = cc in
-    (omega arith, omega arith)
-heads_low l r t u Gap (Known k) a b f g e i = let z : ◌≡◌ {A = ℕ} 0 1 = cc in absurd (omega arith)
-heads_low l r t u (Known j) Gap a b f g e i = let z : ◌≡◌ {A = ℕ} 0 1 = cc in absurd (omega arith)
-heads_low l r t u (Known j) (Known k) a b f g e i =
-    let p : j ≡ t = cc in
-    let q : k ≡ u = cc in
-    (omega arith, omega arith)
+pub heads_low : (l r : ℕ) (x y : Option ℕ) {o : Option Heads} {h : Heads} → 0 < l → 0 < r → OkSlot l x → OkSlot r y → o ≡ slots_of x y → o ≡ Some h → (h.left < l) × (h.right < r)
+heads_low l r None None {o} {h} a b f g e i =
+    let p : record { left = 0; right = 0 } ≡ h = cc in
+    rw (← p) (a, b)
+heads_low l r None (Some k) a b f g e i = cc
+heads_low l r (Some j) None a b f g e i = cc
+heads_low l r (Some j) (Some k) {o} {h} a b f g e i =
+    let p : record { left = j; right = k } ≡ h = cc in
+    rw (← p) (f, g)
 
 -- no row and no row
 none_fits : (τ : RowTable) (A : List Arg) (ρ : ℕ → ℕ) (d : ℕ) (ρ₂ : ℕ → ℕ) (d₂ : ℕ) → fit_values τ A ρ d 0 ρ₂ d₂ 0 ≡ true
@@ -376,24 +393,24 @@ unfolding fit_values value_under mean_v value_to walk same meets
 none_fits τ A ρ d ρ₂ d₂ = refl
 
 module _ (τ : RowTable) (A : List Arg) (ρ : ℕ → ℕ) (d : ℕ) (file : Bool) (l : ℕ) (ρ₂ : ℕ → ℕ) (d₂ r : ℕ) where
-  abbrev pub on_heads : Bool → Heads → Bool
-  on_heads b Apart = false
-  on_heads b (Both t u) = fit_values τ A ρ d t ρ₂ d₂ u && b
+  abbrev pub on_heads : Bool → Option Heads → Bool
+  on_heads b None = false
+  on_heads b (Some h) = fit_values τ A ρ d h.left ρ₂ d₂ h.right && b
 
-  on_slots : (x y : Slot) (a b : Ty stack) → same (walk (acting A ρ) d (on_slot (mean_v τ) x a)) (walk (acting [] ρ₂) d₂ (on_slot (mean_v τ) y b)) && meets A d (on_slot (mean_v τ) x a)
+  on_slots : (x y : Option ℕ) (a b : Ty stack) → same (walk (acting A ρ) d (on_slot (mean_v τ) x a)) (walk (acting [] ρ₂) d₂ (on_slot (mean_v τ) y b)) && meets A d (on_slot (mean_v τ) x a)
       ≡ on_heads (same (walk (acting A ρ) d a) (walk (acting [] ρ₂) d₂ b) && meets A d a) (slots_of x y)
   unfolding same walk meets fit_values value_under
-  on_slots Gap Gap a b = sym (ap (λ z. z && (same (walk (acting A ρ) d a) (walk (acting [] ρ₂) d₂ b) && meets A d a)) (none_fits τ A ρ d ρ₂ d₂))
-  on_slots Gap (Known u) a b = refl
-  on_slots (Known t) Gap a b = refl
-  on_slots (Known t) (Known u) a b = and_swap (same (walk (acting A ρ) d (mean_v τ t)) (walk (acting [] ρ₂) d₂ (mean_v τ u))) (same (walk (acting A ρ) d a) (walk (acting [] ρ₂) d₂ b)) (meets A d (mean_v τ t)) (meets A d a)
+  on_slots None None a b = sym (ap (λ z. z && (same (walk (acting A ρ) d a) (walk (acting [] ρ₂) d₂ b) && meets A d a)) (none_fits τ A ρ d ρ₂ d₂))
+  on_slots None (Some u) a b = refl
+  on_slots (Some t) None a b = refl
+  on_slots (Some t) (Some u) a b = and_swap (same (walk (acting A ρ) d (mean_v τ t)) (walk (acting [] ρ₂) d₂ (mean_v τ u))) (same (walk (acting A ρ) d a) (walk (acting [] ρ₂) d₂ b)) (meets A d (mean_v τ t)) (meets A d a)
 
   pub parts_end : (p q n : ℕ) → n ≡ 0 → true ≡ fit_parts τ A ρ d file l p ρ₂ d₂ r q n
   unfolding fit_parts parts_under parts_of walk same meets
   parts_end p q zero e = refl
   parts_end p q (suc n) e = absurd (omega arith)
 
-  pub parts_are : (p q n : ℕ) {x y : Slot} {h k : Heads} → (n ≡ 0 → ⊥) → x ≡ slot_at file l (get_or τ.parts p 0) → y ≡ slot_at file r (get_or τ.parts q 0) → h ≡ slots_of x y → h ≡ k
+  pub parts_are : (p q n : ℕ) {x y : Option ℕ} {h k : Option Heads} → (n ≡ 0 → ⊥) → x ≡ slot_at file l (get_or τ.parts p 0) → y ≡ slot_at file r (get_or τ.parts q 0) → h ≡ slots_of x y → h ≡ k
       → on_heads (fit_parts τ A ρ d file l (p + 1) ρ₂ d₂ r (q + 1) (n - 1)) k ≡ fit_parts τ A ρ d file l p ρ₂ d₂ r q n
   unfolding fit_parts parts_under parts_of
   parts_are p q zero z e f g i = absurd (z refl)
@@ -418,22 +435,22 @@ module _ (τ : RowTable) (A : List Arg) (ρ : ℕ → ℕ) (d : ℕ) (file : Boo
   pub parts_last : (i : ℕ) → n ≤ i → PartsLeft i → true ≡ fit_parts τ A ρ d file l p ρ₂ d₂ r q n
   parts_last i h g = let m = g.most in parts_end τ A ρ d file l ρ₂ d₂ r (p + i) (q + i) (n - i) (omega arith) ∙ g.left
 
-  module _ (i : ℕ) (g : PartsLeft i) {x y : Slot} {h : Heads} (k : i < n) (e : x ≡ slot_at file l (get_or τ.parts (p + i) 0)) (f : y ≡ slot_at file r (get_or τ.parts (q + i) 0)) (s : h ≡ slots_of x y) where
-    parts_step : (k : Heads) → h ≡ k → on_heads τ A ρ d file l ρ₂ d₂ r (fit_parts τ A ρ d file l ((p + i) + 1) ρ₂ d₂ r ((q + i) + 1) ((n - i) - 1)) k ≡ fit_parts τ A ρ d file l p ρ₂ d₂ r q n
+  module _ (i : ℕ) (g : PartsLeft i) {x y : Option ℕ} {h : Option Heads} (k : i < n) (e : x ≡ slot_at file l (get_or τ.parts (p + i) 0)) (f : y ≡ slot_at file r (get_or τ.parts (q + i) 0)) (s : h ≡ slots_of x y) where
+    parts_step : (k : Option Heads) → h ≡ k → on_heads τ A ρ d file l ρ₂ d₂ r (fit_parts τ A ρ d file l ((p + i) + 1) ρ₂ d₂ r ((q + i) + 1) ((n - i) - 1)) k ≡ fit_parts τ A ρ d file l p ρ₂ d₂ r q n
     parts_step j u = parts_are τ A ρ d file l ρ₂ d₂ r (p + i) (q + i) (n - i) (λ z. omega arith) e f s u ∙ g.left
 
-    pub parts_apart : h ≡ Apart → false ≡ fit_parts τ A ρ d file l p ρ₂ d₂ r q n
-    parts_apart u = parts_step Apart u
+    pub parts_apart : h ≡ None → false ≡ fit_parts τ A ρ d file l p ρ₂ d₂ r q n
+    parts_apart u = parts_step None u
 
-    pub parts_differ : (t u : ℕ) {v : Bool} → h ≡ Both t u → v ≡ fit_values τ A ρ d t ρ₂ d₂ u → v ≡ false → false ≡ fit_parts τ A ρ d file l p ρ₂ d₂ r q n
-    parts_differ t u w a b = ap (λ z. z && fit_parts τ A ρ d file l ((p + i) + 1) ρ₂ d₂ r ((q + i) + 1) ((n - i) - 1)) (sym b ∙ a) ∙ parts_step (Both t u) w
+    pub parts_differ : (j : Heads) {v : Bool} → h ≡ Some j → v ≡ fit_values τ A ρ d j.left ρ₂ d₂ j.right → v ≡ false → false ≡ fit_parts τ A ρ d file l p ρ₂ d₂ r q n
+    parts_differ c w a b = ap (λ z. z && fit_parts τ A ρ d file l ((p + i) + 1) ρ₂ d₂ r ((q + i) + 1) ((n - i) - 1)) (sym b ∙ a) ∙ parts_step (Some c) w
 
-    pub parts_next : (t u : ℕ) {v : Bool} → h ≡ Both t u → v ≡ fit_values τ A ρ d t ρ₂ d₂ u → v ≡ true → PartsLeft (i + 1)
-    parts_next t u w a b =
-        let c : p + (i + 1) ≡ (p + i) + 1 = omega arith in
+    pub parts_next : (j : Heads) {v : Bool} → h ≡ Some j → v ≡ fit_values τ A ρ d j.left ρ₂ d₂ j.right → v ≡ true → PartsLeft (i + 1)
+    parts_next c w a b =
+        let m : p + (i + 1) ≡ (p + i) + 1 = omega arith in
         let j : q + (i + 1) ≡ (q + i) + 1 = omega arith in
         let o : n - (i + 1) ≡ (n - i) - 1 = omega arith in
         record {
           most = omega arith;
-          left = rw (c, j, o) (ap (λ z. z && fit_parts τ A ρ d file l ((p + i) + 1) ρ₂ d₂ r ((q + i) + 1) ((n - i) - 1)) (sym b ∙ a) ∙ parts_step (Both t u) w);
+          left = rw (m, j, o) (ap (λ z. z && fit_parts τ A ρ d file l ((p + i) + 1) ρ₂ d₂ r ((q + i) + 1) ((n - i) - 1)) (sym b ∙ a) ∙ parts_step (Some c) w);
         }

@@ -1,12 +1,16 @@
 -- The contexts in which a comparison goes on, and what it relies on: few rows, small sums, room for what is pending.
-use Rattle.std.specs.Prelude.{ℕ, zero, suc, ◌+◌, ◌*◌, ◌≤◌, ◌<◌, Bool, true, false, List, length, get_or}
+use Rattle.std.specs.Prelude.{ℕ, zero, suc, ◌+◌, ◌-◌, ◌*◌, ◌≤◌, ◌<◌, List, length, get_or}
 use Rattle.tables.specs.Tables.{RowTable}
 use Rattle.types_rows.specs.declared.Held.{Held}
 use Rattle.types_equal.specs.pending.Pending.{room}
 use Rattle.types_equal.specs.declared.pending.Setting.{Setting}
+use Rattle.types_equal.specs.declared.pending.Source.{Source}
+use Rattle.types_equal.specs.declared.pending.Source.TheVariants.{Own, Given}
 use Rattle.types_equal.specs.declared.stack_pairs.Context.{Context}
 use Rattle.types_equal.specs.declared.value_pairs.Bodies.{Bodies}
 use Rattle.types_equal.specs.declared.value_pairs.Span.{Span}
+use Rattle.types_equal.specs.declared.value_pairs.Within.{Within}
+use Rattle.types_equal.specs.declared.value_pairs.Within.TheVariants.{Argument, Package}
 
 -- the rows that the two sides and the arguments lead to are few
 pub record Tabled (τ : RowTable) (args : List ℕ) (m l r : ℕ) : Type 0 where
@@ -37,6 +41,11 @@ right_of k = record { m = 0; by = 0; d = k.d2; env = k.env2 }
 abbrev pub given_of : List ℕ → Context → Context
 given_of E k = record { m = 0; by = k.d; d = 0; env = 2 * length E; d2 = k.d2; env2 = k.env2 }
 
+-- the context k with a row of a source on the left
+abbrev pub source_of : List ℕ → Context → Source → Context
+source_of E k Own = k
+source_of E k Given = given_of E k
+
 -- the context k under a more binders on the left and b more on the right
 abbrev pub deeper_of : Context → ℕ → ℕ → Context
 deeper_of k a b = record { m = k.m; by = k.by; d = a + k.d; env = k.env; d2 = b + k.d2; env2 = k.env2 }
@@ -45,10 +54,14 @@ deeper_of k a b = record { m = k.m; by = k.by; d = a + k.d; env = k.env; d2 = b 
 abbrev pub under_of : List ℕ → Context → ℕ → ℕ → Context
 under_of ps k p q = deeper_of k (get_or ps (p + 8) 0) (get_or ps (q + 8) 0)
 
+-- that of two code rows with a and b letters, the left one read in environment e and filled by m arguments, the right one read now
+abbrev pub filling_of : List ℕ → ℕ → ℕ → ℕ → ℕ → Context
+filling_of E m e a b = record { m = m; by = 0; d = a - m; env = e; d2 = b; env2 = 2 * length E }
+
 -- that of an argument's row and another, or of the insides of two packages
-abbrev pub inside_of : List ℕ → Context → Bool → Context
-inside_of E k true = given_of E k
-inside_of E k false = deeper_of k 1 1
+abbrev pub inside_of : List ℕ → Context → Within → Context
+inside_of E k Argument = given_of E k
+inside_of E k Package = deeper_of k 1 1
 
 -- the depths of a context are small enough to grow
 pub record Depths (k : Context) : Type 0 where

@@ -10,22 +10,21 @@ ghost use Rattle.types.specs.Rows.{type_at, types_of, all_below};
 ghost use Rattle.tables.specs.Tables.{rows_in};
 ghost use Rattle.types_rows.specs.Read.{tab, args_of, lift};
 ghost use Rattle.types_rows.specs.Environments.{read_in, shifted};
-ghost use Rattle.types_equal.specs.Bounds.{BodiesIn, Spare, Tabled, EnvsIn};
+ghost use Rattle.types_equal.specs.Bounds.{filling_of, BodiesIn, Spare, Tabled, EnvsIn};
 ghost use Rattle.types_equal.specs.stack_pairs.Fit.{same_stacks};
 ghost use Rattle.types_equal.specs.filling.Filling.{fills_to, fill_codes, packs_to, FillsIn, CodeIn, LettersIn, variable_kind, Itself, LeftCode, Themselves};
 
-use crate::stack_pairs::Context;
-use crate::value_pairs::Bodies;
+use crate::names;
+use crate::stack_pairs::{self, Context};
+use crate::value_pairs::{self, Bodies};
 use types_rows::{Held, Val};
 
-// The kind of a row that is a variable of letter x.
+// The kind of a row that is a variable of letter x, as the table of rows has it.
+#[tactic(auto, unfolding(crate::specs::filling::Filling::variable_kind))]
 fn variable_kind(x: usize) -> usize
     ensures { result ≡ variable_kind x }
 {
-    if x == 0 {
-        return 2;
-    }
-    8
+    if x == 0 { 2 } else { 8 }
 }
 
 // Row a is variable j, of letter x.
@@ -33,11 +32,7 @@ fn is_itself(rows: &[u16], x: usize, a: usize, j: usize) -> bool
     requires { a ≤ 65535 }
     ensures { result ≡ true → Itself rows.now x a j }
 {
-    let k = types_rows::entry(rows, a, 0);
-    if k != variable_kind(x) {
-        return false;
-    }
-    types_rows::entry(rows, a, 1) == j
+    tables::cell::<4>(rows, a, 0) == variable_kind(x) && tables::cell::<4>(rows, a, 1) == j
 }
 
 // Each of the rows args is the variable of its place, of its letter at p.
@@ -45,17 +40,10 @@ fn all_themselves(rows: &[u16], parts: &[u16], p: usize, args: &[u16]) -> bool
     requires { (p ≤ 262144) × (length args.now ≤ 65535) }
     ensures { result ≡ true → Themselves rows.now parts.now p args.now (length args.now) }
 {
-    let mut j = 0;
-    while j < args.len() {
-        if !is_itself(
-            rows,
-            types_rows::at(parts, p + j),
-            types_rows::at(args, j),
-            j,
-        ) {
+    for (j, a) in args.iter().enumerate() {
+        if !is_itself(rows, tables::at(parts, p + j), usize::from(*a), j) {
             return false;
         }
-        j += 1;
     }
     true
 }
@@ -74,13 +62,23 @@ fn is_kept(
     requires { LeftCode (tab rows.now parts.now) closed p a x (length args.now) }
     ensures { result ≡ true → (ρ : ℕ → ℕ) (b : ℕ) → true ≡ same_stacks (tab rows.now parts.now) (args_of (tab rows.now parts.now) args.now (length args.now)) ρ (a - length args.now) x (lift 0) b y }
 {
-    if !closed {
-        return false;
+    closed && x == y && all_themselves(rows, parts, p + 9 + (a - args.len()), args)
+}
+
+// The context of the left of two code types, with a letters, read in environment e and filled by m arguments, and of the right one, with b
+// letters, read now.
+fn filling(envs: &[u16], m: usize, e: usize, a: usize, b: usize) -> Context
+    requires { (m ≤ a) × (a ≤ 65535) × LettersIn envs.now e b }
+    ensures { result ≡ filling_of envs.now m e a b }
+{
+    Context {
+        m: m as u32,
+        by: 0,
+        d: (a - m) as u32,
+        env: e as u32,
+        d2: b as u32,
+        env2: stack_pairs::current(envs),
     }
-    if x != y {
-        return false;
-    }
-    all_themselves(rows, parts, p + 9 + (a - args.len()), args)
 }
 
 // The stack of the left of two code types, with a letters, read in environment e and filled by args, is that of the right one, under b
@@ -100,19 +98,9 @@ fn eq_filled(
     requires { Tabled (tab rows.now parts.now) args.now (length args.now) c.x c.y × LeftCode (tab rows.now parts.now) closed c.p a c.x (length args.now) × LettersIn envs.now e b × Spare (length args.now) c.x c.y (length pending.old) }
     ensures { result ≡ same_stacks (tab rows.now parts.now) (args_of (tab rows.now parts.now) args.now (length args.now)) (shifted envs.now e 0) (a - length args.now) c.x (shifted envs.now (2 * length envs.now) 0) b c.y }
 {
-    if is_kept(rows, parts, args, closed, a, c.x, c.p, c.y) {
-        return true;
-    }
-    let m = args.len();
-    let k = Context {
-        m: m as u32,
-        by: 0,
-        d: (a - m) as u32,
-        env: e as u32,
-        d2: b as u32,
-        env2: crate::stack_pairs::current(envs),
-    };
-    crate::eq_stack(rows, parts, args, envs, k, c.x, c.y, pending)
+    let k = filling(envs, args.len(), e, a, b);
+    is_kept(rows, parts, args, closed, a, c.x, c.p, c.y)
+        || crate::eq_stack(rows, parts, args, envs, k, c.x, c.y, pending)
 }
 
 // The code type of row l, read in environment e and filled by args, is that of row r, of the given bodies.
@@ -133,25 +121,13 @@ fn fill_code(
     let m = args.len();
     let a = types_rows::letter_count(parts, c.p);
     let b = types_rows::letter_count(parts, c.q);
-    if a < m {
+    if a < m || !value_pairs::same_letters(parts, c.p + 9, a - m, c.q + 9, b) {
         return false;
     }
-    if crate::value_pairs::same_letters(parts, c.p + 9, a - m, c.q + 9, b) {
-        if eq_filled(rows, parts, args, envs, closed, l.env, a, b, c, pending) {
-            let k = Context {
-                m: m as u32,
-                by: 0,
-                d: (a - m) as u32,
-                env: l.env as u32,
-                d2: b as u32,
-                env2: crate::stack_pairs::current(envs),
-            };
-            let s = crate::value_pairs::registers(c.p, c.q);
-            return crate::eq_parts(rows, parts, args, envs, k, l.row, r, s, pending);
-        }
-        return false;
-    }
-    false
+    let k = filling(envs, m, l.env, a, b);
+    let s = value_pairs::registers(c.p, c.q);
+    eq_filled(rows, parts, args, envs, closed, l.env, a, b, c, pending)
+        && crate::eq_parts(rows, parts, args, envs, k, l.row, r, s, pending)
 }
 
 // As fill_code, by a table of names where the environment is odd.
@@ -173,11 +149,10 @@ fn fill_named(
         return fill_code(rows, parts, args, envs, closed, l, r, c, pending);
     }
     let mut names = [0u16; 65];
-    let a = crate::names::number_of(envs, l.env, &mut names, 0);
-    if a == 0 {
+    let Some(env) = names::number_of(envs, l.env, &mut names, 0) else {
         return fill_code(rows, parts, args, envs, closed, l, r, c, pending);
-    }
-    let h = Held { row: l.row, env: a };
+    };
+    let h = Held { row: l.row, env };
     fill_code(rows, parts, args, &names, closed, h, r, c, pending)
 }
 
@@ -201,27 +176,16 @@ pub fn filled(
 {
     let l = crate::link_of(n, c.row);
     let r = crate::link_of(n, t);
-    let v = types_rows::read_value(rows, l, 0, 0, 0);
-    let w = types_rows::read_value(rows, r, 0, 0, 0);
-    let Val::Code(x, p) = v else {
+    let Val::Code(x, p) = types_rows::read_value(rows, l, 0, 0, 0) else {
         return false;
     };
-    let Val::Code(y, q) = w else {
+    let Val::Code(y, q) = types_rows::read_value(rows, r, 0, 0, 0) else {
         return false;
     };
     let b = Bodies { x, p, y, q };
     let h = Held { row: l, env: c.env };
-    fill_named(
-        rows,
-        parts,
-        args,
-        envs,
-        closed,
-        h,
-        r,
-        b,
-        &mut pending[..1543],
-    )
+    let room = &mut pending[..1543];
+    fill_named(rows, parts, args, envs, closed, h, r, b, room)
 }
 
 // The value type of row t, of n rows, its variable 0 filled by row a, is the type of row x read in its environment; a and t are read now.
@@ -241,15 +205,12 @@ pub fn packs(
 {
     let l = crate::link_of(n, t);
     let r = crate::link_of(n, x.row);
-    let mut given = [0u16; 1];
-    given[0] = a as u16;
     let k = Context {
         m: 1,
-        by: 0,
-        d: 0,
-        env: crate::stack_pairs::current(envs),
-        d2: 0,
+        env: stack_pairs::current(envs),
         env2: x.env as u32,
+        ..Context::default()
     };
-    crate::names::eq_named(rows, parts, &given, envs, k, l, r, &mut pending[..1543])
+    let room = &mut pending[..1543];
+    names::eq_named(rows, parts, &[a as u16], envs, k, l, r, room)
 }

@@ -24,8 +24,9 @@ ghost use Rattle.types_rows.specs.Environments.{read_in, shifted};
 ghost use Rattle.types_equal.specs.Bounds.{BothSmall, Rooms, PartRooms, SpanIn, Spare, Tabled};
 ghost use Rattle.types_equal.specs.stack_pairs.Fit.{fit_values, fit_parts, same_stacks};
 
+use crate::pending::Side;
 use crate::stack_pairs::{Context, Duo};
-use crate::value_pairs::{Heads, Pair, Span};
+use crate::value_pairs::{Pair, Span};
 use types_rows::Held;
 
 // Value row l in its context equals value row r in its own.
@@ -43,32 +44,33 @@ pub(crate) fn eq_value(
     requires { Tabled (tab rows.now parts.now) args.now k.m l r × Rooms envs.now k l r × Spare k.m l r (length pending.old) }
     ensures { result ≡ fit_values (tab rows.now parts.now) (args_of (tab rows.now parts.now) args.now k.m) (shifted envs.now k.env k.by) k.d l (shifted envs.now k.env2 0) k.d2 r }
 {
-    if crate::stack_pairs::same_place(k, l, r) {
+    if stack_pairs::same_place(k, l, r) {
         return true;
     }
     let v = types_rows::value_in(rows, envs, l, k.m, k.by, k.d, k.env);
     let w = types_rows::value_in(rows, envs, r, 0, 0, k.d2, k.env2);
-    let p = crate::value_pairs::pair_up(rows, parts, args, v, w, r);
+    let Some(pair) = value_pairs::pair_up(rows, parts, args, v, w, r) else {
+        return false;
+    };
     // The context of what is left; one, since comparisons nest and each level keeps it.
     let mut t = k;
-    match p {
+    match pair {
         Pair::Same => true,
-        Pair::Differ => false,
         Pair::Tuples(p, q, n) => {
-            let s = crate::value_pairs::components(p, q, n);
+            let s = value_pairs::components(p, q, n);
             eq_parts(rows, parts, args, envs, t, l, r, s, pending)
         }
         Pair::Pointers(x, y) => eq_stack(rows, parts, args, envs, t, x, y, pending),
         Pair::Codes(x, p, y, q) => {
-            t = crate::stack_pairs::under(parts, k, p, q);
+            t = stack_pairs::under(parts, k, p, q);
             if !eq_stack(rows, parts, args, envs, t, x, y, pending) {
                 return false;
             }
-            let s = crate::value_pairs::registers(p, q);
+            let s = value_pairs::registers(p, q);
             eq_parts(rows, parts, args, envs, t, l, r, s, pending)
         }
-        Pair::Inside(filled, x, y) => {
-            t = crate::stack_pairs::inside(envs, k, filled);
+        Pair::Inside(within, x, y) => {
+            t = stack_pairs::inside(envs, k, within);
             eq_value(rows, parts, args, envs, t, x, y, pending)
         }
     }
@@ -92,26 +94,18 @@ pub(crate) fn eq_parts(
 {
     // The loop's invariant speaks of locals, and of no parameter that is a struct.
     let file = s.file;
-    let p = s.p as usize;
-    let q = s.q as usize;
-    let n = s.n as usize;
-    let mut i = 0;
-    while i < n {
-        let h = crate::value_pairs::two_slots(
-            types_rows::part(parts, file, l, p + i),
-            types_rows::part(parts, file, r, q + i),
-        );
-        match h {
-            Heads::Apart => {
-                return false;
-            }
-            Heads::Both(t, u) => {
-                if !eq_value(rows, parts, args, envs, k, t, u, pending) {
-                    return false;
-                }
-            }
+    let p = usize::from(s.p);
+    let q = usize::from(s.q);
+    let n = usize::from(s.n);
+    for i in 0..n {
+        let x = types_rows::part(parts, file, l, p + i);
+        let y = types_rows::part(parts, file, r, q + i);
+        let Some(h) = value_pairs::two_slots(x, y) else {
+            return false;
+        };
+        if !eq_value(rows, parts, args, envs, k, h.left, h.right, pending) {
+            return false;
         }
-        i += 1;
     }
     true
 }
@@ -132,48 +126,32 @@ pub(crate) fn eq_stack(
     requires { Tabled (tab rows.now parts.now) args.now k.m l r × Rooms envs.now k l r × Spare k.m l r (length pending.old) }
     ensures { result ≡ same_stacks (tab rows.now parts.now) (args_of (tab rows.now parts.now) args.now k.m) (shifted envs.now k.env k.by) k.d l (shifted envs.now k.env2 0) k.d2 r }
 {
-    if crate::stack_pairs::same_stack(rows, args, envs, k, l, r) {
+    if stack_pairs::same_stack(rows, args, envs, k, l, r) {
         return true;
     }
-    crate::pending::store(pending, false, 0, l);
-    crate::pending::store(pending, true, 0, r);
+    pending::store(pending, Side::Left, 0, l);
+    pending::store(pending, Side::Right, 0, r);
     let mut i = 1;
     let mut j = 1;
-    loop {
-        let s = crate::stack_pairs::next_pair(rows, args, envs, k, pending, i, j);
-        match s {
-            Duo::Over => {
-                return true;
-            }
-            Duo::Unlike => {
-                return false;
-            }
+    while let Some(duo) = stack_pairs::next_pair(rows, args, envs, k, pending, i, j) {
+        match duo {
+            Duo::Over => return true,
             Duo::Onward(a, b) => {
                 i = a;
                 j = b;
-                continue;
             }
-            Duo::OwnTwo(t, a, u, b) => {
-                let e = crate::stack_pairs::greater(a, b);
-                if !eq_value(rows, parts, args, envs, k, t, u, &mut pending[e..]) {
+            Duo::Rows(source, t, a, u, b) => {
+                let g = stack_pairs::at_source(envs, k, source);
+                let behind = &mut pending[a.max(b)..];
+                if !eq_value(rows, parts, args, envs, g, t, u, behind) {
                     return false;
                 }
                 i = a;
                 j = b;
-                continue;
-            }
-            Duo::GivenTwo(t, a, u, b) => {
-                let e = crate::stack_pairs::greater(a, b);
-                let g = crate::stack_pairs::given(envs, k);
-                if !eq_value(rows, parts, args, envs, g, t, u, &mut pending[e..]) {
-                    return false;
-                }
-                i = a;
-                j = b;
-                continue;
             }
         }
     }
+    false
 }
 
 // The link to row x of n rows: none if there is no such row.
@@ -181,12 +159,10 @@ pub(crate) fn link_of(n: usize, x: usize) -> usize
     requires { n ≤ 514 }
     ensures { result ≡ lower (n + 1) x }
 {
-    if x < n {
-        return x + 1;
-    }
-    0
+    if x < n { x + 1 } else { 0 }
 }
 
+// Kept: equal_values and equal_stacks differ in the comparison that they call; passing it to a third function is no plainer.
 // The value types of rows l and r, of n rows, are equal. The first 1,543 words of `pending` are used; what they hold does not matter.
 pub fn equal_values(
     rows: &[u16],
@@ -201,15 +177,8 @@ pub fn equal_values(
 {
     let x = link_of(n, l);
     let y = link_of(n, r);
-    let k = Context {
-        m: 0,
-        by: 0,
-        d: 0,
-        env: 0,
-        d2: 0,
-        env2: 0,
-    };
-    eq_value(rows, parts, rows, &rows[..0], k, x, y, &mut pending[..1543])
+    let room = &mut pending[..1543];
+    eq_value(rows, parts, rows, &[], Context::default(), x, y, room)
 }
 
 // The value types of rows l and r, of n rows, each read in its environment, are equal. The first 1,543 words of `pending` are used; what
@@ -229,14 +198,11 @@ pub fn equal_held(
     let x = link_of(n, l.row);
     let y = link_of(n, r.row);
     let k = Context {
-        m: 0,
-        by: 0,
-        d: 0,
         env: l.env as u32,
-        d2: 0,
         env2: r.env as u32,
+        ..Context::default()
     };
-    crate::names::eq_named(rows, parts, rows, envs, k, x, y, &mut pending[..1543])
+    names::eq_named(rows, parts, rows, envs, k, x, y, &mut pending[..1543])
 }
 
 // The stack types of rows l and r, of n rows, are equal. The first 1,543 words of `pending` are used; what they hold does not matter.
@@ -253,13 +219,6 @@ pub fn equal_stacks(
 {
     let x = link_of(n, l);
     let y = link_of(n, r);
-    let k = Context {
-        m: 0,
-        by: 0,
-        d: 0,
-        env: 0,
-        d2: 0,
-        env2: 0,
-    };
-    eq_stack(rows, parts, rows, &rows[..0], k, x, y, &mut pending[..1543])
+    let room = &mut pending[..1543];
+    eq_stack(rows, parts, rows, &[], Context::default(), x, y, room)
 }

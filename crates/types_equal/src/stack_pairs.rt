@@ -2,22 +2,23 @@
 // left to compare after their next items, and stacks that are seen at once to be equal, since they are the same row in the same context.
 // Promised: each answer says what the comparison of the two stacks comes to (`fit_pending`, `same_stacks`). Asked: room for what is pending,
 // and sums that are small enough.
-ghost use Rattle.std.specs.Prelude.{◌≡◌, true, false, cond, List, ℕ, ◌+◌, ◌*◌, ◌≤◌, eqb, length};
+ghost use Rattle.std.specs.Prelude.{◌≡◌, true, List, ℕ, ◌+◌, ◌*◌, ◌≤◌, length};
 ghost use Rattle.types_rows.specs.Read.{tab, args_of};
 ghost use Rattle.types_rows.specs.Environments.{shifted, EnvironmentIn};
-ghost use Rattle.types_equal.specs.Bounds.{left_of, right_of, given_of, deeper_of, under_of, inside_of, Depths};
-ghost use Rattle.types_equal.specs.pending.Pending.{side, Lent, PendsBoth};
-ghost use Rattle.types_equal.specs.declared.stack_pairs.Duo.TheVariants.{Unlike, Onward};
-ghost use Rattle.types_equal.specs.stack_pairs.Items.{end_with, own_with, given_with, var_with, duo_of};
+ghost use Rattle.types_equal.specs.Bounds.{left_of, right_of, given_of, source_of, deeper_of, under_of, inside_of, Depths};
+ghost use Rattle.types_equal.specs.pending.Pending.{list_of, Lent, PendsBoth};
+ghost use Rattle.types_equal.specs.declared.pending.Side.TheVariants.{Left, Right};
+ghost use Rattle.types_equal.specs.stack_pairs.Items.{duo_of};
 ghost use Rattle.types_equal.specs.stack_pairs.Fit.{AtSame, same_stacks, DuoIs};
 
-use crate::pending::{Next, Setting};
+use crate::pending::{self, Next, Setting, Side, Source};
+use crate::value_pairs::Within;
 use types_rows::Stk;
 
 // The context of the two sides: the first m variables of the left row past d are filled by arguments, later ones are variables of the
 // environment env, raised by `by`; the variables of the right row past d2 are variables of env2. Of 32 bits each, since comparisons nest
 // and each level keeps a copy.
-#[derive(Clone, Copy)]
+#[derive(Clone, Copy, Default)]
 pub struct Context {
     pub m: u32,
     pub by: u32,
@@ -69,8 +70,7 @@ pub(crate) fn given(envs: &[u16], k: Context) -> Context
         by: k.d,
         d: 0,
         env: current(envs),
-        d2: k.d2,
-        env2: k.env2,
+        ..k
     }
 }
 
@@ -80,12 +80,9 @@ fn deeper(k: Context, a: usize, b: usize) -> Context
     ensures { result ≡ deeper_of k a b }
 {
     Context {
-        m: k.m,
-        by: k.by,
-        d: (a + k.d as usize) as u32,
-        env: k.env,
-        d2: (b + k.d2 as usize) as u32,
-        env2: k.env2,
+        d: k.d + a as u32,
+        d2: k.d2 + b as u32,
+        ..k
     }
 }
 
@@ -100,98 +97,49 @@ pub(crate) fn under(parts: &[u16], k: Context, p: usize, q: usize) -> Context
 }
 
 // The context of the two value rows that two value rows come to: of an argument's row, or of the insides of two packages.
-pub(crate) fn inside(envs: &[u16], k: Context, filled: bool) -> Context
+pub(crate) fn inside(envs: &[u16], k: Context, within: Within) -> Context
     requires { Depths k × (length envs.now ≤ 65535) }
-    ensures { result ≡ inside_of envs.now k filled }
+    ensures { result ≡ inside_of envs.now k within }
 {
-    if filled {
-        return given(envs, k);
+    match within {
+        Within::Argument => given(envs, k),
+        Within::Package => deeper(k, 1, 1),
     }
-    deeper(k, 1, 1)
 }
 
-// What is left to compare of two stacks: nothing, they are equal; nothing, they are not; what is pending after an equal variable; two
-// value rows, the left one in its context or of an argument, each with what is pending behind it.
+// The context of a value row of the left side, and of one of the right side, in the context k.
+pub(crate) fn at_source(envs: &[u16], k: Context, source: Source) -> Context
+    requires { length envs.now ≤ 65535 }
+    ensures { result ≡ source_of envs.now k source }
+{
+    match source {
+        Source::Own => k,
+        Source::Given => given(envs, k),
+    }
+}
+
+// What is left to compare of two stacks: nothing, they are equal; what is pending after an equal variable; two value rows, the left one of
+// the given source, each with what is pending behind it.
 #[derive(Clone, Copy)]
 pub enum Duo {
     Over,
-    Unlike,
     Onward(usize, usize),
-    OwnTwo(usize, usize, usize, usize),
-    GivenTwo(usize, usize, usize, usize),
+    Rows(Source, usize, usize, usize, usize),
 }
 
-fn end_with(b: Next) -> Duo
-    ensures { result ≡ end_with b }
-{
-    match b {
-        Next::End => Duo::Over,
-        Next::OwnNext(_, _) => Duo::Unlike,
-        Next::GivenNext(_, _) => Duo::Unlike,
-        Next::VarNext(_, _) => Duo::Unlike,
-        Next::Wrong => Duo::Unlike,
-    }
-}
-
-fn own_with(t: usize, n: usize, b: Next) -> Duo
-    ensures { result ≡ own_with t n b }
-{
-    match b {
-        Next::End => Duo::Unlike,
-        Next::OwnNext(u, o) => Duo::OwnTwo(t, n, u, o),
-        Next::GivenNext(_, _) => Duo::Unlike,
-        Next::VarNext(_, _) => Duo::Unlike,
-        Next::Wrong => Duo::Unlike,
-    }
-}
-
-fn given_with(t: usize, n: usize, b: Next) -> Duo
-    ensures { result ≡ given_with t n b }
-{
-    match b {
-        Next::End => Duo::Unlike,
-        Next::OwnNext(u, o) => Duo::GivenTwo(t, n, u, o),
-        Next::GivenNext(_, _) => Duo::Unlike,
-        Next::VarNext(_, _) => Duo::Unlike,
-        Next::Wrong => Duo::Unlike,
-    }
-}
-
-fn if_onward(k: usize, i: usize, n: usize, o: usize) -> Duo
-    ensures { result ≡ cond (eqb k i) (Onward n o) Unlike }
-{
-    if k == i {
-        return Duo::Onward(n, o);
-    }
-    Duo::Unlike
-}
-
-fn var_with(k: usize, n: usize, b: Next) -> Duo
-    ensures { result ≡ var_with k n b }
-{
-    match b {
-        Next::End => Duo::Unlike,
-        Next::OwnNext(_, _) => Duo::Unlike,
-        Next::GivenNext(_, _) => Duo::Unlike,
-        Next::VarNext(i, o) => if_onward(k, i, n, o),
-        Next::Wrong => Duo::Unlike,
-    }
-}
-
-// The next items a of the left and b of the right stack.
-fn two_items(a: Next, b: Next) -> Duo
+// The next items a of the left and b of the right stack; none if they differ.
+fn two_items(a: Next, b: Next) -> Option<Duo>
     ensures { result ≡ duo_of a b }
 {
-    match a {
-        Next::End => end_with(b),
-        Next::OwnNext(t, n) => own_with(t, n, b),
-        Next::GivenNext(t, n) => given_with(t, n, b),
-        Next::VarNext(k, n) => var_with(k, n, b),
-        Next::Wrong => Duo::Unlike,
+    match (a, b) {
+        (Next::End, Next::End) => Some(Duo::Over),
+        (Next::Row(s, t, n), Next::Row(Source::Own, u, o)) => Some(Duo::Rows(s, t, n, u, o)),
+        (Next::Var(k, n), Next::Var(i, o)) => (k == i).then_some(Duo::Onward(n, o)),
+        _ => None,
     }
 }
 
-// The next items of the i entries pending on the left and the j entries pending on the right.
+// The next items of the i entries pending on the left and the j entries pending on the right; none if the two differ.
 pub(crate) fn next_pair(
     rows: &[u16],
     args: &[u16],
@@ -200,12 +148,12 @@ pub(crate) fn next_pair(
     pending: &mut [u32],
     i: usize,
     j: usize,
-) -> Duo
+) -> Option<Duo>
     requires { EnvironmentIn envs.now k.env × EnvironmentIn envs.now k.env2 × Lent args.now k.m (length pending.old) × PendsBoth k.m pending.old i j }
-    ensures { (ps : List ℕ) → DuoIs (tab rows.now ps) (args_of (tab rows.now ps) args.now k.m) k.m (shifted envs.now k.env k.by) k.d (shifted envs.now k.env2 0) k.d2 (side false pending.old) i (side true pending.old) j (side false pending.new) (side true pending.new) result }
+    ensures { (ps : List ℕ) → DuoIs (tab rows.now ps) (args_of (tab rows.now ps) args.now k.m) k.m (shifted envs.now k.env k.by) k.d (shifted envs.now k.env2 0) k.d2 (list_of Left pending.old) i (list_of Right pending.old) j (list_of Left pending.new) (list_of Right pending.new) result }
 {
-    let a = crate::pending::next_item(rows, args, envs, left(k), pending, false, i);
-    let b = crate::pending::next_item(rows, args, envs, right(k), pending, true, j);
+    let a = pending::next_item(rows, args, envs, left(k), pending, Side::Left, i)?;
+    let b = pending::next_item(rows, args, envs, right(k), pending, Side::Right, j)?;
     two_items(a, b)
 }
 
@@ -213,29 +161,7 @@ pub(crate) fn next_pair(
 pub(crate) fn same_place(k: Context, l: usize, r: usize) -> bool
     ensures { result ≡ true → AtSame k l r }
 {
-    if l != r {
-        return false;
-    }
-    if k.m != 0 {
-        return false;
-    }
-    if k.env != k.env2 {
-        return false;
-    }
-    if k.by != 0 {
-        return false;
-    }
-    k.d == k.d2
-}
-
-// The greater of two numbers.
-pub(crate) fn greater(a: usize, b: usize) -> usize
-    ensures { (a ≤ result) × (b ≤ result) × ((c : ℕ) → a ≤ c → b ≤ c → result ≤ c) }
-{
-    if a < b {
-        return b;
-    }
-    a
+    l == r && left(k) == right(k)
 }
 
 // Stack rows l and r are seen at once to be equal: the same row in the same context, also where l is a variable that an argument fills.
@@ -250,13 +176,9 @@ pub(crate) fn same_stack(
     requires { (l ≤ 65536) × EnvironmentIn envs.now k.env }
     ensures { result ≡ true → (ps : List ℕ) → true ≡ same_stacks (tab rows.now ps) (args_of (tab rows.now ps) args.now k.m) (shifted envs.now k.env k.by) k.d l (shifted envs.now k.env2 0) k.d2 r }
 {
-    let s = types_rows::stack_in(rows, envs, l, k.m, k.by, k.d, k.env);
-    let Stk::StkFill(j) = s else {
+    let Stk::StkFill(j) = types_rows::stack_in(rows, envs, l, k.m, k.by, k.d, k.env) else {
         return same_place(k, l, r);
     };
-    let a = types_rows::at(args, j);
-    if types_rows::is_stack(rows, a) {
-        return same_place(given(envs, k), a + 1, r);
-    }
-    false
+    let a = tables::at(args, j);
+    types_rows::is_stack(rows, a) && same_place(given(envs, k), a + 1, r)
 }

@@ -2,25 +2,31 @@
 // whether two code rows have the same letters. The crate's own file goes on with what is left. Promised: each answer is that of
 // specs/value_pairs/Pairs.antt, and of `same_letters` of crate types. Asked: that the places of registers and letters are small enough to
 // be added up.
-ghost use Rattle.std.specs.Prelude.{◌≡◌, true, false, cond, [], ◌∷◌, ◌+◌, ◌≤◌, eqb};
+ghost use Rattle.std.specs.Prelude.{◌≡◌, true, false, cond, [], ◌∷◌, ◌+◌, ◌≤◌, Some, None};
 ghost use Rattle.types.specs.Equal.{same_letters};
 ghost use Rattle.tables.specs.Tables.{letter_of, letters_at};
 ghost use Rattle.types_rows.specs.Read.{tab};
-ghost use Rattle.types_equal.specs.declared.value_pairs.Pair.TheVariants.{Same, Differ, Tuples, Codes};
-ghost use Rattle.types_equal.specs.value_pairs.Pairs.{pair_int, pair_junk, pair_val_var, pair_tuple, pair_pointer, pair_code, pair_hidden, pair_fill, pair_of, span_of, Placed, gap_with, row_with, slots_of, letters_from};
+ghost use Rattle.types_equal.specs.declared.value_pairs.Pair.TheVariants.{Codes};
+ghost use Rattle.types_equal.specs.value_pairs.Pairs.{pair_fill, pair_of, span_of, Placed, slots_of, letters_from};
 
-use types_rows::{Slot, Val};
+use types_rows::Val;
 
-// What is left to compare of two value rows: nothing, they are equal; nothing, they are not; components; stacks; the stacks and registers
-// of code with the same letters; value rows, the left one that of an argument that fills the left row, or both inside packages.
+// What is left to compare of two value rows of one form: nothing, they are equal; components; stacks; the stacks and registers of code with
+// the same letters; value rows that stand within them.
 #[derive(Clone, Copy)]
 pub enum Pair {
     Same,
-    Differ,
     Tuples(usize, usize, usize),
     Pointers(usize, usize),
     Codes(usize, usize, usize, usize),
-    Inside(bool, usize, usize),
+    Inside(Within, usize, usize),
+}
+
+// Where two value rows stand that two others come to: the left one is an argument that fills the left row, or both are inside packages.
+#[derive(Clone, Copy)]
+pub enum Within {
+    Argument,
+    Package,
 }
 
 // Two code types: the stack x and where the registers start, p, of the left one, y and q of the right one.
@@ -33,6 +39,7 @@ pub struct Bodies {
 }
 
 // n parts from p on the left and from q on the right: registers if `file`, else components.
+// Kept: `file` is the flag that types_rows::part takes, and that `parts_of` of its specs speaks of.
 #[derive(Clone, Copy)]
 pub struct Span {
     pub file: bool,
@@ -41,175 +48,57 @@ pub struct Span {
     pub n: u16,
 }
 
-// What is left to compare of two parts: no row and no row for two gaps.
+// The rows that are left to compare of two parts: no row and no row for two gaps.
 #[derive(Clone, Copy)]
-pub enum Heads {
-    Apart,
-    Both(usize, usize),
+pub struct Heads {
+    pub left: usize,
+    pub right: usize,
 }
 
-fn with_int(w: Val) -> Pair
-    ensures { result ≡ pair_int w }
-{
-    match w {
-        Val::Int => Pair::Same,
-        Val::Junk => Pair::Differ,
-        Val::ValVar(_) => Pair::Differ,
-        Val::ValFill(_) => Pair::Differ,
-        Val::Tuple(_, _) => Pair::Differ,
-        Val::Pointer(_) => Pair::Differ,
-        Val::Code(_, _) => Pair::Differ,
-        Val::Hidden(_) => Pair::Differ,
-    }
-}
-
-fn with_junk(w: Val) -> Pair
-    ensures { result ≡ pair_junk w }
-{
-    match w {
-        Val::Int => Pair::Differ,
-        Val::Junk => Pair::Same,
-        Val::ValVar(_) => Pair::Differ,
-        Val::ValFill(_) => Pair::Differ,
-        Val::Tuple(_, _) => Pair::Differ,
-        Val::Pointer(_) => Pair::Differ,
-        Val::Code(_, _) => Pair::Differ,
-        Val::Hidden(_) => Pair::Differ,
-    }
-}
-
-fn with_var(k: usize, w: Val) -> Pair
-    ensures { result ≡ pair_val_var k w }
-{
-    match w {
-        Val::Int => Pair::Differ,
-        Val::Junk => Pair::Differ,
-        Val::ValVar(i) => if_same(k, i),
-        Val::ValFill(_) => Pair::Differ,
-        Val::Tuple(_, _) => Pair::Differ,
-        Val::Pointer(_) => Pair::Differ,
-        Val::Code(_, _) => Pair::Differ,
-        Val::Hidden(_) => Pair::Differ,
-    }
-}
-
-fn with_tuple(p: usize, n: usize, w: Val) -> Pair
-    ensures { result ≡ pair_tuple p n w }
-{
-    match w {
-        Val::Int => Pair::Differ,
-        Val::Junk => Pair::Differ,
-        Val::ValVar(_) => Pair::Differ,
-        Val::ValFill(_) => Pair::Differ,
-        Val::Tuple(q, m) => if_long(p, q, n, m),
-        Val::Pointer(_) => Pair::Differ,
-        Val::Code(_, _) => Pair::Differ,
-        Val::Hidden(_) => Pair::Differ,
-    }
-}
-
-fn with_pointer(x: usize, w: Val) -> Pair
-    ensures { result ≡ pair_pointer x w }
-{
-    match w {
-        Val::Int => Pair::Differ,
-        Val::Junk => Pair::Differ,
-        Val::ValVar(_) => Pair::Differ,
-        Val::ValFill(_) => Pair::Differ,
-        Val::Tuple(_, _) => Pair::Differ,
-        Val::Pointer(y) => Pair::Pointers(x, y),
-        Val::Code(_, _) => Pair::Differ,
-        Val::Hidden(_) => Pair::Differ,
-    }
-}
-
-// Code rows with the stacks x and y, whose registers start at p and at q.
-fn if_letters(parts: &[u16], x: usize, p: usize, y: usize, q: usize) -> Pair
+// Code rows with the stacks x and y, whose registers start at p and at q: none if their letters differ.
+fn if_letters(parts: &[u16], x: usize, p: usize, y: usize, q: usize) -> Option<Pair>
     requires { (p ≤ 65535) × (q ≤ 65535) }
-    ensures { result ≡ cond (same_letters (letters_at parts.now p) (letters_at parts.now q)) (Codes x p y q) Differ }
+    ensures { result ≡ cond (same_letters (letters_at parts.now p) (letters_at parts.now q)) (Some (Codes x p y q)) None }
 {
     let a = types_rows::letter_count(parts, p);
     let b = types_rows::letter_count(parts, q);
-    if same_letters(parts, p + 9, a, q + 9, b) {
-        return Pair::Codes(x, p, y, q);
-    }
-    Pair::Differ
-}
-
-fn with_code(parts: &[u16], x: usize, p: usize, w: Val) -> Pair
-    requires { (p ≤ 65535) × Placed w }
-    ensures { result ≡ pair_code parts.now x p w }
-{
-    match w {
-        Val::Int => Pair::Differ,
-        Val::Junk => Pair::Differ,
-        Val::ValVar(_) => Pair::Differ,
-        Val::ValFill(_) => Pair::Differ,
-        Val::Tuple(_, _) => Pair::Differ,
-        Val::Pointer(_) => Pair::Differ,
-        Val::Code(y, q) => if_letters(parts, x, p, y, q),
-        Val::Hidden(_) => Pair::Differ,
-    }
-}
-
-fn with_hidden(x: usize, w: Val) -> Pair
-    ensures { result ≡ pair_hidden x w }
-{
-    match w {
-        Val::Int => Pair::Differ,
-        Val::Junk => Pair::Differ,
-        Val::ValVar(_) => Pair::Differ,
-        Val::ValFill(_) => Pair::Differ,
-        Val::Tuple(_, _) => Pair::Differ,
-        Val::Pointer(_) => Pair::Differ,
-        Val::Code(_, _) => Pair::Differ,
-        Val::Hidden(y) => Pair::Inside(false, x, y),
-    }
-}
-
-fn if_same(k: usize, i: usize) -> Pair
-    ensures { result ≡ cond (eqb k i) Same Differ }
-{
-    if k == i {
-        return Pair::Same;
-    }
-    Pair::Differ
-}
-
-fn if_long(p: usize, q: usize, n: usize, m: usize) -> Pair
-    ensures { result ≡ cond (eqb n m) (Tuples p q n) Differ }
-{
-    if n == m {
-        return Pair::Tuples(p, q, n);
-    }
-    Pair::Differ
+    same_letters(parts, p + 9, a, q + 9, b).then_some(Pair::Codes(x, p, y, q))
 }
 
 // A row that is filled by row a, beside row r.
-fn with_fill(rows: &[u16], a: usize, r: usize) -> Pair
+fn with_fill(rows: &[u16], a: usize, r: usize) -> Option<Pair>
     requires { a ≤ 65535 }
     ensures { result ≡ pair_fill rows.now a r }
 {
     if types_rows::is_stack(rows, a) {
-        return Pair::Differ;
+        None
+    } else {
+        Some(Pair::Inside(Within::Argument, a + 1, r))
     }
-    Pair::Inside(true, a + 1, r)
 }
 
-// What is left to compare of the forms n and w, that of row r.
-pub(crate) fn pair_up(rows: &[u16], parts: &[u16], args: &[u16], n: Val, w: Val, r: usize) -> Pair
+// What is left to compare of the forms n and w, that of row r; none if they differ.
+pub(crate) fn pair_up(
+    rows: &[u16],
+    parts: &[u16],
+    args: &[u16],
+    n: Val,
+    w: Val,
+    r: usize,
+) -> Option<Pair>
     requires { Placed n × Placed w }
     ensures { result ≡ pair_of (tab rows.now parts.now) args.now r n w }
 {
-    match n {
-        Val::Int => with_int(w),
-        Val::Junk => with_junk(w),
-        Val::ValVar(k) => with_var(k, w),
-        Val::ValFill(j) => with_fill(rows, types_rows::at(args, j), r),
-        Val::Tuple(p, c) => with_tuple(p, c, w),
-        Val::Pointer(x) => with_pointer(x, w),
-        Val::Code(x, p) => with_code(parts, x, p, w),
-        Val::Hidden(x) => with_hidden(x, w),
+    match (n, w) {
+        (Val::ValFill(j), _) => with_fill(rows, tables::at(args, j), r),
+        (Val::Int, Val::Int) => Some(Pair::Same),
+        (Val::Junk, Val::Junk) => Some(Pair::Same),
+        (Val::ValVar(k), Val::ValVar(i)) => (k == i).then_some(Pair::Same),
+        (Val::Tuple(p, c), Val::Tuple(q, d)) => (c == d).then_some(Pair::Tuples(p, q, c)),
+        (Val::Pointer(x), Val::Pointer(y)) => Some(Pair::Pointers(x, y)),
+        (Val::Code(x, p), Val::Code(y, q)) => if_letters(parts, x, p, y, q),
+        (Val::Hidden(x), Val::Hidden(y)) => Some(Pair::Inside(Within::Package, x, y)),
+        _ => None,
     }
 }
 
@@ -239,41 +128,21 @@ pub(crate) fn registers(p: usize, q: usize) -> Span
     }
 }
 
-fn gap_with(y: Slot) -> Heads
-    ensures { result ≡ gap_with y }
-{
-    match y {
-        Slot::Gap => Heads::Both(0, 0),
-        Slot::Known(_) => Heads::Apart,
-    }
-}
-
-fn row_with(t: usize, y: Slot) -> Heads
-    ensures { result ≡ row_with t y }
-{
-    match y {
-        Slot::Gap => Heads::Apart,
-        Slot::Known(u) => Heads::Both(t, u),
-    }
-}
-
-// What is left to compare of the parts x and y.
-pub(crate) fn two_slots(x: Slot, y: Slot) -> Heads
+// What is left to compare of the parts x and y; none if one is a gap and the other is not.
+pub(crate) fn two_slots(x: Option<usize>, y: Option<usize>) -> Option<Heads>
     ensures { result ≡ slots_of x y }
 {
-    match x {
-        Slot::Gap => gap_with(y),
-        Slot::Known(t) => row_with(t, y),
+    match (x, y) {
+        (None, None) => Some(Heads { left: 0, right: 0 }),
+        (Some(left), Some(right)) => Some(Heads { left, right }),
+        _ => None,
     }
 }
 
 fn same_letter(x: usize, y: usize) -> bool
     ensures { result ≡ same_letters (letter_of x ∷ []) (letter_of y ∷ []) }
 {
-    if x == 0 {
-        return y == 0;
-    }
-    y != 0
+    (x == 0) == (y == 0)
 }
 
 // The a letters at p and the b letters at q are the same.
@@ -281,16 +150,13 @@ pub(crate) fn same_letters(parts: &[u16], p: usize, a: usize, q: usize, b: usize
     requires { (p + a ≤ 262144) × (q + b ≤ 262144) }
     ensures { result ≡ same_letters (letters_from parts.now p a) (letters_from parts.now q b) }
 {
-    if a == 0 {
-        return b == 0;
-    }
-    if b == 0 {
+    if a != b {
         return false;
     }
-    let x = types_rows::at(parts, p);
-    let y = types_rows::at(parts, q);
-    if same_letter(x, y) {
-        return same_letters(parts, p + 1, a - 1, q + 1, b - 1);
+    for i in 0..a {
+        if !same_letter(tables::at(parts, p + i), tables::at(parts, q + i)) {
+            return false;
+        }
     }
-    false
+    true
 }

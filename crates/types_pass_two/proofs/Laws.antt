@@ -5,10 +5,14 @@ use native.Mathlib.Omega.{arith}
 use mathlib.Core.Path.{◌≡◌, refl, ap, ap₂, sym, subst, ◌∙◌}
 use mathlib.Core.Bool.{Bool, true, false, not, cond}
 use mathlib.Core.Option.{Option, none, some}
+use Rattle.std.specs.Prelude.{Option as CodeOption, Some, None}
+use Rattle.std.specs.Option.{is_some}
+use Rattle.faults.specs.declared.LineFault.{LineFault}
+use Rattle.types_pass_two.specs.refs.Refs.{refusal_of}
 use mathlib.Core.List.{List, [], ◌∷◌, ◌++◌, map, append-eq-nil_iff}
 use lib.ListN.{length, length-replicate, get_or, replicate, get_or-replicate, get_or-eq_default}
 use lib.Dec.{ltb, leb, eqb}
-use borrow.Author.Tests.{ne_eqb, eqb-true, eqb-false, leb-true, leb-false, ltb-false}
+use borrow.Author.Tests.{eqb-true, eqb-false, leb-true, leb-false, ltb-false}
 use Rattle.syntax.specs.Syntax.{Row}
 use Rattle.syntax.specs.Fault.{Fault, Clear, given, number_of, lowest, Refusal, lowest_line, or_else}
 use Rattle.syntax.proofs.Least.{least, least_of, given_none, refuse_plain, line_next, line_here}
@@ -21,11 +25,9 @@ use Rattle.tables.specs.Tables.{RowTable, row_at, rows_from, rows_in}
 use Rattle.types_rows.proofs.Bridge.{rows_snoc}
 use Rattle.types_rows.specs.Clear.{RowsClear}
 use Rattle.types_rows.specs.size.Size.{Measured}
-use Rattle.types_pass_two.specs.declared.refs.Found.{Found}
 use Rattle.types_pass_two.specs.row_refs.Rows.{row_refs_faults}
-use Rattle.types_pass_two.specs.refs.Refs.{found_of, refusal_of}
 use Rattle.types_pass_two.proofs.row_refs.References.{row_least, numbered_row, item_row}
-use Rattle.types_pass_two.proofs.refs.Lines.{pass_two_lem, whole_refusal}
+use Rattle.types_pass_two.proofs.refs.Lines.{pass_two_lem}
 use Rattle.types_pass_two.specs.PassTwo.{faults_at}
 
 -- ---- one row
@@ -100,17 +102,14 @@ module _ (τ : RowTable) (n : ℕ) where
       let q : r + 1 ≡ suc r = omega arith in
       ap (λ (x : ℕ). rows_left x) q ∙ sym (here r h ∙ line_next (suc r) (faults_at τ r) _ (numbered_row τ (sizes_of (rows_in τ r)) r (sym e ∙ z)))
 
-  pub rows_found : (r f line : ℕ) → r < n → f ≡ least_of (faults_at τ r) → (f ≡ 0 → ⊥) → line ≡ r + 1 → refusal_of (record { number = f; line = line }) ≡ rows_left r
-  unfolding refusal_of
+  pub rows_found : (r f line : ℕ) → r < n → f ≡ least_of (faults_at τ r) → (f ≡ 0 → ⊥) → line ≡ r + 1 → some (record { number = f; line = line; item = none }) ≡ rows_left r
   rows_found r f line h e z q =
-      let k : eqb f 0 ≡ false = ne_eqb f 0 z in
       let l : line ≡ suc r = omega arith in
-      rw k
-      (ap₂ (λ (x y : ℕ). some (record { number = x; line = y; item = none })) e l
+      ap₂ (λ (x y : ℕ). some (record { number = x; line = y; item = none })) e l
       ∙ sym
       (here r h
       ∙ line_here (suc r) (faults_at τ r) _ (λ d. z (e ∙ d))
-      ∙ ap some (refuse_plain (least_of (faults_at τ r)) (suc r) (faults_at τ r) (item_row τ (sizes_of (rows_in τ r)) r))))
+      ∙ ap some (refuse_plain (least_of (faults_at τ r)) (suc r) (faults_at τ r) (item_row τ (sizes_of (rows_in τ r)) r)))
 
   pub rows_end : (r : ℕ) → n ≤ r → none ≡ rows_left r
   unfolding rows_left rows_from rows_faults_from lowest_line
@@ -148,14 +147,13 @@ module _ (τ : RowTable) (n : ℕ) where
 
 -- ---- the pass
 module _ (τ : RowTable) (n nb : ℕ) (bs : List Listing) where
-  pub at_row : (f : Found) → refusal_of f ≡ lowest_line 1 (rows_faults (rows_in τ n) 0 (rows_in τ n)) → (f.number ≡ 0 → ⊥) → refusal_of f ≡ lowest_line 0 (pass_two (rows_in τ n) nb (entries_in (rows_in τ n) bs))
-  unfolding refusal_of
-  at_row f e h =
-      let k : eqb f.number 0 ≡ false = ne_eqb f.number 0 h in
-      sym (pass_two_lem τ n nb bs ∙ ap (λ o. or_else o (lowest_line (n + 1) (entries_faults (rows_in τ n) nb (entries_in [] bs)))) (sym e) ∙ rw k refl)
+  pub at_row : (o : CodeOption LineFault) → refusal_of o ≡ lowest_line 1 (rows_faults (rows_in τ n) 0 (rows_in τ n)) → is_some o ≡ true → refusal_of o ≡ lowest_line 0 (pass_two (rows_in τ n) nb (entries_in (rows_in τ n) bs))
+  at_row None e h = cc
+  at_row (Some x) e h =
+      sym (pass_two_lem τ n nb bs ∙ ap (λ y. or_else y (lowest_line (n + 1) (entries_faults (rows_in τ n) nb (entries_in [] bs)))) (sym e))
 
-  pub behind_rows : (f g : Found) → refusal_of f ≡ lowest_line 1 (rows_faults (rows_in τ n) 0 (rows_in τ n)) → f.number ≡ 0
-      → g ≡ found_of (lowest_line (n + 1) (entries_faults (rows_in τ n) nb (entries_in [] bs))) → refusal_of g ≡ lowest_line 0 (pass_two (rows_in τ n) nb (entries_in (rows_in τ n) bs))
-  behind_rows f g e z q =
-      let k : refusal_of f ≡ none = unfold refusal_of in rw z refl in
-      ap refusal_of q ∙ sym (whole_refusal (n + 1) (rows_in τ n) nb (entries_in [] bs)) ∙ sym (pass_two_lem τ n nb bs ∙ ap (λ o. or_else o (lowest_line (n + 1) (entries_faults (rows_in τ n) nb (entries_in [] bs)))) (sym e ∙ k))
+  pub behind_rows : (o q : CodeOption LineFault) → refusal_of o ≡ lowest_line 1 (rows_faults (rows_in τ n) 0 (rows_in τ n)) → is_some o ≡ false
+      → refusal_of q ≡ lowest_line (n + 1) (entries_faults (rows_in τ n) nb (entries_in [] bs)) → refusal_of q ≡ lowest_line 0 (pass_two (rows_in τ n) nb (entries_in (rows_in τ n) bs))
+  behind_rows (Some x) q e z h = cc
+  behind_rows None q e z h =
+      h ∙ sym (pass_two_lem τ n nb bs ∙ ap (λ y. or_else y (lowest_line (n + 1) (entries_faults (rows_in τ n) nb (entries_in [] bs)))) (sym e))

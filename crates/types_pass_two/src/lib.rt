@@ -10,6 +10,7 @@ pub mod row_refs;
 ghost use Rattle.std.specs.Prelude.{◌≡◌, ◌≤◌};
 ghost use Rattle.syntax.specs.Fault.{lowest_line};
 ghost use Rattle.syntax.proofs.Least.{least_of};
+ghost use Rattle.faults.specs.Numbers.{fault_number};
 ghost use Rattle.text.specs.Entries.{entries_in};
 ghost use Rattle.types.specs.Rows.{rows_faults, pass_two};
 ghost use Rattle.tables.specs.Tables.{rows_in, blocks_from};
@@ -19,38 +20,30 @@ ghost use Rattle.types_pass_two.specs.instr_refs.Instrs.{operand_table};
 ghost use Rattle.types_pass_two.specs.refs.Refs.{refusal_of, Rising};
 ghost use Rattle.types_pass_two.specs.PassTwo.{faults_at};
 
-use crate::refs::Found;
+use faults::{Fault, LineFault};
 
-// The least fault of row r, 0 for none.
-fn row_fault(rows: &[u16], parts: &[u16], sizes: &mut [u16], r: usize) -> usize
+// The least fault of row r.
+fn row_fault(rows: &[u16], parts: &[u16], sizes: &mut [u16], r: usize) -> Option<Fault>
     requires { (r ≤ 65535) × Measured (tab rows.now parts.now) sizes.old }
-    ensures { (result ≡ least_of (faults_at (tab rows.now parts.now) r)) × Measured (tab rows.now parts.now) sizes.new }
+    ensures { (fault_number result ≡ least_of (faults_at (tab rows.now parts.now) r)) × Measured (tab rows.now parts.now) sizes.new }
 {
-    let f = crate::row_refs::row_fault(rows, parts, r);
-    if f != 0 {
-        return f;
+    if let Some(f) = crate::row_refs::row_fault(rows, parts, r) {
+        return Some(f);
     }
-    if types_rows::measure::size_over(rows, parts, sizes, r) {
-        return 6;
-    }
-    0
+    types_rows::measure::size_over(rows, parts, sizes, r).then_some(Fault::TooLarge)
 }
 
 // The lowest of the n type lines with a fault. Row r stands on line r + 1.
-fn rows_fault(rows: &[u16], parts: &[u16], sizes: &mut [u16], n: usize) -> Found
+fn rows_fault(rows: &[u16], parts: &[u16], sizes: &mut [u16], n: usize) -> Option<LineFault>
     requires { (n ≤ 65535) × Measured (tab rows.now parts.now) sizes.old }
     ensures { refusal_of result ≡ lowest_line 1 (rows_faults (rows_in (tab rows.now parts.now) n) 0 (rows_in (tab rows.now parts.now) n)) }
 {
-    let mut r = 0;
-    while r < n {
-        let number = row_fault(rows, parts, sizes, r);
-        if number != 0 {
-            let line = r + 1;
-            return Found { number, line };
+    for r in 0..n {
+        if let Some(fault) = row_fault(rows, parts, sizes, r) {
+            return Some(LineFault { fault, line: r + 1 });
         }
-        r += 1;
     }
-    Found { number: 0, line: 0 }
+    None
 }
 
 // The lowest line with a fault, of n rows, nb blocks and ni instructions.
@@ -65,15 +58,14 @@ pub fn pass_two(
     operands: &[u16],
     numbers: &[u32],
     args: &[u16],
-) -> Found
+) -> Option<LineFault>
     requires { (n ≤ 65535) × (nb ≤ 65535) × (ni ≤ 65535) × Rising blocks.now nb }
     ensures { refusal_of result ≡ lowest_line 0 (pass_two (rows_in (tab rows.now parts.now) n) nb (entries_in (rows_in (tab rows.now parts.now) n) (blocks_from blocks.now instrs.now (operand_table operands.now numbers.now args.now) ni 0 nb))) }
 {
     let mut sizes = [0u16; 513];
-    let f = rows_fault(rows, parts, &mut sizes, n);
-    let number = f.number;
-    if number != 0 {
-        return f;
+    let found = rows_fault(rows, parts, &mut sizes, n);
+    if found.is_some() {
+        return found;
     }
     crate::refs::code_fault(rows, n, blocks, nb, instrs, ni, operands, numbers, args)
 }

@@ -15,8 +15,7 @@ use Rattle.types.proofs.Filling.{Side, lo, hi, side, below_lt, below_ge, fuse, w
 use Rattle.tables.specs.Tables.{cell}
 use Rattle.types_rows.specs.declared.Val.TheVariants.{ValVar, ValFill}
 use Rattle.types_rows.specs.declared.Stk.TheVariants.{StkVar, StkFill}
-use Rattle.types_rows.specs.declared.variables.Free.{Free}
-use Rattle.types_rows.specs.declared.variables.Free.TheVariants.{Other, Named}
+use Rattle.std.specs.Prelude.{Option, Some, None}
 use Rattle.types_rows.specs.Read.{placed, acting, lift, value_with, stack_with, place_v, place_s, value_at, stack_at}
 use Rattle.types_rows.specs.Environments.{var_in, read_in, name_at, name_in, shifted, free_at, Known}
 use Rattle.types_rows.proofs.Laws.{never}
@@ -171,9 +170,6 @@ pub record Naming (E : List ℕ) (e f : ℕ) (N₀ N : List ℕ) (x k j : ℕ) :
   pub before : (i : ℕ) → i < f → get_or N i 0 ≡ get_or N₀ i 0
 
 module _ (E : List ℕ) (e f : ℕ) (N₀ : List ℕ) where
-  pub naming_first : Naming E e f N₀ N₀ e 0 0
-  naming_first = record { rest = λ i. refl; first = λ n. refl; named = λ i h. absurd (not-suc-le-zero h); before = λ i h. refl }
-
   module _ (N : List ℕ) (x k j y : ℕ) (g : Naming E e f N₀ N x k j) (l : f + j < length N) (v : y ≡ var_in E x k) where
     at_rest : (i : ℕ) {n m : ℕ} → n ≡ k + i → m ≡ j + i → var_in E x n ≡ var_in E e m
     at_rest i p q = ap (var_in E x) p ∙ g.rest i ∙ ap (var_in E e) (sym q)
@@ -405,88 +401,88 @@ module _ {A : Type 0} (v w : ℕ → A) (m d k : ℕ) where
       rw (le-ltb k d (omega arith), le-ltb (k - d) m (omega arith), q) refl
 
 module _ (rows : List ℕ) (m d : ℕ) where
-  free_value : (ρ : ℕ → ℕ) (h x : ℕ) → free_at rows ρ 2 m d h ≡ Named x → ValVar x ≡ value_at rows (place_v m ρ d) h
+  free_value : (ρ : ℕ → ℕ) (h x : ℕ) → free_at rows ρ 2 m d h ≡ Some x → ValVar x ≡ value_at rows (place_v m ρ d) h
   unfolding free_at value_with
   free_value ρ zero x e = never cc
   free_value ρ (suc r) x e = go (eqb (cell 4 rows r 0) 2) refl (ltb (cell 4 rows r 1) (d + m)) refl e
     where
       go : (a : Bool) → eqb (cell 4 rows r 0) 2 ≡ a → (b : Bool) → ltb (cell 4 rows r 1) (d + m) ≡ b
-          → cond a (cond b Other (Named (ρ (cell 4 rows r 1 - (d + m)) + d))) Other ≡ Named x → ValVar x ≡ value_at rows (place_v m ρ d) (suc r)
+          → cond a (cond b None (Some (ρ (cell 4 rows r 1 - (d + m)) + d))) None ≡ Some x → ValVar x ≡ value_at rows (place_v m ρ d) (suc r)
       go true p false q f =
           let z : ρ (cell 4 rows r 1 - (d + m)) + d ≡ x = cc in
           rw (← z, eqb-true (cell 4 rows r 0) 2 p) (placing_free ValVar ValFill m d (cell 4 rows r 1) ρ (ltb-false (cell 4 rows r 1) (d + m) q))
       go true p true q f = never cc
       go false p b q f = never cc
 
-  other_value : (ρ ρ₂ : ℕ → ℕ) (h : ℕ) → free_at rows ρ₂ 2 m d h ≡ Other → value_at rows (place_v m ρ d) h ≡ value_at rows (place_v m ρ₂ d) h
+  other_value : (ρ ρ₂ : ℕ → ℕ) (h : ℕ) → free_at rows ρ₂ 2 m d h ≡ None → value_at rows (place_v m ρ d) h ≡ value_at rows (place_v m ρ₂ d) h
   unfolding free_at value_with
   other_value ρ ρ₂ zero e = refl
   other_value ρ ρ₂ (suc r) e = go (eqb (cell 4 rows r 0) 2) refl (ltb (cell 4 rows r 1) (d + m)) refl e
     where
       go : (a : Bool) → eqb (cell 4 rows r 0) 2 ≡ a → (b : Bool) → ltb (cell 4 rows r 1) (d + m) ≡ b
-          → cond a (cond b Other (Named (ρ₂ (cell 4 rows r 1 - (d + m)) + d))) Other ≡ Other → value_at rows (place_v m ρ d) (suc r) ≡ value_at rows (place_v m ρ₂ d) (suc r)
+          → cond a (cond b None (Some (ρ₂ (cell 4 rows r 1 - (d + m)) + d))) None ≡ None → value_at rows (place_v m ρ d) (suc r) ≡ value_at rows (place_v m ρ₂ d) (suc r)
       go true p true q f = rw (eqb-true (cell 4 rows r 0) 2 p) (placing_other ValVar ValFill m d (cell 4 rows r 1) ρ ρ₂ (ltb-true (cell 4 rows r 1) (d + m) q))
       go true p false q f = never cc
       go false p b q f = rw p refl
 
-  free_stack : (ρ : ℕ → ℕ) (h x : ℕ) → free_at rows ρ 8 m d h ≡ Named x → StkVar x ≡ stack_at rows (place_s m ρ d) h
+  free_stack : (ρ : ℕ → ℕ) (h x : ℕ) → free_at rows ρ 8 m d h ≡ Some x → StkVar x ≡ stack_at rows (place_s m ρ d) h
   unfolding free_at stack_with
   free_stack ρ zero x e = never cc
   free_stack ρ (suc r) x e = go (eqb (cell 4 rows r 0) 8) refl (ltb (cell 4 rows r 1) (d + m)) refl e
     where
       go : (a : Bool) → eqb (cell 4 rows r 0) 8 ≡ a → (b : Bool) → ltb (cell 4 rows r 1) (d + m) ≡ b
-          → cond a (cond b Other (Named (ρ (cell 4 rows r 1 - (d + m)) + d))) Other ≡ Named x → StkVar x ≡ stack_at rows (place_s m ρ d) (suc r)
+          → cond a (cond b None (Some (ρ (cell 4 rows r 1 - (d + m)) + d))) None ≡ Some x → StkVar x ≡ stack_at rows (place_s m ρ d) (suc r)
       go true p false q f =
           let z : ρ (cell 4 rows r 1 - (d + m)) + d ≡ x = cc in
           rw (← z, eqb-true (cell 4 rows r 0) 8 p) (placing_free StkVar StkFill m d (cell 4 rows r 1) ρ (ltb-false (cell 4 rows r 1) (d + m) q))
       go true p true q f = never cc
       go false p b q f = never cc
 
-  other_stack : (ρ ρ₂ : ℕ → ℕ) (h : ℕ) → free_at rows ρ₂ 8 m d h ≡ Other → stack_at rows (place_s m ρ d) h ≡ stack_at rows (place_s m ρ₂ d) h
+  other_stack : (ρ ρ₂ : ℕ → ℕ) (h : ℕ) → free_at rows ρ₂ 8 m d h ≡ None → stack_at rows (place_s m ρ d) h ≡ stack_at rows (place_s m ρ₂ d) h
   unfolding free_at stack_with
   other_stack ρ ρ₂ zero e = refl
   other_stack ρ ρ₂ (suc r) e = go (eqb (cell 4 rows r 0) 8) refl (ltb (cell 4 rows r 1) (d + m)) refl e
     where
       go : (a : Bool) → eqb (cell 4 rows r 0) 8 ≡ a → (b : Bool) → ltb (cell 4 rows r 1) (d + m) ≡ b
-          → cond a (cond b Other (Named (ρ₂ (cell 4 rows r 1 - (d + m)) + d))) Other ≡ Other → stack_at rows (place_s m ρ d) (suc r) ≡ stack_at rows (place_s m ρ₂ d) (suc r)
+          → cond a (cond b None (Some (ρ₂ (cell 4 rows r 1 - (d + m)) + d))) None ≡ None → stack_at rows (place_s m ρ d) (suc r) ≡ stack_at rows (place_s m ρ₂ d) (suc r)
       go true p true q f = rw (eqb-true (cell 4 rows r 0) 8 p) (placing_other StkVar StkFill m d (cell 4 rows r 1) ρ ρ₂ (ltb-true (cell 4 rows r 1) (d + m) q))
       go true p false q f = never cc
       go false p b q f = rw p refl
 
   -- as the code finds it
-  module _ (ρ : ℕ → ℕ) (h : ℕ) {o : Free} where
-    pub value_free : {x : ℕ} → o ≡ free_at rows ρ 2 m d h → o ≡ Named x → ValVar x ≡ value_at rows (place_v m ρ d) h
+  module _ (ρ : ℕ → ℕ) (h : ℕ) {o : Option ℕ} where
+    pub value_free : {x : ℕ} → o ≡ free_at rows ρ 2 m d h → o ≡ Some x → ValVar x ≡ value_at rows (place_v m ρ d) h
     value_free {x} e f = free_value ρ h x (sym e ∙ f)
 
-    pub value_other : (ρ₂ : ℕ → ℕ) → o ≡ free_at rows ρ 2 m d h → o ≡ Other → value_at rows (place_v m ρ₂ d) h ≡ value_at rows (place_v m ρ d) h
+    pub value_other : (ρ₂ : ℕ → ℕ) → o ≡ free_at rows ρ 2 m d h → o ≡ None → value_at rows (place_v m ρ₂ d) h ≡ value_at rows (place_v m ρ d) h
     value_other ρ₂ e f = other_value ρ₂ ρ h (sym e ∙ f)
 
-    pub stack_free : {x : ℕ} → o ≡ free_at rows ρ 8 m d h → o ≡ Named x → StkVar x ≡ stack_at rows (place_s m ρ d) h
+    pub stack_free : {x : ℕ} → o ≡ free_at rows ρ 8 m d h → o ≡ Some x → StkVar x ≡ stack_at rows (place_s m ρ d) h
     stack_free {x} e f = free_stack ρ h x (sym e ∙ f)
 
-    pub stack_other : (ρ₂ : ℕ → ℕ) → o ≡ free_at rows ρ 8 m d h → o ≡ Other → stack_at rows (place_s m ρ₂ d) h ≡ stack_at rows (place_s m ρ d) h
+    pub stack_other : (ρ₂ : ℕ → ℕ) → o ≡ free_at rows ρ 8 m d h → o ≡ None → stack_at rows (place_s m ρ₂ d) h ≡ stack_at rows (place_s m ρ d) h
     stack_other ρ₂ e f = other_stack ρ₂ ρ h (sym e ∙ f)
 
 -- what it finds
 module _ (rows : List ℕ) (ρ : ℕ → ℕ) (κ m d h : ℕ) where
-  pub free_none : h ≡ 0 → Other ≡ free_at rows ρ κ m d h
+  pub free_none : h ≡ 0 → None ≡ free_at rows ρ κ m d h
   unfolding free_at
   free_none z = rw z refl
 
-  free_at_lem : 0 < h → free_at rows ρ κ m d h ≡ cond (eqb (cell 4 rows (h - 1) 0) κ) (cond (ltb (cell 4 rows (h - 1) 1) (d + m)) Other (Named (ρ (cell 4 rows (h - 1) 1 - (d + m)) + d))) Other
+  free_at_lem : 0 < h → free_at rows ρ κ m d h ≡ cond (eqb (cell 4 rows (h - 1) 0) κ) (cond (ltb (cell 4 rows (h - 1) 1) (d + m)) None (Some (ρ (cell 4 rows (h - 1) 1 - (d + m)) + d))) None
   unfolding free_at
   free_at_lem p = go h p
     where
-      go : (h : ℕ) → 0 < h → free_at rows ρ κ m d h ≡ cond (eqb (cell 4 rows (h - 1) 0) κ) (cond (ltb (cell 4 rows (h - 1) 1) (d + m)) Other (Named (ρ (cell 4 rows (h - 1) 1 - (d + m)) + d))) Other
+      go : (h : ℕ) → 0 < h → free_at rows ρ κ m d h ≡ cond (eqb (cell 4 rows (h - 1) 0) κ) (cond (ltb (cell 4 rows (h - 1) 1) (d + m)) None (Some (ρ (cell 4 rows (h - 1) 1 - (d + m)) + d))) None
       go zero p = absurd (not-suc-le-zero p)
       go (suc r) p = let q : suc r - 1 ≡ r = omega arith in rw q refl
 
-  pub free_not : {k : ℕ} → 0 < h → k ≡ cell 4 rows (h - 1) 0 → (k ≡ κ → ⊥) → Other ≡ free_at rows ρ κ m d h
+  pub free_not : {k : ℕ} → 0 < h → k ≡ cell 4 rows (h - 1) 0 → (k ≡ κ → ⊥) → None ≡ free_at rows ρ κ m d h
   free_not p e n = rw (free_at_lem p, ne_eqb (cell 4 rows (h - 1) 0) κ (λ z. n (e ∙ z))) refl
 
   module _ {k a : ℕ} (p : 0 < h) (e : k ≡ cell 4 rows (h - 1) 0) (f : a ≡ cell 4 rows (h - 1) 1) (g : k ≡ κ) where
-    pub free_low : a < d + m → Other ≡ free_at rows ρ κ m d h
+    pub free_low : a < d + m → None ≡ free_at rows ρ κ m d h
     free_low l = rw (free_at_lem p, eq-eqb (cell 4 rows (h - 1) 0) κ (sym e ∙ g), lt-ltb (cell 4 rows (h - 1) 1) (d + m) (omega arith)) refl
 
-    pub free_named : {x : ℕ} → d + m ≤ a → x ≡ ρ (a - (d + m)) + d → Named x ≡ free_at rows ρ κ m d h
+    pub free_named : {x : ℕ} → d + m ≤ a → x ≡ ρ (a - (d + m)) + d → Some x ≡ free_at rows ρ κ m d h
     free_named l z = rw (free_at_lem p, eq-eqb (cell 4 rows (h - 1) 0) κ (sym e ∙ g), le-ltb (cell 4 rows (h - 1) 1) (d + m) (omega arith), z, f) refl

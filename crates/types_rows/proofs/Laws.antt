@@ -7,7 +7,7 @@ use native.Mathlib.Omega.{arith}
 use native.Mathlib.Nat.{not-suc-le-zero}
 use lib.Dec.{eqb, leb, ltb, leb-suc-suc}
 use lib.ListN.{length, get_or}
-use borrow.Author.Tests.{ne_eqb, leb-false, leb-true, ltb-true, eqb-false, le-leb, lt-leb, lt-ltb, le-ltb}
+use borrow.Author.Tests.{ne_eqb, leb-false, leb-true, ltb-true, ltb-false, eqb-false, lt-ltb, le-ltb}
 use Rattle.syntax.specs.Syntax.{Kind, value, stack}
 use Rattle.types.specs.Types.{Ty, int, junk, var, tuple, pointer, hidden, code, nil, push, svar, gap, join, items, variable, below, walk, raise, Arg, arg, of_kind}
 use Rattle.types.proofs.Filling.{join_nil, items_join, walk_join}
@@ -16,13 +16,10 @@ use Rattle.types_rows.specs.declared.Val.{Val}
 use Rattle.types_rows.specs.declared.Val.TheVariants.{Int, Junk, ValVar, ValFill, Tuple, Pointer, Code, Hidden}
 use Rattle.types_rows.specs.declared.Stk.{Stk}
 use Rattle.types_rows.specs.declared.Stk.TheVariants.{Nil, StkVar, StkFill, Push, Join}
-use Rattle.types_rows.specs.declared.Slot.{Slot}
-use Rattle.types_rows.specs.declared.Slot.TheVariants.{Gap, Known}
-use Rattle.types_rows.specs.declared.Step.{Step}
-use Rattle.types_rows.specs.declared.Step.TheVariants.{Stay, Down}
+use Rattle.std.specs.Prelude.{Option, Some, None}
+use Rattle.types_rows.specs.declared.Place.{Place}
 use Rattle.types_rows.specs.declared.Item.{Item}
-use Rattle.types_rows.specs.declared.Item.TheVariants.{NoItem}
-use Rattle.types_rows.specs.Read.{lower, value_with, stack_with, value_at, stack_at, slot_at, on_slot, parts_of, build_v, build_s, value_to, stack_to, mean_v, mean_s, placed, acting, lift, value_under, stack_under, parts_under, code_of, code_under, place_v, place_s, OkV, OkS, OkSlot, drop_s, take_s, items_at, CountedTo, down_of, Narrowed, head_of, ItemOf}
+use Rattle.types_rows.specs.Read.{lower, value_with, stack_with, value_at, stack_at, slot_at, on_slot, parts_of, build_v, build_s, value_to, stack_to, mean_v, mean_s, placed, acting, lift, value_under, stack_under, parts_under, code_of, code_under, place_v, place_s, OkV, OkS, OkSlot, drop_s, take_s, items_at, CountedTo, down, down_of, Narrowed, head_of, ItemOf}
 
 pub never : {A : Type 0} → ◌≡◌ {A = ℕ} 0 1 → A
 never e = absurd (omega arith)
@@ -50,34 +47,48 @@ pub stack_link : (rows : List ℕ) (f : ℕ → Stk) (h : ℕ) → 0 < h → sta
 stack_link rows f zero p = absurd (not-suc-le-zero p)
 stack_link rows f (suc r) p = let q : suc r - 1 ≡ r = omega arith in rw q refl
 
-pub items_link : (rows : List ℕ) (h : ℕ) → 0 < h → cell 4 rows (h - 1) 3 ≡ items_at rows h
-items_link rows zero p = absurd (not-suc-le-zero p)
-items_link rows (suc r) p = let q : suc r - 1 ≡ r = omega arith in rw q refl
+-- of a variable
+pub value_variable : (rows : List ℕ) (f : ℕ → Val) (h k a : ℕ) → 0 < h → k ≡ cell 4 rows (h - 1) 0 → k ≡ 2 → a ≡ cell 4 rows (h - 1) 1 → f a ≡ value_at rows f h
+unfolding value_with
+value_variable rows f h k a p ek z ea =
+    let e : cell 4 rows (h - 1) 0 ≡ 2 = sym ek ∙ z in
+    let w : f a ≡ value_with f h (cell 4 rows (h - 1) 0) (cell 4 rows (h - 1) 1) (cell 4 rows (h - 1) 2) = rw (e, ← ea) refl in
+    w ∙ value_link rows f h p
 
-pub slot_gap : (h x : ℕ) → x ≡ 0 → Gap ≡ slot_at true h x
-slot_gap h zero e = refl
-slot_gap h (suc x) e = absurd (omega arith)
+pub stack_variable : (rows : List ℕ) (f : ℕ → Stk) (h k a : ℕ) → 0 < h → k ≡ cell 4 rows (h - 1) 0 → k ≡ 8 → a ≡ cell 4 rows (h - 1) 1 → f a ≡ stack_at rows f h
+unfolding stack_with
+stack_variable rows f h k a p ek z ea =
+    let e : cell 4 rows (h - 1) 0 ≡ 8 = sym ek ∙ z in
+    let w : f a ≡ stack_with f h (cell 4 rows (h - 1) 0) (cell 4 rows (h - 1) 1) (cell 4 rows (h - 1) 2) = rw (e, ← ea) refl in
+    w ∙ stack_link rows f h p
 
-pub slot_row : (h x : ℕ) → (x ≡ 0 → ⊥) → Known (lower h (x - 1)) ≡ slot_at true h x
-slot_row h zero e = absurd (e refl)
-slot_row h (suc x) e = let q : suc x - 1 ≡ x = omega arith in rw q refl
+-- of the last kinds
+pub stack_join : (rows : List ℕ) (f : ℕ → Stk) (h k a b x y : ℕ) → 0 < h → 9 < k → k ≡ cell 4 rows (h - 1) 0 → a ≡ cell 4 rows (h - 1) 1 → b ≡ cell 4 rows (h - 1) 2
+    → x ≡ lower h a → y ≡ lower h b → Join x y ≡ stack_at rows f h
+unfolding stack_with
+stack_join rows f h k a b x y p l ek ea eb ex ey =
+    let q : k ≡ 8 → ⊥ = omega arith in
+    let r : k ≡ 9 → ⊥ = omega arith in
+    let w : Join x y ≡ stack_with f h k a b = rw (le-ltb k 8 (omega arith), ne_eqb k 8 q, ne_eqb k 9 r, ex, ey) refl in
+    w ∙ rw (ek, ea, eb) (stack_link rows f h p)
 
--- what is placed names no row
-pub ok_placed : (m h : ℕ) (ρ : ℕ → ℕ) (d k : ℕ) {v : Val} → v ≡ place_v m ρ d k → OkV m 0 v → OkV m h v
-ok_placed m h ρ d k {v} e o = rw e (go (ltb k d) (ltb (k - d) m) (rw e at o))
-  where
-    go : (x y : Bool) → OkV m 0 (cond x (ValVar k) (cond y (ValFill (k - d)) (ValVar (ρ ((k - d) - m) + d)))) → OkV m h (cond x (ValVar k) (cond y (ValFill (k - d)) (ValVar (ρ ((k - d) - m) + d))))
-    go true y o = tt
-    go false true o = o
-    go false false o = tt
+-- a variable that is placed; it names no row
+module _ (m h by d k : ℕ) where
+  pub value_placed : {v : Val} → (k < d → v ≡ ValVar k) → (d ≤ k → k - d < m → v ≡ ValFill (k - d)) → (d ≤ k → m ≤ k - d → v ≡ ValVar ((((k - d) - m) + by) + d)) → (v ≡ place_v m (lift by) d k) × OkV m h v
+  value_placed {v} a b c = go (ltb k d) (ltb (k - d) m) refl refl
+    where
+      go : (x y : Bool) → ltb k d ≡ x → ltb (k - d) m ≡ y → (v ≡ place_v m (lift by) d k) × OkV m h v
+      go true y e f = rw (a (ltb-true k d e), e) (refl, tt)
+      go false true e f = rw (b (ltb-false k d e) (ltb-true (k - d) m f), e, f) (refl, ltb-true (k - d) m f)
+      go false false e f = rw (c (ltb-false k d e) (ltb-false (k - d) m f), e, f) (refl, tt)
 
-pub ok_placed_s : (m h : ℕ) (ρ : ℕ → ℕ) (d k : ℕ) {v : Stk} → v ≡ place_s m ρ d k → OkS m 0 v → OkS m h v
-ok_placed_s m h ρ d k {v} e o = rw e (go (ltb k d) (ltb (k - d) m) (rw e at o))
-  where
-    go : (x y : Bool) → OkS m 0 (cond x (StkVar k) (cond y (StkFill (k - d)) (StkVar (ρ ((k - d) - m) + d)))) → OkS m h (cond x (StkVar k) (cond y (StkFill (k - d)) (StkVar (ρ ((k - d) - m) + d))))
-    go true y o = tt
-    go false true o = o
-    go false false o = tt
+  pub stack_placed : {v : Stk} → (k < d → v ≡ StkVar k) → (d ≤ k → k - d < m → v ≡ StkFill (k - d)) → (d ≤ k → m ≤ k - d → v ≡ StkVar ((((k - d) - m) + by) + d)) → (v ≡ place_s m (lift by) d k) × OkS m h v
+  stack_placed {v} a b c = go (ltb k d) (ltb (k - d) m) refl refl
+    where
+      go : (x y : Bool) → ltb k d ≡ x → ltb (k - d) m ≡ y → (v ≡ place_s m (lift by) d k) × OkS m h v
+      go true y e f = rw (a (ltb-true k d e), e) (refl, tt)
+      go false true e f = rw (b (ltb-false k d e) (ltb-true (k - d) m f), e, f) (refl, ltb-true (k - d) m f)
+      go false false e f = rw (c (ltb-false k d e) (ltb-false (k - d) m f), e, f) (refl, tt)
 
 -- with nothing to place
 plain_v : (k : ℕ) → place_v 0 (lift 0) 0 k ≡ ValVar k
@@ -150,9 +161,9 @@ slot_low true h (suc x) p = lower_low h x p
 
 -- ---- meanings that agree below h agree at row h
 module _ (h : ℕ) (f g : ℕ → Ty value) (u v : ℕ → Ty stack) (e : (x : ℕ) → x < h → f x ≡ g x) (i : (x : ℕ) → x < h → u x ≡ v x) where
-  same_on : (s : Slot) (a b : Ty stack) → OkSlot h s → a ≡ b → on_slot f s a ≡ on_slot g s b
-  same_on Gap a b l q = ap gap q
-  same_on (Known t) a b l q = ap₂ push (e t l) q
+  same_on : (s : Option ℕ) (a b : Ty stack) → OkSlot h s → a ≡ b → on_slot f s a ≡ on_slot g s b
+  same_on None a b l q = ap gap q
+  same_on (Some t) a b l q = ap₂ push (e t l) q
 
   pub same_parts : (ps : List ℕ) (file : Bool) (p n : ℕ) → 0 < h → parts_of f ps file h p n ≡ parts_of g ps file h p n
   unfolding parts_of
@@ -203,24 +214,6 @@ module _ (τ : RowTable) where
   unfolding mean_v mean_s value_to
   stack_is h =
       same_build_s h (value_to h τ) (λ x. value_to (suc x) τ x) (stack_to h τ) (λ x. stack_to (suc x) τ x) (λ x l. same_v h (suc x) x l (omega arith)) (λ x l. same_s h (suc x) x l (omega arith)) (stack_at τ.rows StkVar h) (low_s_at τ.rows h)
-
--- ---- what the readers read
-module _ (rows : List ℕ) (h k a b m : ℕ) (ρ : ℕ → ℕ) (d : ℕ) (p : 0 < h) (e : k ≡ cell 4 rows (h - 1) 0) (f : a ≡ cell 4 rows (h - 1) 1) (g : b ≡ cell 4 rows (h - 1) 2) where
-  pub value_of : {v : Val} → v ≡ value_with (place_v m ρ d) h k a b → v ≡ value_at rows (place_v m ρ d) h
-  value_of i = i ∙ rw (e, f, g) (value_link rows (place_v m ρ d) h p)
-
-  pub stack_of : {v : Stk} → v ≡ stack_with (place_s m ρ d) h k a b → v ≡ stack_at rows (place_s m ρ d) h
-  stack_of i = i ∙ rw (e, f, g) (stack_link rows (place_s m ρ d) h p)
-
-module _ (file : Bool) (h x : ℕ) where
-  pub part_gap : {y : ℕ} → file ≡ true → x ≡ y → x ≡ 0 → (Gap ≡ slot_at file h y) × OkSlot h Gap
-  part_gap {y} t e z = (rw (t, ← e) (slot_gap h x z), tt)
-
-  pub part_row : (l : ℕ) {y : ℕ} → 0 < h → file ≡ true → x ≡ y → (x ≡ 0 → ⊥) → l ≡ lower h (x - 1) → (Known l ≡ slot_at file h y) × OkSlot h (Known l)
-  part_row l {y} p t e z i = (rw (t, ← e, i) (slot_row h x z), rw i (lower_low h (x - 1) p))
-
-  pub part_comp : (l : ℕ) {y : ℕ} → 0 < h → file ≡ false → x ≡ y → l ≡ lower h x → (Known l ≡ slot_at file h y) × OkSlot h (Known l)
-  part_comp l {y} p t e i = (rw (t, ← e, i) refl, rw i (lower_low h x p))
 
 -- ---- stacks by position
 pub drop_nil : (n : ℕ) → drop_s n nil ≡ nil
@@ -319,56 +312,48 @@ unfolding items
 items_push t a = refl
 
 -- ---- one row further down
-pub down_top : (rows : List ℕ) (t x j n : ℕ) → j ≡ 0 → Stay ≡ down_of rows (Push t x) j n
-down_top rows t x j n e = rw e refl
+some_same : {A : Type 0} {p q : A} → Some p ≡ Some q → p ≡ q
+some_same e = cc
 
-pub down_under : (rows : List ℕ) (t x j n : ℕ) → (j ≡ 0 → ⊥) → Down x (j - 1) ≡ down_of rows (Push t x) j n
+down_same : (a i y k : ℕ) → down a i ≡ down y k → (a ≡ y) × (i ≡ k)
+down_same a i y k e =
+    let p : ◌≡◌ {A = Place} (record { row = a; at = i }) (record { row = y; at = k }) = some_same e in
+    (ap (λ (x : Place). x.row) p, ap (λ (x : Place). x.at) p)
+
+pub down_under : (rows : List ℕ) (t x j n : ℕ) → (j ≡ 0 → ⊥) → down x (j - 1) ≡ down_of rows (Push t x) j n
 down_under rows t x j n e = rw (ne_eqb j 0 e) refl
-
-module _ (rows : List ℕ) (x y j n c : ℕ) (e : c ≡ items_at rows x) where
-  pub down_second : c ≤ j → Down y (j - c) ≡ down_of rows (Join x y) j n
-  down_second l = rw (← e, le-leb c j l) refl
-
-  pub down_first : j < c → n ≤ c - j → Down x j ≡ down_of rows (Join x y) j n
-  down_first l g = rw (← e, lt-leb c j l, le-leb n (c - j) g) refl
-
-  pub down_both : j < c → c - j < n → Stay ≡ down_of rows (Join x y) j n
-  down_both l g = rw (← e, lt-leb c j l, lt-leb n (c - j) g) refl
 
 pub ok_form : (m h : ℕ) {n k : Stk} → OkS m h n → n ≡ k → OkS m h k
 ok_form m h o e = rw e at o
-
-pub down_is : (rows : List ℕ) (h j n : ℕ) {f g : Stk} → f ≡ stack_at rows (place_s 0 (lift 0) 0) h → f ≡ g → down_of rows g j n ≡ down_of rows (stack_at rows StkVar h) j n
-down_is rows h j n e q = ap (λ z. down_of rows z j n) (sym q ∙ e ∙ plain_stack rows h)
 
 module _ (τ : RowTable) (r x i n : ℕ) (c : CountedTo τ r) (l : x ≤ r) where
   -- what a step down keeps of a stack a from item i on
   abbrev Kept : Ty stack → ℕ → ℕ → Type 0
   Kept a y k = (y < x) × (k ≤ i) × (take_s n (drop_s i a) ≡ take_s n (drop_s k (mean_s τ y))) × (items (mean_s τ y) - k ≤ items a - i)
 
-  on_push : (t s y k : ℕ) → s < x → (b : Bool) → eqb i 0 ≡ b → cond b Stay (Down s (i - 1)) ≡ Down y k → Kept (push (mean_v τ t) (mean_s τ s)) y k
+  on_push : (t s y k : ℕ) → s < x → (b : Bool) → eqb i 0 ≡ b → cond b None (down s (i - 1)) ≡ down y k → Kept (push (mean_v τ t) (mean_s τ s)) y k
   on_push t s y k o true q e = never (cc)
   on_push t s y k o false q e =
-      let p : s ≡ y = cc in
-      let g : i - 1 ≡ k = cc in
+      let p = (down_same s (i - 1) y k e).0 in
+      let g = (down_same s (i - 1) y k e).1 in
       let z = eqb-false i 0 q in
       let w : items (mean_s τ s) ≡ items (mean_s τ y) = ap (λ v. items (mean_s τ v)) p in
       (omega arith, omega arith, ap (take_s n) (drop_push i (mean_v τ t) (mean_s τ s) z ∙ ap₂ (λ v w. drop_s v (mean_s τ w)) g p), let j = items_push (mean_v τ t) (mean_s τ s) in omega arith)
 
-  on_second : (a b y k : ℕ) → b < x → items_at τ.rows a ≤ i → a ≤ r → Down b (i - items_at τ.rows a) ≡ Down y k → Kept (join (mean_s τ a) (mean_s τ b)) y k
+  on_second : (a b y k : ℕ) → b < x → items_at τ.rows a ≤ i → a ≤ r → down b (i - items_at τ.rows a) ≡ down y k → Kept (join (mean_s τ a) (mean_s τ b)) y k
   on_second a b y k o g u e =
       let w = c a u in
-      let p : b ≡ y = cc in
-      let q : i - items_at τ.rows a ≡ k = cc in
+      let p = (down_same b (i - items_at τ.rows a) y k e).0 in
+      let q = (down_same b (i - items_at τ.rows a) y k e).1 in
       let m = items_join (mean_s τ a) (mean_s τ b) in
       let f : items (mean_s τ b) ≡ items (mean_s τ y) = ap (λ v. items (mean_s τ v)) p in
       (omega arith, omega arith, ap (take_s n) (drop_right i (i - items_at τ.rows a) (mean_s τ a) (mean_s τ b) (omega arith) ∙ ap₂ (λ v w. drop_s v (mean_s τ w)) q p), omega arith)
 
-  on_first : (a b y k : ℕ) → a < x → i < items_at τ.rows a → a ≤ r → (v : Bool) → leb n (items_at τ.rows a - i) ≡ v → cond v (Down a i) Stay ≡ Down y k → Kept (join (mean_s τ a) (mean_s τ b)) y k
+  on_first : (a b y k : ℕ) → a < x → i < items_at τ.rows a → a ≤ r → (v : Bool) → leb n (items_at τ.rows a - i) ≡ v → cond v (down a i) None ≡ down y k → Kept (join (mean_s τ a) (mean_s τ b)) y k
   on_first a b y k o g u true v e =
       let w = c a u in
-      let p : a ≡ y = cc in
-      let q : i ≡ k = cc in
+      let p = (down_same a i y k e).0 in
+      let q = (down_same a i y k e).1 in
       let m = leb-true n (items_at τ.rows a - i) v in
       let s = items_drop i (mean_s τ a) in
       let j = items_join (mean_s τ a) (mean_s τ b) in
@@ -376,18 +361,18 @@ module _ (τ : RowTable) (r x i n : ℕ) (c : CountedTo τ r) (l : x ≤ r) wher
       (omega arith, omega arith, ap (take_s n) (drop_left i (mean_s τ a) (mean_s τ b) (omega arith)) ∙ take_left n (drop_s i (mean_s τ a)) (mean_s τ b) (omega arith) ∙ ap₂ (λ v w. take_s n (drop_s v (mean_s τ w))) q p, omega arith)
   on_first a b y k o g u false v e = never (cc)
 
-  on_join : (a b y k : ℕ) → a < x → b < x → (v : Bool) → leb (items_at τ.rows a) i ≡ v → cond v (Down b (i - items_at τ.rows a)) (cond (leb n (items_at τ.rows a - i)) (Down a i) Stay) ≡ Down y k → Kept (join (mean_s τ a) (mean_s τ b)) y k
+  on_join : (a b y k : ℕ) → a < x → b < x → (v : Bool) → leb (items_at τ.rows a) i ≡ v → cond v (down b (i - items_at τ.rows a)) (cond (leb n (items_at τ.rows a - i)) (down a i) None) ≡ down y k → Kept (join (mean_s τ a) (mean_s τ b)) y k
   on_join a b y k o u true v e = on_second a b y k u (leb-true (items_at τ.rows a) i v) (omega arith) e
   on_join a b y k o u false v e = on_first a b y k o (leb-false (items_at τ.rows a) i v) (omega arith) (leb n (items_at τ.rows a - i)) refl e
 
-  on_form : (f : Stk) (y k : ℕ) → LowS x f → down_of τ.rows f i n ≡ Down y k → Kept (build_s (mean_v τ) (mean_s τ) f) y k
+  on_form : (f : Stk) (y k : ℕ) → LowS x f → down_of τ.rows f i n ≡ down y k → Kept (build_s (mean_v τ) (mean_s τ) f) y k
   on_form Nil y k o e = never (cc)
   on_form (StkVar j) y k o e = never (cc)
   on_form (StkFill j) y k o e = never (cc)
   on_form (Push t s) y k o e = on_push t s y k o.1 (eqb i 0) refl e
   on_form (Join a b) y k o e = on_join a b y k o.0 o.1 (leb (items_at τ.rows a) i) refl e
 
-  pub down_step : (y k : ℕ) {s : Step} → s ≡ down_of τ.rows (stack_at τ.rows StkVar x) i n → s ≡ Down y k → Kept (mean_s τ x) y k
+  pub down_step : (y k : ℕ) {s : Option Place} → s ≡ down_of τ.rows (stack_at τ.rows StkVar x) i n → s ≡ down y k → Kept (mean_s τ x) y k
   down_step y k e f = rw (stack_is τ x) (on_form (stack_at τ.rows StkVar x) y k (low_s_at τ.rows x) (sym e ∙ f))
 
 -- ---- the lowest place
@@ -396,7 +381,7 @@ module _ (τ : RowTable) (r j n : ℕ) where
   abbrev pub Found : ℕ → ℕ → Type 0
   Found x i = (x ≤ r) × (i ≤ j) × (take_s n (drop_s j (mean_s τ r)) ≡ take_s n (drop_s i (mean_s τ x))) × (items (mean_s τ x) - i ≤ items (mean_s τ r) - j)
 
-  pub found_next : (x i y k : ℕ) {s : Step} → CountedTo τ r → Found x i → s ≡ down_of τ.rows (stack_at τ.rows StkVar x) i n → s ≡ Down y k → Found y k
+  pub found_next : (x i y k : ℕ) {s : Option Place} → CountedTo τ r → Found x i → s ≡ down_of τ.rows (stack_at τ.rows StkVar x) i n → s ≡ down y k → Found y k
   found_next x i y k c f e g =
       let f0 = f.0 in
       let f1 = f.1 in
@@ -406,9 +391,6 @@ module _ (τ : RowTable) (r j n : ℕ) where
       let z1 = z.1 in
       let z3 = z.3 in
       (omega arith, omega arith, f.2 ∙ z.2, omega arith)
-
-  pub found_last : (x i : ℕ) {s : Step} → Found x i → s ≡ down_of τ.rows (stack_at τ.rows StkVar x) i n → s ≡ Stay → Narrowed τ r j n x i
-  found_last x i f e g = record { row_low = f.0; at_low = f.1; same = f.2; rest = f.3; stays = sym e ∙ g }
 
 -- ---- variables in a context
 abbrev pub no_arg : Arg
@@ -535,23 +517,23 @@ module _ (τ : RowTable) (ρ : ℕ → ℕ) (d : ℕ) where
 
 -- ---- item j
 -- a place with one item that no lower row has is that item, or past the end
-stays_join : (rows : List ℕ) (x y i : ℕ) {B : Type 0} → down_of rows (Join x y) i 1 ≡ Stay → B
+stays_join : (rows : List ℕ) (x y i : ℕ) {B : Type 0} → down_of rows (Join x y) i 1 ≡ None → B
 stays_join rows x y i {B} e = go (leb (items_at rows x) i) (leb 1 (items_at rows x - i)) refl refl e
   where
-    go : (u v : Bool) → leb (items_at rows x) i ≡ u → leb 1 (items_at rows x - i) ≡ v → cond u (Down y (i - items_at rows x)) (cond v (Down x i) Stay) ≡ Stay → B
+    go : (u v : Bool) → leb (items_at rows x) i ≡ u → leb 1 (items_at rows x - i) ≡ v → cond u (down y (i - items_at rows x)) (cond v (down x i) None) ≡ None → B
     go true v p q e = never (cc)
     go false true p q e = never (cc)
     go false false p q e = let g = leb-false (items_at rows x) i p in let k = leb-false 1 (items_at rows x - i) q in absurd (omega arith)
 
-stays_push : (rows : List ℕ) (t x i n : ℕ) {B : Type 0} → (i ≡ 0 → ⊥) → down_of rows (Push t x) i n ≡ Stay → B
-stays_push rows t x i n z e = let q : Down x (i - 1) ≡ Stay = down_under rows t x i n z ∙ e in never (cc)
+stays_push : (rows : List ℕ) (t x i n : ℕ) {B : Type 0} → (i ≡ 0 → ⊥) → down_of rows (Push t x) i n ≡ None → B
+stays_push rows t x i n z e = let q : down x (i - 1) ≡ None = down_under rows t x i n z ∙ e in never (cc)
 
 placed_down : (rows : List ℕ) (ρ : ℕ → ℕ) (d h i n : ℕ) → down_of rows (stack_at rows (place_s 0 ρ d) h) i n ≡ down_of rows (stack_at rows StkVar h) i n
 unfolding stack_with
 placed_down rows ρ d zero i n = refl
 placed_down rows ρ d (suc r) i n = go (cell 4 rows r 1) (cell 4 rows r 2) (ltb (cell 4 rows r 0) 8) (eqb (cell 4 rows r 0) 8) (eqb (cell 4 rows r 0) 9)
   where
-    on_var : (k : ℕ) (x y : Bool) → down_of rows (cond x (StkVar k) (cond y (StkFill (k - d)) (StkVar (ρ ((k - d) - 0) + d)))) i n ≡ Stay
+    on_var : (k : ℕ) (x y : Bool) → down_of rows (cond x (StkVar k) (cond y (StkFill (k - d)) (StkVar (ρ ((k - d) - 0) + d)))) i n ≡ None
     on_var k true y = refl
     on_var k false true = refl
     on_var k false false = refl
@@ -565,10 +547,10 @@ placed_down rows ρ d (suc r) i n = go (cell 4 rows r 1) (cell 4 rows r 2) (ltb 
 
 module _ (τ : RowTable) (ρ : ℕ → ℕ) (d h j x i : ℕ) (w : Narrowed τ h j 1 x i) where
   -- the whole from item j on, ρ its first item
-  from_nil : take_s 1 (drop_s j (stack_under τ [] ρ d h)) ≡ nil → ItemOf τ ρ d h (stack_under τ [] ρ d h) j NoItem
+  from_nil : take_s 1 (drop_s j (stack_under τ [] ρ d h)) ≡ nil → ItemOf τ ρ d h (stack_under τ [] ρ d h) j None
   from_nil e = one_nil (drop_s j (stack_under τ [] ρ d h)) e
 
-  from_form : (s : Stk) → OkS 0 x s → down_of τ.rows s 0 1 ≡ Stay → take_s 1 (drop_s j (stack_under τ [] ρ d h)) ≡ take_s 1 (type_s τ [] ρ d s) → ItemOf τ ρ d h (stack_under τ [] ρ d h) j (head_of s)
+  from_form : (s : Stk) → OkS 0 x s → down_of τ.rows s 0 1 ≡ None → take_s 1 (drop_s j (stack_under τ [] ρ d h)) ≡ take_s 1 (type_s τ [] ρ d s) → ItemOf τ ρ d h (stack_under τ [] ρ d h) j (head_of s)
   unfolding take_s
   from_form Nil o q e = from_nil e
   from_form (StkVar k) o q e = one_svar (drop_s j (stack_under τ [] ρ d h)) k e ∙ ap (svar k) (drop_next j (stack_under τ [] ρ d h))
@@ -579,21 +561,21 @@ module _ (τ : RowTable) (ρ : ℕ → ℕ) (d h j x i : ℕ) (w : Narrowed τ h
       (omega arith, one_push (drop_s j (stack_under τ [] ρ d h)) (value_under τ [] ρ d t) e ∙ ap (push (value_under τ [] ρ d t)) (drop_next j (stack_under τ [] ρ d h)))
   from_form (Join a b) o q e = stays_join τ.rows a b 0 q
 
-  pub item_head : {s : Stk} {o : Item} → s ≡ stack_at τ.rows (place_s 0 ρ d) x → OkS 0 x s → i ≡ 0 → o ≡ head_of s → ItemOf τ ρ d h (stack_under τ [] ρ d h) j o
+  pub item_head : {s : Stk} {o : Option Item} → s ≡ stack_at τ.rows (place_s 0 ρ d) x → OkS 0 x s → i ≡ 0 → o ≡ head_of s → ItemOf τ ρ d h (stack_under τ [] ρ d h) j o
   unfolding drop_s
   item_head {s} {o} e k z f =
-      let q : down_of τ.rows s 0 1 ≡ Stay = ap (λ v. down_of τ.rows v 0 1) e ∙ placed_down τ.rows ρ d x 0 1 ∙ ap (λ v. down_of τ.rows (stack_at τ.rows StkVar x) v 1) (sym z) ∙ w.stays in
+      let q : down_of τ.rows s 0 1 ≡ None = ap (λ v. down_of τ.rows v 0 1) e ∙ placed_down τ.rows ρ d x 0 1 ∙ ap (λ v. down_of τ.rows (stack_at τ.rows StkVar x) v 1) (sym z) ∙ w.stays in
       let p : take_s 1 (drop_s j (stack_under τ [] ρ d h)) ≡ take_s 1 (type_s τ [] ρ d s) = same_under τ ρ d w ∙ ap (λ v. take_s 1 (drop_s v (stack_under τ [] ρ d x))) z ∙ ap (take_s 1) (stack_read τ [] ρ d 0 x refl e refl) in
       rw f (from_form s k q p)
 
-  past_form : (s : Stk) → (i ≡ 0 → ⊥) → down_of τ.rows s i 1 ≡ Stay → drop_s i (build_s (mean_v τ) (mean_s τ) s) ≡ nil
+  past_form : (s : Stk) → (i ≡ 0 → ⊥) → down_of τ.rows s i 1 ≡ None → drop_s i (build_s (mean_v τ) (mean_s τ) s) ≡ nil
   past_form Nil z q = drop_nil i
   past_form (StkVar k) z q = drop_last i k z
   past_form (StkFill k) z q = drop_nil i
   past_form (Push t y) z q = stays_push τ.rows t y i 1 z q
   past_form (Join a b) z q = stays_join τ.rows a b i q
 
-  pub item_none : (i ≡ 0 → ⊥) → ItemOf τ ρ d h (stack_under τ [] ρ d h) j NoItem
+  pub item_none : (i ≡ 0 → ⊥) → ItemOf τ ρ d h (stack_under τ [] ρ d h) j None
   unfolding stack_under walk
   item_none z =
       let q : drop_s i (mean_s τ x) ≡ nil = ap (drop_s i) (stack_is τ x) ∙ past_form (stack_at τ.rows StkVar x) z w.stays in

@@ -6,8 +6,7 @@ use Rattle.syntax.specs.Syntax.{Kind}
 use Rattle.types.specs.Types.{Ty, walk}
 use Rattle.types_rows.specs.Read.{acting}
 use Rattle.tables.specs.Tables.{cell}
-use Rattle.types_rows.specs.declared.variables.Free.{Free}
-use Rattle.types_rows.specs.declared.variables.Free.TheVariants.{Other, Named}
+use Rattle.std.specs.Prelude.{Option, Some, None}
 
 -- which variable now variable j of environment e is, E being the environments of the packages opened so far
 unfoldable pub var_in : List ℕ → ℕ → ℕ → ℕ
@@ -40,6 +39,6 @@ pub record EnvironmentIn (E : List ℕ) (e : ℕ) : Type 0 where
   pub small : e ≤ 131072
 
 -- row h, if it is a variable of kind κ (2 a value, 8 a stack) past d binders and m arguments: which variable stands for it
-unfoldable pub free_at : List ℕ → (ℕ → ℕ) → ℕ → ℕ → ℕ → ℕ → Free
-free_at rows ρ κ m d zero = Other
-free_at rows ρ κ m d (suc r) = cond (eqb (cell 4 rows r 0) κ) (cond (ltb (cell 4 rows r 1) (d + m)) Other (Named (ρ (cell 4 rows r 1 - (d + m)) + d))) Other
+unfoldable pub free_at : List ℕ → (ℕ → ℕ) → ℕ → ℕ → ℕ → ℕ → Option ℕ
+free_at rows ρ κ m d zero = None
+free_at rows ρ κ m d (suc r) = cond (eqb (cell 4 rows r 0) κ) (cond (ltb (cell 4 rows r 1) (d + m)) None (Some (ρ (cell 4 rows r 1 - (d + m)) + d))) None

@@ -9,12 +9,10 @@ use Rattle.types_rows.specs.declared.Val.{Val}
 use Rattle.types_rows.specs.declared.Val.TheVariants.{Int, Junk, ValVar, ValFill, Tuple, Pointer, Code, Hidden}
 use Rattle.types_rows.specs.declared.Stk.{Stk}
 use Rattle.types_rows.specs.declared.Stk.TheVariants.{Nil, StkVar, StkFill, Push, Join}
-use Rattle.types_rows.specs.declared.Slot.{Slot}
-use Rattle.types_rows.specs.declared.Slot.TheVariants.{Gap, Known}
-use Rattle.types_rows.specs.declared.Step.{Step}
-use Rattle.types_rows.specs.declared.Step.TheVariants.{Stay, Down}
+use Rattle.std.specs.Prelude.{Option, Some, None}
+use Rattle.types_rows.specs.declared.Place.{Place}
 use Rattle.types_rows.specs.declared.Item.{Item}
-use Rattle.types_rows.specs.declared.Item.TheVariants.{NoItem, ValItem, VarItem}
+use Rattle.types_rows.specs.declared.Item.TheVariants.{Val as ValItem, Var as VarItem}
 
 -- rows and parts as a table
 abbrev pub tab : List ℕ → List ℕ → RowTable
@@ -57,16 +55,16 @@ abbrev pub is_stack_at : List ℕ → ℕ → Bool
 is_stack_at rows r = leb 7 (cell 4 rows r 0)
 
 -- a register, or a component
-abbrev pub slot_at : Bool → ℕ → ℕ → Slot
-slot_at false h x = Known (lower h x)
-slot_at true h zero = Gap
-slot_at true h (suc t) = Known (lower h t)
+abbrev pub slot_at : Bool → ℕ → ℕ → Option ℕ
+slot_at false h x = Some (lower h x)
+slot_at true h zero = None
+slot_at true h (suc t) = Some (lower h t)
 
 -- ---- what a row means, v and s being what lower rows mean
 -- a part on top of the list a
-abbrev pub on_slot : (ℕ → Ty value) → Slot → Ty stack → Ty stack
-on_slot v Gap a = gap a
-on_slot v (Known t) a = push (v t) a
+abbrev pub on_slot : (ℕ → Ty value) → Option ℕ → Ty stack → Ty stack
+on_slot v None a = gap a
+on_slot v (Some t) a = push (v t) a
 
 -- the n parts from p on, registers if `file`
 unfoldable pub parts_of : (ℕ → Ty value) → List ℕ → Bool → ℕ → ℕ → ℕ → Ty stack
@@ -190,9 +188,9 @@ OkS m h (Push t x) = (t < h) × (x < h)
 OkS m h (Join x y) = (x < h) × (y < h)
 
 -- a part's row is lower
-abbrev pub OkSlot : ℕ → Slot → Type 0
-OkSlot h Gap = Unit
-OkSlot h (Known t) = t < h
+abbrev pub OkSlot : ℕ → Option ℕ → Type 0
+OkSlot h None = Unit
+OkSlot h (Some t) = t < h
 
 -- ---- stacks by position
 -- the stack without its first n items
@@ -225,13 +223,17 @@ pub record Counted (τ : RowTable) (n : ℕ) : Type 0 where
   pub few : n ≤ 65536
   pub counts : (x : ℕ) → x < n → cell 4 τ.rows x 3 ≡ items (type_at stack (types_of (rows_in τ n)) x)
 
+-- a place one row further down
+abbrev pub down : ℕ → ℕ → Option Place
+down x j = Some (record { row = x; at = j })
+
 -- where the n items from item j on of a stack row of this form stand one row further down
-abbrev pub down_of : List ℕ → Stk → ℕ → ℕ → Step
-down_of rows Nil j n = Stay
-down_of rows (StkVar k) j n = Stay
-down_of rows (StkFill i) j n = Stay
-down_of rows (Push t x) j n = cond (eqb j 0) Stay (Down x (j - 1))
-down_of rows (Join x y) j n = cond (leb (items_at rows x) j) (Down y (j - items_at rows x)) (cond (leb n (items_at rows x - j)) (Down x j) Stay)
+abbrev pub down_of : List ℕ → Stk → ℕ → ℕ → Option Place
+down_of rows Nil j n = None
+down_of rows (StkVar k) j n = None
+down_of rows (StkFill i) j n = None
+down_of rows (Push t x) j n = cond (eqb j 0) None (down x (j - 1))
+down_of rows (Join x y) j n = cond (leb (items_at rows x) j) (down y (j - items_at rows x)) (cond (leb n (items_at rows x - j)) (down x j) None)
 
 -- up to n items from item i of row x on are those from item j of row r on, with no more after them, and no lower row has them
 pub record Narrowed (τ : RowTable) (r j n x i : ℕ) : Type 0 where
@@ -239,18 +241,18 @@ pub record Narrowed (τ : RowTable) (r j n x i : ℕ) : Type 0 where
   pub at_low : i ≤ j
   pub same : take_s n (drop_s j (mean_s τ r)) ≡ take_s n (drop_s i (mean_s τ x))
   pub rest : items (mean_s τ x) - i ≤ items (mean_s τ r) - j
-  pub stays : down_of τ.rows (stack_at τ.rows StkVar x) i n ≡ Stay
+  pub stays : down_of τ.rows (stack_at τ.rows StkVar x) i n ≡ None
 
 -- the first item of a stack row of this form
-abbrev pub head_of : Stk → Item
-head_of Nil = NoItem
-head_of (StkVar k) = VarItem k
-head_of (StkFill j) = NoItem
-head_of (Push t x) = ValItem t
-head_of (Join x y) = NoItem
+abbrev pub head_of : Stk → Option Item
+head_of Nil = None
+head_of (StkVar k) = Some (VarItem k)
+head_of (StkFill j) = None
+head_of (Push t x) = Some (ValItem t)
+head_of (Join x y) = None
 
 -- item j of the stack a, whose value items are rows below h
-abbrev pub ItemOf : RowTable → (ℕ → ℕ) → ℕ → ℕ → Ty stack → ℕ → Item → Type 0
-ItemOf τ ρ d h a j NoItem = drop_s j a ≡ nil
-ItemOf τ ρ d h a j (ValItem t) = (t < h) × (drop_s j a ≡ push (value_under τ [] ρ d t) (drop_s (suc j) a))
-ItemOf τ ρ d h a j (VarItem k) = drop_s j a ≡ svar k (drop_s (suc j) a)
+abbrev pub ItemOf : RowTable → (ℕ → ℕ) → ℕ → ℕ → Ty stack → ℕ → Option Item → Type 0
+ItemOf τ ρ d h a j None = drop_s j a ≡ nil
+ItemOf τ ρ d h a j (Some (ValItem t)) = (t < h) × (drop_s j a ≡ push (value_under τ [] ρ d t) (drop_s (suc j) a))
+ItemOf τ ρ d h a j (Some (VarItem k)) = drop_s j a ≡ svar k (drop_s (suc j) a)

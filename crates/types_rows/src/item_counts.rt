@@ -13,13 +13,11 @@ fn count_row(rows: &[u16], h: usize) -> usize
     requires { h ≤ 65536 }
     ensures { (parts : List ℕ) → ((x : ℕ) → x < h → items_at rows.now x ≡ items (mean_s (tab rows.now parts) x)) → result ≡ items (mean_s (tab rows.now parts) h) }
 {
-    let n = crate::read_stack(rows, h, 0, 0, 0);
-    match n {
-        Stk::Nil => 0,
+    match crate::read_stack(rows, h, 0, 0, 0) {
         Stk::StkVar(_) => 1,
-        Stk::StkFill(_) => 0,
         Stk::Push(_, x) => crate::item_count(rows, x) + 1,
         Stk::Join(x, y) => crate::item_count(rows, x) + crate::item_count(rows, y),
+        _ => 0,
     }
 }
 
@@ -28,10 +26,8 @@ pub fn count_items(rows: &mut [u16], n: usize)
     requires { (n ≤ 65536) × (4 * n ≤ length rows.old) × ((parts : List ℕ) × SizesFit rows.old parts n) }
     ensures { (parts : List ℕ) → SizesFit rows.old parts n → CountsFilled rows.old rows.new parts n }
 {
-    let mut r = 0;
-    while r < n {
-        let c = count_row(rows, r + 1);
-        rows[4 * r + 3] = crate::measure::narrow(c);
-        r += 1;
+    for r in 0..n {
+        let count = count_row(rows, r + 1);
+        rows[4 * r + 3] = count as u16;
     }
 }

@@ -1,29 +1,11 @@
 // Pass two's size of a row, with a limit: `size_over` says exactly whether it is above 4,096 (module size stops as soon as it is), and
 // keeps the size of a row within the limit.
 // Promised: fault 6 of crate types, and that the table of sizes stays right. Asked: a table of sizes that are right.
-ghost use Rattle.std.specs.Prelude.{◌≡◌, ◌+◌, ◌≤◌, ltb, set};
+ghost use Rattle.std.specs.Prelude.{◌≡◌, ◌≤◌, ltb};
 ghost use Rattle.types.specs.Rows.{size_of, sizes_of};
 ghost use Rattle.tables.specs.Tables.{row_at, rows_in};
 ghost use Rattle.types_rows.specs.Read.{tab};
 ghost use Rattle.types_rows.specs.size.Size.{Measured};
-
-// A number as an entry of a table.
-pub(crate) fn narrow(x: usize) -> u16
-    requires { x ≤ 65535 }
-    ensures { result ≡ x }
-{
-    x as u16
-}
-
-// Writes the size of row h, where there is room.
-fn keep_size(sizes: &mut [u16], h: usize, s: usize)
-    requires { s ≤ 65535 }
-    ensures { sizes.new ≡ set sizes.old h s }
-{
-    if h < sizes.len() {
-        sizes[h] = narrow(s);
-    }
-}
 
 // Row r is larger than 4,096 (fault 6). Of the rows that it names only lower ones count. The size of a row within the limit is kept.
 pub fn size_over(rows: &[u16], parts: &[u16], sizes: &mut [u16], r: usize) -> bool
@@ -34,6 +16,6 @@ pub fn size_over(rows: &[u16], parts: &[u16], sizes: &mut [u16], r: usize) -> bo
     if rest == 0 {
         return true;
     }
-    keep_size(sizes, r + 1, 4097 - rest);
+    tables::put(sizes, r + 1, (4097 - rest) as u16);
     false
 }

@@ -6,19 +6,9 @@ ghost use Rattle.std.specs.Prelude.{◌≡◌, ◌-◌, ◌≤◌};
 ghost use Rattle.types_rows.specs.Read.{tab, value_at, stack_at};
 ghost use Rattle.types_rows.specs.declared.Val.TheVariants.{ValVar};
 ghost use Rattle.types_rows.specs.declared.Stk.TheVariants.{StkVar};
-ghost use Rattle.types_rows.specs.size.Size.{size_at, slot_row, parts_size, under_v, under_s, PartsAt, Measured};
+ghost use Rattle.types_rows.specs.size.Size.{size_at, parts_size, under_v, under_s, PartsAt, Measured};
 
-use crate::{Slot, Stk, Val};
-
-// left - s, or 0.
-pub(crate) fn less(left: usize, s: usize) -> usize
-    ensures { result ≡ left - s }
-{
-    if left < s {
-        return 0;
-    }
-    left - s
-}
+use crate::{Stk, Val};
 
 // What is left of `left` after the size of row h, or 0. No row has no size.
 #[cycle(spend_parts_spend_row_spend_stack_spend_value)]
@@ -29,17 +19,18 @@ pub(crate) fn spend_row(rows: &[u16], parts: &[u16], sizes: &[u16], h: usize, le
     if h == 0 {
         return left;
     }
-    let s = crate::at(sizes, h);
+    let s = tables::at(sizes, h);
     if s != 0 {
-        return less(left, s);
+        return left.saturating_sub(s);
     }
     if left == 0 {
         return 0;
     }
     if crate::is_stack(rows, h - 1) {
-        return spend_stack(rows, parts, sizes, h, left - 1);
+        spend_stack(rows, parts, sizes, h, left - 1)
+    } else {
+        spend_value(rows, parts, sizes, h, left - 1)
     }
-    spend_value(rows, parts, sizes, h, left - 1)
 }
 
 // What is left after the rows that the value row h names.
@@ -48,19 +39,14 @@ fn spend_value(rows: &[u16], parts: &[u16], sizes: &[u16], h: usize, left: usize
     requires { (h ≤ 65536) × Measured (tab rows.now parts.now) sizes.now }
     ensures { result ≡ left - under_v (size_at (tab rows.now parts.now)) parts.now h (value_at rows.now ValVar h) }
 {
-    let n = crate::read_value(rows, h, 0, 0, 0);
-    match n {
-        Val::Int => left,
-        Val::Junk => left,
-        Val::ValVar(_) => left,
-        Val::ValFill(_) => left,
+    match crate::read_value(rows, h, 0, 0, 0) {
         Val::Tuple(p, c) => spend_parts(rows, parts, sizes, h, false, p, c, left),
-        Val::Pointer(x) => spend_row(rows, parts, sizes, x, left),
+        Val::Pointer(x) | Val::Hidden(x) => spend_row(rows, parts, sizes, x, left),
         Val::Code(x, p) => {
-            let e = spend_row(rows, parts, sizes, x, left);
-            spend_parts(rows, parts, sizes, h, true, p, 8, e)
+            let rest = spend_row(rows, parts, sizes, x, left);
+            spend_parts(rows, parts, sizes, h, true, p, 8, rest)
         }
-        Val::Hidden(x) => spend_row(rows, parts, sizes, x, left),
+        _ => left,
     }
 }
 
@@ -70,29 +56,12 @@ fn spend_stack(rows: &[u16], parts: &[u16], sizes: &[u16], h: usize, left: usize
     requires { (h ≤ 65536) × Measured (tab rows.now parts.now) sizes.now }
     ensures { result ≡ left - under_s (size_at (tab rows.now parts.now)) (stack_at rows.now StkVar h) }
 {
-    let n = crate::read_stack(rows, h, 0, 0, 0);
-    match n {
-        Stk::Nil => left,
-        Stk::StkVar(_) => left,
-        Stk::StkFill(_) => left,
-        Stk::Push(t, x) => {
-            let e = spend_row(rows, parts, sizes, t, left);
-            spend_row(rows, parts, sizes, x, e)
+    match crate::read_stack(rows, h, 0, 0, 0) {
+        Stk::Push(x, y) | Stk::Join(x, y) => {
+            let rest = spend_row(rows, parts, sizes, x, left);
+            spend_row(rows, parts, sizes, y, rest)
         }
-        Stk::Join(x, y) => {
-            let e = spend_row(rows, parts, sizes, x, left);
-            spend_row(rows, parts, sizes, y, e)
-        }
-    }
-}
-
-// The row that a part names; none for a gap.
-fn row_of(s: Slot) -> usize
-    ensures { result ≡ slot_row s }
-{
-    match s {
-        Slot::Gap => 0,
-        Slot::Known(t) => t,
+        _ => left,
     }
 }
 
@@ -112,11 +81,10 @@ fn spend_parts(
     ensures { result ≡ left - parts_size (size_at (tab rows.now parts.now)) parts.now file h p n }
 {
     let mut rest = left;
-    let mut i = 0;
-    while i < n {
-        let t = row_of(crate::part(parts, file, h, p + i));
-        rest = spend_row(rows, parts, sizes, t, rest);
-        i += 1;
+    for i in p..p + n {
+        if let Some(t) = crate::part(parts, file, h, i) {
+            rest = spend_row(rows, parts, sizes, t, rest);
+        }
     }
     rest
 }

@@ -5,14 +5,10 @@
 ghost use Rattle.std.specs.Prelude.{◌≡◌, true, ℕ, ◌+◌, ◌≤◌, ◌<◌, length, get_or};
 ghost use Rattle.types_rows.specs.Environments.{var_in, name_at, name_in, shifted, free_at, EnvironmentIn};
 
-// What a row is to an environment: a row that has nothing to do with it, or a free variable, and the variable that stands for it.
-#[derive(Clone, Copy)]
-pub enum Free {
-    Other,
-    Named(usize),
-}
+use tables::{at, cell};
 
 // Variable j of environment e, as it counts now; an even environment needs no look at the others.
+// Kept: a `while`. The walk ends at an even environment or at variable 0, whichever comes first, so a `for` over j would need both tests too.
 pub fn variable(envs: &[u16], e: usize, j: usize) -> usize
     requires { (e ≤ 131072) × (j ≤ 1099511627776) × (length envs.now ≤ 65535) }
     ensures { (result ≡ var_in envs.now e j) × (result ≤ j + length envs.now) }
@@ -21,12 +17,12 @@ pub fn variable(envs: &[u16], e: usize, j: usize) -> usize
     let mut k = j;
     while x % 2 != 0 {
         if k == 0 {
-            return crate::size::less(envs.len(), (x + 1) / 2);
+            return envs.len().saturating_sub((x + 1) / 2);
         }
-        x = crate::at(envs, x / 2);
+        x = at(envs, x / 2);
         k -= 1;
     }
-    k + crate::size::less(envs.len(), x / 2)
+    k + envs.len().saturating_sub(x / 2)
 }
 
 // Entry j of the table of names that starts at f.
@@ -35,9 +31,10 @@ fn listed(names: &[u16], f: usize, j: usize) -> usize
     ensures { (result ≡ name_at names.now f j) × (result ≤ j + 65535) }
 {
     if j < 64 {
-        return crate::at(names, f + j);
+        at(names, f + j)
+    } else {
+        at(names, f + 64) + (j - 64)
     }
-    crate::at(names, f + 64) + (j - 64)
 }
 
 // Variable j of environment e, which may be a table of names.
@@ -45,13 +42,11 @@ pub fn name(envs: &[u16], e: usize, j: usize) -> usize
     requires { (e ≤ 131072) × (j ≤ 1099511627776) × (length envs.now ≤ 65535) }
     ensures { (result ≡ name_in envs.now e j) × (result ≤ j + 65535) }
 {
-    if e % 2 == 0 {
-        return variable(envs, e, j);
+    if e % 2 == 0 || e < 65536 {
+        variable(envs, e, j)
+    } else {
+        listed(envs, e / 2 - 32768, j)
     }
-    if e < 65536 {
-        return variable(envs, e, j);
-    }
-    listed(envs, e / 2 - 32768, j)
 }
 
 // Row h, if it is a variable of the given kind that is free and not filled: which variable stands for it.
@@ -64,22 +59,15 @@ pub(crate) fn free_variable(
     by: u32,
     d: u32,
     e: u32,
-) -> Free
+) -> Option<usize>
     requires { (h ≤ 65536) × EnvironmentIn envs.now e }
     ensures { result ≡ free_at rows.now (shifted envs.now e by) kind m d h }
 {
-    if h == 0 {
-        return Free::Other;
+    if h == 0 || cell::<4>(rows, h - 1, 0) != kind {
+        return None;
     }
-    if crate::entry(rows, h - 1, 0) != kind {
-        return Free::Other;
-    }
-    let k = crate::entry(rows, h - 1, 1);
-    let n = d as usize + m as usize;
-    if k < n {
-        return Free::Other;
-    }
-    Free::Named(name(envs, e as usize, k - n) + by as usize + d as usize)
+    let j = cell::<4>(rows, h - 1, 1).checked_sub(d as usize + m as usize)?;
+    Some(name(envs, e as usize, j) + by as usize + d as usize)
 }
 
 // Writes the table of the names of environment e from entry f on, and says whether it is one: it isn't where the walk through environments
@@ -90,19 +78,17 @@ pub fn write_names(envs: &[u16], e: usize, names: &mut [u16], f: usize) -> bool
 {
     let mut x = e;
     let mut k = 0;
-    let mut j = 0;
-    while j < 64 {
-        names[f + j] = crate::measure::narrow(variable(envs, x, k));
-        j += 1;
+    for j in 0..64 {
+        names[f + j] = variable(envs, x, k) as u16;
         if x % 2 == 0 {
             k += 1;
-            continue;
+        } else {
+            x = at(envs, x / 2);
         }
-        x = crate::at(envs, x / 2);
     }
     if x % 2 != 0 {
         return false;
     }
-    names[f + 64] = crate::measure::narrow(variable(envs, x, k));
+    names[f + 64] = variable(envs, x, k) as u16;
     true
 }

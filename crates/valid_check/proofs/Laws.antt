@@ -4,11 +4,12 @@ use native.Mathlib.Omega.{arith}
 use native.Mathlib.Nat.{le_refl}
 use mathlib.Core.Path.{◌≡◌, refl, ap, ap₂, sym, ◌∙◌}
 use mathlib.Core.Bool.{Bool, true, false, cond}
-use mathlib.Core.Option.{none, some}
+use mathlib.Core.Option.{Option, none, some}
+use Rattle.syntax.specs.Fault.{Refusal}
 use mathlib.Core.List.{List, ◌∷◌}
-use lib.Dec.{eqb, ltb}
+use lib.Dec.{ltb}
 use lib.ListN.{length}
-use borrow.Author.Tests.{eq-eqb, lt-ltb, le-ltb, ltb-true, ltb-false}
+use borrow.Author.Tests.{ne_eqb, lt-ltb, le-ltb, ltb-true, ltb-false}
 use Rattle.syntax.specs.Syntax.{value, stack}
 use Rattle.text.specs.PassOne.{Listing}
 use Rattle.types.specs.Types.{items, Arg}
@@ -21,20 +22,23 @@ use Rattle.valid.specs.Verdict.{instr_count, check}
 use Rattle.valid.proofs.Clear.{some_none}
 use Rattle.valid.proofs.Order.{body_of}
 use Rattle.valid_context.specs.premises.Answers.{Holds}
+use Rattle.std.specs.Prelude.{Ok}
+use Rattle.faults.specs.declared.LineFault.{LineFault}
+use Rattle.faults.specs.Numbers.{number}
+use Rattle.faults.proofs.Numbers.{number_above}
+use Rattle.image.specs.declared.Counts.{Counts}
 use Rattle.image.specs.declared.Places.{Places}
 use Rattle.image.specs.Sections.{part, Ordered, Outside, row_section, part_section, use_section, top_section}
 use Rattle.image.specs.Layout.{places_of}
-use Rattle.image.proofs.Laws.{before, large_shared}
-use Rattle.text_decode.specs.store.Store.{Store, row_table, operands_of, store_in}
-use Rattle.load.specs.declared.Loaded.{Loaded}
-use Rattle.load.specs.Loaded.{IsLoaded}
+use Rattle.image.proofs.Laws.{before, large_shared, ordered}
+use Rattle.text_decode.specs.store.Store.{Store, row_table, operands_of, store_in, stored}
+use Rattle.load.specs.Loaded.{IsLoaded, LoadIs, uses_in, tops_in}
 use Rattle.valid_share.specs.Shared.{SharedFor, Shared}
-use Rattle.valid_verdict.specs.declared.finding.Finding.{Finding}
-use Rattle.valid_verdict.specs.finding.Found.{refusal_said}
 use Rattle.valid_pass_three.specs.body.Tables.{Tables}
 use Rattle.valid_check.proofs.Few.{few_items}
 use Rattle.valid_pass_three.proofs.Blocks.{no_block, length_all}
-use Rattle.valid_verdict.proofs.finding.Laws.{says_none, says_some}
+use Rattle.text_decode.specs.Decoded.{refusal_at}
+use Rattle.valid_verdict.proofs.Laws.{answers_low}
 use Rattle.valid_verdict.specs.Answers.{verdict_is, low, third}
 use Rattle.valid_verdict.specs.declared.Answer.{Answer}
 use Rattle.valid_verdict.specs.declared.Answer.TheVariants.{Refused}
@@ -92,7 +96,7 @@ module _ (T : List Arg) (β ι : List ℕ) (ω : OperandTable) (ni nb : ℕ) whe
   count_blocks = length_blocks 0 nb
 
 -- ---- the tables of a loaded text
-module _ (text : List ℕ) (σ : Store) (uses tops : List ℕ) (r : Loaded) (d : IsLoaded text σ uses tops r) where
+module _ (text : List ℕ) (σ : Store) (uses tops : List ℕ) (r : Counts) (d : IsLoaded text σ uses tops r) where
   abbrev β : List ℕ
   β = σ.blocks
 
@@ -120,7 +124,7 @@ module _ (text : List ℕ) (σ : Store) (uses tops : List ℕ) (r : Loaded) (d :
   unfolding program_of program_from
   blocks_are T e = ap₂ blocks_of (ap types_of (sym d.rows) ∙ sym e) (sym d.blocks)
 
-  pub counts : (f : Finding) → refusal_said f ≡ third text → f.number ≡ 0 → (r.blocks ≡ length (program_of text).blocks) × (r.instrs ≡ instr_count (program_of text).blocks)
+  pub counts : (o : Option Refusal) → o ≡ third text → o ≡ none → (r.blocks ≡ length (program_of text).blocks) × (r.instrs ≡ instr_count (program_of text).blocks)
   counts f q z = go r.blocks refl
     where
       e : (program_of text).blocks ≡ blocks_of (types_of (rows_in (row_table σ) r.rows)) bs
@@ -135,7 +139,7 @@ module _ (text : List ℕ) (σ : Store) (uses tops : List ℕ) (r : Loaded) (d :
       none_ends : r.blocks ≡ 0 → ⊥
       none_ends w =
           let k = no_block (program_of text) (types_of (rows_in (row_table σ) r.rows)) σ.blocks σ.instrs (operands_of σ) r.instrs r.rows r.blocks (length_all (row_table σ) r.rows) d.holds.types e w in
-          some_none (sym (says_some (record { number = 8; line = r.rows + 1; item = 100 }) (λ v. omega arith)) ∙ k ∙ sym q ∙ says_none f z)
+          some_none (k ∙ sym q ∙ z)
 
       go : (n : ℕ) → r.blocks ≡ n → (r.blocks ≡ length (program_of text).blocks) × (r.instrs ≡ instr_count (program_of text).blocks)
       go zero w = absurd (none_ends w)
@@ -154,15 +158,28 @@ module _ (text : List ℕ) (σ : Store) (uses tops : List ℕ) (r : Loaded) (d :
     pub shared_holds : Holds (tab rows₂ parts₂) r.rows σ.blocks r.blocks (program_of text)
     shared_holds = record { types = d.holds.types ∙ sym s.types; labels = d.holds.labels }
 
-pub none_low : (text : List ℕ) (r : Loaded) → cond (eqb r.fault 0) none (some (record { number = r.fault; line = r.line; item = none })) ≡ low text → r.fault ≡ 0 → none ≡ low text
-none_low text r e z = ap (λ (b : Bool). cond b none (some (record { number = r.fault; line = r.line; item = none }))) (sym (eq-eqb r.fault 0 z)) ∙ e
+-- ---- a text that is not loaded
+-- the answer that names its fault
+pub faulty_low : (text : List ℕ) (f : LineFault) → some (refusal_at f) ≡ low text → verdict_is (Refused (number f.fault) f.line) ≡ check text
+faulty_low text f e =
+    let k = number_above f.fault in
+    let z : number f.fault ≡ 0 → ⊥ = λ w. omega arith in
+    answers_low text (number f.fault) f.line z (ap (λ (b : Bool). cond b none (some (refusal_at f))) (ne_eqb (number f.fault) 0 z) ∙ e)
+
+-- ---- a text that is loaded, at the places of its image
+pub record LoadedAt (text : List ℕ) (p : Places) (l ns : List ℕ) (c : Counts) : Type 0 where
+  pub ordered : Ordered p (length l)
+  pub is : IsLoaded text (store_in p l ns) (use_section p l) (top_section p l) c
+
+pub loaded_at : (text : List ℕ) (p : Places) (l ns : List ℕ) (c : Counts) → p ≡ places_of (length l) → LoadIs text (stored l ns) (uses_in l) (tops_in l) (Ok c) → LoadedAt text p l ns c
+loaded_at text p l ns c e is = rw e (record { ordered = ordered (length l); is = is.loaded c refl })
 
 -- ---- in an image: only the rows once more were written
 module _ (p : Places) (l l' : List ℕ) (o : Ordered p (length l)) (w : Outside p.shared p.end l l') where
   kept : (c d : ℕ) → c ≤ d → d ≤ p.shared → part c d l' ≡ part c d l
   kept c d cd h = before p.shared p.end l l' (omega arith) w c d cd h
 
-  pub loaded_still : (text ns : List ℕ) (r : Loaded) → IsLoaded text (store_in p l ns) (use_section p l) (top_section p l) r → IsLoaded text (store_in p l' ns) (use_section p l') (top_section p l') r
+  pub loaded_still : (text ns : List ℕ) (r : Counts) → IsLoaded text (store_in p l ns) (use_section p l) (top_section p l) r → IsLoaded text (store_in p l' ns) (use_section p l') (top_section p l') r
   loaded_still text ns r d =
       rw (
         kept p.rows p.blocks o.rows (omega arith),

@@ -7,10 +7,11 @@ ghost use Rattle.valid_verdict.specs.Answers.{verdict_is};
 ghost use Rattle.valid_check.specs.Lent.{check_in};
 
 use crate::check_in;
+use faults::Fault;
 use valid_verdict::Answer;
 
 // A check with working memory lent. The plan, which a check does not need, holds the hashes of rows and what a
-// comparison keeps pending. The last line is not reached.
+// comparison keeps pending.
 pub fn check(
     text: &[u8],
     image: &mut [u16],
@@ -21,11 +22,7 @@ pub fn check(
     ensures { (verdict_is result ≡ check_in (enough_to_check (length image.old) (length numbers.old) (length plan.old) (length work.old)) text.now) × Left {A = List ℕ × List ℕ × List ℕ × List ℕ} (enough_to_check (length image.old) (length numbers.old) (length plan.old) (length work.old)) (image.old, numbers.old, plan.old, work.old) (image.new, numbers.new, plan.new, work.new) }
 {
     if !image::lent::is_enough_to_check(image.len(), numbers.len(), plan.len(), work.len()) {
-        return Answer::Refused(16, 0);
+        return Answer::Refused(Fault::BadState.number(), 0);
     }
-    let r = check_in(text, image, numbers, plan, work);
-    if r.fits {
-        return r.answer;
-    }
-    Answer::Refused(0, 0)
+    check_in(text, image, numbers, plan, work).unwrap()
 }

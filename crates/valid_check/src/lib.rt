@@ -7,7 +7,7 @@
 pub mod attempt;
 pub mod lent;
 
-ghost use Rattle.std.specs.Prelude.{◌≡◌, true, ℕ, ◌≤◌, length};
+ghost use Rattle.std.specs.Prelude.{◌≡◌, true, ℕ, ◌≤◌, length, IsSome, IfSome};
 ghost use Rattle.syntax.specs.Fault.{lowest_line};
 ghost use Rattle.types.specs.Rows.{types_of};
 ghost use Rattle.tables.specs.Tables.{rows_in};
@@ -19,31 +19,21 @@ ghost use Rattle.valid_typing.specs.Image.{row_table, HoldsAt};
 ghost use Rattle.valid_pass_three.specs.body.Tables.{Tabled};
 ghost use Rattle.valid_pass_three.specs.Blocks.{blocks_in, BlocksWithin};
 ghost use Rattle.valid_verdict.specs.finding.Found.{refusal_said};
-ghost use Rattle.text_decode.specs.Decoded.{Fitting};
 ghost use Rattle.valid_verdict.specs.Answers.{verdict_is};
 ghost use Rattle.valid_share.specs.Shared.{SharedFor};
 ghost use Rattle.valid_check.specs.Lent.{Roomy};
 
 use image::{Counts, Places};
+use text_decode::state::Unread;
 use valid_verdict::Answer;
 use valid_verdict::finding::Finding;
-
-// Whether the text fits the image, and the answer if it does.
-#[derive(Clone, Copy)]
-pub struct Tried {
-    pub fits: bool,
-    pub answer: Answer,
-}
 
 // Whether the image has room for n rows once more.
 fn has_shared(p: Places, n: usize) -> bool
     requires { ((l : ℕ) × Ordered p l) × (n ≤ 512) }
     ensures { (result ≡ true → SharedFor n p) × (SharedFor n p → result ≡ true) }
 {
-    if p.slots - p.shared < 4 * n + 8 {
-        return false;
-    }
-    17 * n <= p.end - p.slots
+    4 * n + 8 <= p.slots - p.shared && 17 * n <= p.end - p.slots
 }
 
 // Pass three over the tables in the image. The registers' types and those of sp stand here.
@@ -54,7 +44,7 @@ fn third_pass(
     c: Counts,
     work: &mut [u16],
     pending: &mut [u32],
-) -> Finding
+) -> Result<(), Finding>
     requires { Tabled p image.now c.rows × BlocksWithin p image.now numbers.now c × (8192 ≤ length work.old) × (1543 ≤ length pending.old) }
     ensures { (P : Program) → HoldsAt p image.now c P → P.blocks ≡ blocks_of (types_of (rows_in (row_table p image.now) c.rows)) (blocks_in p image.now numbers.now c) → refusal_said result ≡ lowest_line 0 (pass_three P) }
 {
@@ -64,47 +54,28 @@ fn third_pass(
 }
 
 // Check with working memory lent: an image with the rows once more, its numbers, hashes of rows and what a comparison keeps pending, and
-// what the typing of a block needs.
+// what the typing of a block needs. No answer if the text does not fit the image.
 pub(crate) fn check_in(
     text: &[u8],
     image: &mut [u16],
     numbers: &mut [u32],
     hash: &mut [u32],
     work: &mut [u16],
-) -> Tried
+) -> Option<Answer>
     requires { (8192 ≤ length work.old) × (2567 ≤ length hash.old) }
-    ensures { Fitting (Roomy image.old numbers.old) result.fits (verdict_is result.answer ≡ check text.now) }
+    ensures fits { Roomy image.old numbers.old → IsSome result }
+    ensures answers { IfSome result (λ a. verdict_is a ≡ check text.now) }
 {
-    let r = load::load(text, image, numbers);
-    if !r.fits {
-        return Tried {
-            fits: false,
-            answer: Answer::Refused(0, 0),
-        };
-    }
-    let fault = r.fault;
-    if fault != 0 {
-        return Tried {
-            fits: true,
-            answer: Answer::Refused(fault, r.line),
-        };
-    }
-    let p = image::lay_out(image.len());
-    if !has_shared(p, r.rows) {
-        return Tried {
-            fits: false,
-            answer: Answer::Refused(0, 0),
-        };
-    }
-    valid_share::share(image, p, r.rows, work, hash);
-    let c = Counts {
-        rows: r.rows,
-        blocks: r.blocks,
-        instrs: r.instrs,
+    let c = match load::load(text, image, numbers) {
+        Ok(c) => c,
+        Err(Unread::Unfit) => return None,
+        Err(Unread::Faulty(f)) => return Some(Answer::Refused(f.fault.number(), f.line)),
     };
-    let f = third_pass(image, numbers, p, c, work, hash);
-    Tried {
-        fits: true,
-        answer: valid_verdict::answer_by(f, r.blocks, r.instrs),
+    let p = image::lay_out(image.len());
+    if !has_shared(p, c.rows) {
+        return None;
     }
+    valid_share::share(image, p, c.rows, work, hash);
+    let f = third_pass(image, numbers, p, c, work, hash);
+    Some(valid_verdict::answer_by(f, c.blocks, c.instrs))
 }

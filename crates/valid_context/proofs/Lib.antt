@@ -3,3 +3,4 @@ pub mod Raising
 pub mod Regs
 pub mod Sp
 pub mod Told
+pub mod Results

@@ -1,17 +1,16 @@
 -- A context read with one more hidden variable: every type that is held counts one further outward.
-use Prim.Native.Nat.{ℕ, zero, suc, ◌+◌, ◌-◌, ◌*◌, ◌≤◌, ◌<◌}
+use Prim.Native.Nat.{ℕ, zero, suc, ◌+◌, ◌-◌, ◌≤◌}
 use native.Mathlib.Omega.{arith}
 use mathlib.Core.Path.{◌≡◌, refl, ap, ap₂, ◌∙◌}
 use mathlib.Core.Bool.{Bool, true, false, cond}
 use mathlib.Core.List.{List}
 use lib.Dec.{ltb}
-use lib.ListN.{length}
 use borrow.Author.Tests.{le-ltb}
-use Rattle.syntax.specs.Syntax.{value, stack}
-use Rattle.types.specs.Types.{Ty, nil, push, svar, gap, join, walk, variable, below, raising, raise}
+use Rattle.syntax.specs.Syntax.{stack}
+use Rattle.types.specs.Types.{Ty, push, svar, gap, join, walk, variable, below, raising, raise}
 use Rattle.tables.specs.Tables.{cell}
 use Rattle.valid.specs.Rules.{raised}
-use Rattle.valid_context.specs.Context.{Reading, first_var, on_link, regs_from, regs_of, on_item, sp_of, context_of, EnvsIn, HeldIn}
+use Rattle.valid_context.specs.Context.{Reading, first_var, on_link, regs_from, on_item, sp_of, context_of, EnvsIn}
 
 -- U reads each row and each variable of an environment up to b one further outward than T does
 pub record OneMore (b : ℕ) (T U : Reading) : Type 0 where

@@ -10,6 +10,7 @@ use mathlib.Core.List.{List}
 use lib.Dec.{leb, ltb}
 use lib.ListN.{length}
 use borrow.Author.Tests.{lt-ltb, le-ltb, ltb-true, le-leb, leb-true}
+use Rattle.std.specs.List.{range_with_len, list_all}
 use Rattle.syntax.specs.Partial.{guarded}
 use Rattle.syntax.specs.Syntax.{value, stack}
 use Rattle.types.specs.Types.{Ty, junk, nil, push, svar, gap, join, items}
@@ -29,6 +30,27 @@ unfolding are_values
 values_fit sp d zero e = omega arith
 values_fit sp zero (suc k) e = none_true e
 values_fit sp (suc d) (suc k) e = let h = values_fit sp d k (and_inv (ltb (cell 2 sp d 0) first_var) (are_values sp d k) e).1 in omega arith
+
+and_swap : (x y z : Bool) → x && (y && z) ≡ y && (x && z)
+and_swap true true z = refl
+and_swap true false z = refl
+and_swap false true z = refl
+and_swap false false z = refl
+
+-- the lowest of the entries looked at first
+values_first : (sp : List ℕ) (a n : ℕ) → are_values sp (suc (a + n)) (suc n) ≡ ltb (cell 2 sp a 0) first_var && are_values sp (suc (a + n)) n
+unfolding are_values
+values_first sp a zero = simp add-zero
+values_first sp a (suc n) =
+    let h = values_first sp a n in
+    rw (add-suc a n) (ap (λ (b : Bool). ltb (cell 2 sp (suc (a + n)) 0) first_var && b) h ∙ and_swap (ltb (cell 2 sp (suc (a + n)) 0) first_var) (ltb (cell 2 sp a 0) first_var) (are_values sp (suc (a + n)) n))
+
+-- all of them from place a on
+pub values_list : (sp : List ℕ) (a n : ℕ) → list_all (λ (i : ℕ). ltb (cell 2 sp i 0) first_var) (range_with_len a n) ≡ are_values sp (a + n) n
+values_list sp a zero = unfold are_values in refl
+values_list sp a (suc n) =
+    let e : a + 1 + n ≡ suc (a + n) = omega arith in
+    rw (add-suc a n) (ap (λ (b : Bool). ltb (cell 2 sp a 0) first_var && b) (values_list sp (a + 1) n ∙ ap (λ (j : ℕ). are_values sp j n) e) ∙ sym (values_first sp a n))
 
 values_step : (sp : List ℕ) (d k : ℕ) → cell 2 sp d 0 < first_var → are_values sp (suc d) (suc k) ≡ are_values sp d k
 unfolding are_values

@@ -8,7 +8,7 @@ use mathlib.Core.List.{List, [], ◌∷◌, ◌++◌}
 use borrow.Author.Tests.{eq-eqb, ne_eqb}
 use Rattle.syntax.specs.Fault.{Fault, number_of, lowest}
 use Rattle.valid.specs.PassThree.{Judged, holds, fails, ◌▹◌, ◌&◌, or_fault, need}
-use Rattle.syntax.proofs.Least.{least, least_none}
+use Rattle.syntax.proofs.Least.{least}
 use Rattle.valid_context.specs.Told.{gives, lacks, told_of, answer}
 use Rattle.valid_context.specs.premises.Answers.{item_said}
 
@@ -28,20 +28,6 @@ lowest_min m n (f ∷ fs) = let e : min (min m n) (number_of f) ≡ min m (min n
 
 pub lowest_both : (n : ℕ) (fs : List Fault) (g : Fault) (gs : List Fault) → lowest n (fs ++ g ∷ gs) ≡ min (lowest n fs) (lowest (number_of g) gs)
 lowest_both n fs g gs = lowest_more n fs (g ∷ gs) ∙ unfold lowest in lowest_min (lowest n fs) (number_of g) gs
-
--- the lesser of two numbers
-pub both_min : (a b : ℕ) → 0 < a → 0 < b → least a b ≡ min a b
-unfolding least
-both_min zero b h q = absurd (omega arith)
-both_min (suc a) zero h q = absurd (omega arith)
-both_min (suc a) (suc b) h q = omega arith
-
-pub both_first : (a b : ℕ) → a ≡ 0 → b ≡ least a b
-unfolding least
-both_first a b e = rw e
-
-pub both_second : (a b : ℕ) → b ≡ 0 → a ≡ least a b
-both_second a b e = rw e (sym (least_none a))
 
 -- ---- what the code answers
 -- without a fault the premise holds

@@ -9,60 +9,19 @@
 
 pub mod premises;
 
-ghost use Rattle.std.specs.Prelude.{◌≡◌, ℕ, ◌+◌, ◌-◌, ◌*◌, ◌≤◌, ◌<◌, length, get_or};
+ghost use Rattle.std.specs.Prelude.{◌≡◌, ℕ, ◌+◌, ◌-◌, ◌*◌, ◌≤◌, ◌<◌, length};
 ghost use Rattle.syntax.specs.Partial.{guarded};
-ghost use Rattle.syntax.proofs.Least.{least};
 ghost use Rattle.types.specs.Types.{junk};
-ghost use Rattle.tables.specs.Tables.{cell};
 ghost use Rattle.valid.specs.Rules.{junks};
 ghost use Rattle.valid.specs.Tests.{item_at, replaced, under};
 ghost use Rattle.valid_context.specs.Context.{Reading, linked, regs_of, sp_of, sp_above, are_values, with_entry, EnvsIn};
 
 // A link, and its environment.
+// Kept: a link is what the arrays hold, 0 for none or one more than a row, as `linked` and, of crate types_rows, `lower` read it.
 #[derive(Clone, Copy)]
 pub struct Link {
     pub link: usize,
     pub env: usize,
-}
-
-// The lesser of two fault numbers, 0 standing for none.
-pub fn least(a: usize, b: usize) -> usize
-    ensures { result ≡ least a b }
-{
-    if a == 0 {
-        return b;
-    }
-    if b == 0 {
-        return a;
-    }
-    if a < b {
-        return a;
-    }
-    b
-}
-
-fn wide(x: u16) -> usize
-    ensures { (result ≡ x) × (result ≤ 65535) }
-{
-    x as usize
-}
-
-// Entry i, 0 past the end.
-fn entry(s: &[u16], i: usize) -> usize
-    ensures { (result ≡ get_or s.now i 0) × (result ≤ 65535) }
-{
-    if i < s.len() {
-        return wide(s[i]);
-    }
-    0
-}
-
-// Number k of entry i.
-pub fn number(s: &[u16], i: usize, k: usize) -> usize
-    requires { (i ≤ 65535) × (k ≤ 1) }
-    ensures { (result ≡ cell 2 s.now i k) × (result ≤ 65535) }
-{
-    entry(s, 2 * i + k)
 }
 
 // Entry i gets the numbers x and e.
@@ -79,12 +38,13 @@ pub fn register(regs: &[u16], r: usize) -> Link
     ensures { ((T : Reading) → item_at (regs_of T regs.now) r ≡ linked T result.env result.link) × (result.link ≤ 65535) × (result.env ≤ 65535) × ((b : ℕ) → EnvsIn b regs.now 8 → result.env ≤ b) }
 {
     if r < 8 {
-        return Link {
-            link: number(regs, r, 0),
-            env: number(regs, r, 1),
-        };
+        Link {
+            link: tables::cell::<2>(regs, r, 0),
+            env: tables::cell::<2>(regs, r, 1),
+        }
+    } else {
+        Link { link: 0, env: 0 }
     }
-    Link { link: 0, env: 0 }
 }
 
 // Register d gets the type of a row in an environment, if there is such a register.
@@ -94,9 +54,10 @@ pub fn assign(regs: &mut [u16], d: usize, row: usize, env: usize) -> bool
 {
     if d < 8 {
         put(regs, d, (row + 1) as u16, env as u16);
-        return true;
+        true
+    } else {
+        false
     }
-    false
 }
 
 // The k items on top are value types.
@@ -104,17 +65,7 @@ pub fn values(sp: &[u16], d: usize, k: usize) -> bool
     requires { d ≤ 65535 }
     ensures { (result ≡ are_values sp.now d k) × ((T : Reading) → under k (sp_of T sp.now d) ≡ guarded result (sp_of T sp.now (d - k))) }
 {
-    if d < k {
-        return false;
-    }
-    let mut i = 0;
-    while i < k {
-        if number(sp, d - i - 1, 0) >= 1024 {
-            return false;
-        }
-        i += 1;
-    }
-    true
+    k <= d && (d - k..d).all(|i| tables::cell::<2>(sp, i, 0) < 1024)
 }
 
 // The link of item i from the top, if it and those above it are value types; else 0.
@@ -122,16 +73,14 @@ pub fn sp_item(sp: &[u16], d: usize, i: usize) -> Link
     requires { d ≤ 65535 }
     ensures { ((T : Reading) → item_at (sp_of T sp.now d) i ≡ linked T result.env result.link) × (result.link ≤ 1024) × (result.env ≤ 65535) × ((b : ℕ) → EnvsIn b sp.now d → result.env ≤ b) }
 {
-    if d <= i {
-        return Link { link: 0, env: 0 };
+    if i < d && values(sp, d, i + 1) {
+        Link {
+            link: tables::cell::<2>(sp, d - i - 1, 0) + 1,
+            env: tables::cell::<2>(sp, d - i - 1, 1),
+        }
+    } else {
+        Link { link: 0, env: 0 }
     }
-    if values(sp, d, i + 1) {
-        return Link {
-            link: number(sp, d - i - 1, 0) + 1,
-            env: number(sp, d - i - 1, 1),
-        };
-    }
-    Link { link: 0, env: 0 }
 }
 
 // The k entries above depth d get the row of the junk type.
@@ -139,11 +88,8 @@ pub fn push_junks(sp: &mut [u16], d: usize, k: usize, row: usize)
     requires { (d + k ≤ 65535) × (2 * (d + k) ≤ length sp.old) × (row < 1024) }
     ensures { ((T : Reading) → T.type 0 row ≡ junk → junks k (sp_of T sp.old d) ≡ sp_of T sp.new (d + k)) × ((b : ℕ) → EnvsIn b sp.old d → EnvsIn b sp.new (d + k)) }
 {
-    let x = row as u16;
-    let mut i = 0;
-    while i < k {
-        put(sp, d + i, x, 0);
-        i += 1;
+    for i in 0..k {
+        put(sp, d + i, row as u16, 0);
     }
 }
 
@@ -152,12 +98,10 @@ pub fn set_item(sp: &mut [u16], d: usize, i: usize, row: usize, env: usize) -> b
     requires { (d ≤ 65535) × (2 * d ≤ length sp.old) × (row < 1024) × (env ≤ 65535) }
     ensures { ((T : Reading) → replaced (sp_of T sp.old d) i (T.type env row) ≡ guarded result (sp_of T sp.new d)) × ((T : Reading) (k : ℕ) → sp_above T sp.new d k ≡ sp_above T sp.old d k) × ((b m : ℕ) → env ≤ b → EnvsIn b sp.old m → EnvsIn b sp.new m) }
 {
-    if d <= i {
-        return false;
-    }
-    if values(sp, d, i + 1) {
+    if i < d && values(sp, d, i + 1) {
         put(sp, d - i - 1, row as u16, env as u16);
-        return true;
+        true
+    } else {
+        false
     }
-    false
 }

@@ -8,7 +8,6 @@ use mathlib.Core.List.{List}
 use mathlib.Core.Logic.{◌⊎◌, inl, inr}
 use lib.Dec.{eqb}
 use lib.ListN.{length, replicate}
-use borrow.Author.Tests.{eqb-true, eqb-false}
 use Rattle.syntax.specs.Syntax.{Kind, Instr}
 use Rattle.image.specs.declared.Places.{Places}
 use Rattle.image.specs.Sections.{instr_section}
@@ -16,24 +15,23 @@ use Rattle.tables.specs.Tables.{OperandTable, cell, instr_from, instr_at}
 use Rattle.tables.proofs.Cases.{◌&◌, instr_cases}
 use Rattle.valid.specs.Program.{Program}
 use Rattle.valid.specs.Rules.{Context}
-use Rattle.valid.specs.PassThree.{Judged, judge}
+use Rattle.valid.specs.PassThree.{judge}
 use Rattle.types_rows.specs.Environments.{Known}
-use Rattle.valid_context.specs.Context.{context_of, EnvsIn, HeldIn}
+use Rattle.valid_context.specs.Context.{EnvsIn, HeldIn}
 use Rattle.valid_context.proofs.Cells.{envs_less}
 use Rattle.valid_scope.specs.declared.BlockLetters.{BlockLetters}
-use Rattle.valid_typing.specs.Typing.{held_in}
 use Rattle.valid_typing.specs.Image.{letters_in}
-use Rattle.valid_context.specs.Told.{told_of, answer}
-use Rattle.valid_context.specs.premises.Answers.{item_said, Answered}
-use Rattle.types.proofs.Equal.{none_true}
+use Rattle.valid_context.specs.Told.{told_of, lacks}
+use Rattle.std.specs.Prelude.{Some, None, Err}
+use Rattle.faults.specs.declared.Fault.{Fault}
+use Rattle.faults.specs.Numbers.{number}
+use Rattle.valid_typing.specs.target.Fits.{AnsweredBy}
 use Rattle.valid.proofs.Bare.{Aims, bare_judge}
 use Rattle.valid_typing.proofs.Items.{item_in}
-use Rattle.valid_judge.specs.Codes.{OperandCode, TargetCode}
 use Rattle.valid_judge.specs.Image.{after, OpenedTo, Goes}
-use Rattle.valid_judge.proofs.codes.Laws.{same_letters_lem, opened_letters}
+use Rattle.valid_judge.proofs.Codes.{same_letters_lem, opened_letters}
 
-none_named : (o : Option ℕ) (b : Bool) → o ≡ none → item_said 100 ≡ cond b o none
-unfolding item_said
+none_named : (o : Option ℕ) (b : Bool) → o ≡ none → none ≡ cond b o none
 none_named o true e = sym e
 none_named o false e = refl
 
@@ -50,12 +48,13 @@ module _ (P : Program) (Δ : List Kind) (ω : OperandTable) where
       no : {A B : Type 0} → A → B → false ≡ false
       no h n = refl
 
-  pub plain : (ι : List ℕ) (j k f : ℕ) (Γ Γ' : Context) → k ≡ cell 8 ι j 0 → (3 ≤ k → 9 ≤ k) → (k ≡ 21 → ⊥) → told_of (judge P Δ Γ (instr_at ι ω j)) ≡ answer f Γ' → Answered (judge P Δ Γ (instr_at ι ω j)) f Γ' 100
-  plain ι j k f Γ Γ' ek h n e =
+  -- it lacks no item
+  pub plain : {B : Type 0} (ι : List ℕ) (j k : ℕ) (f : Fault) (Γ : Context) (g : B → Context) → k ≡ cell 8 ι j 0 → (3 ≤ k → 9 ≤ k) → (k ≡ 21 → ⊥) → told_of (judge P Δ Γ (instr_at ι ω j)) ≡ lacks (number f) → AnsweredBy (judge P Δ Γ (instr_at ι ω j)) g (Err (record { fault = f; item = None }))
+  plain ι j k f Γ g ek h n e =
       let z : Aims (instr_at ι ω j) ≡ false = unfold instr_at in subst (λ (x : ℕ). Aims (instr_from ω x (cell 8 ι j 1) (cell 8 ι j 2)
       (cell 8 ι j 3) (cell 8 ι j 4) (cell 8 ι j 5) (cell 8 ι j 6)) ≡ false) ek (aimless (cell 8 ι j 1) (cell 8 ι j 2) (cell 8 ι j 3)
       (cell 8 ι j 4) (cell 8 ι j 5) (cell 8 ι j 6) k h n) in
-      record { told = e; named = none_named (item_in (judge P Δ Γ (instr_at ι ω j))) (eqb f 10) (bare_judge P Δ Γ (instr_at ι ω j) z) }
+      record { told = e; named = none_named (item_in (judge P Δ Γ (instr_at ι ω j))) (eqb (number f) 10) (bare_judge P Δ Γ (instr_at ι ω j) z) }
 
 -- a code with operands and no target is that of arithmetic, `mov` or `malloc`
 pub value_code : (k : ℕ) → (k < 10) ⊎ ((k ≡ 12) ⊎ (k ≡ 21)) → (k ≡ 21 → ⊥) → 10 ≤ k → k ≡ 12
@@ -63,65 +62,25 @@ value_code k (inl l) n h = absurd (omega arith)
 value_code k (inr (inl e)) n h = e
 value_code k (inr (inr e)) n h = absurd (n e)
 
--- ---- codes
-module _ (k : ℕ) where
-  pub operand_low : k < 10 → OperandCode true k
-  operand_low l = record { has = λ e. inl l; lacks = λ e. none_true (sym e) }
-
-  pub operand_malloc : k ≡ 12 → OperandCode true k
-  operand_malloc q = record { has = λ e. inr (inl q); lacks = λ e. none_true (sym e) }
-
-  pub operand_last : 10 ≤ k → (k ≡ 12 → ⊥) → OperandCode (eqb k 21) k
-  operand_last l n = go (eqb k 21) refl
-    where
-      go : (b : Bool) → eqb k 21 ≡ b → OperandCode b k
-      go true q = record { has = λ e. inr (inr (eqb-true k 21 q)); lacks = λ e. none_true (sym e) }
-      go false q = record { has = λ e. none_true e; lacks = λ e. (l, n, eqb-false k 21 q) }
-
-  pub target_low : k < 3 → TargetCode false k
-  target_low l = record { has = λ e. none_true e; lacks = λ e. (λ h. absurd (omega arith), λ h. absurd (omega arith)) }
-
-  pub target_branch : 3 ≤ k → k < 9 → TargetCode true k
-  target_branch l m = record { has = λ e. (l, λ h. absurd (omega arith)); lacks = λ e. none_true (sym e) }
-
-  pub target_last : 9 ≤ k → TargetCode (eqb k 21) k
-  target_last l = go (eqb k 21) refl
-    where
-      go : (b : Bool) → eqb k 21 ≡ b → TargetCode b k
-      go true q = record { has = λ e. (omega arith, λ h. eqb-true k 21 q); lacks = λ e. none_true (sym e) }
-      go false q = record { has = λ e. none_true e; lacks = λ e. (λ h. l, eqb-false k 21 q) }
-
--- a code below 13 that is not `malloc`'s, and one from 21 on that is not `jmp`'s
-pub heap_low : (k : ℕ) → k < 13 → (k ≡ 12 → ⊥) → 12 ≤ k → 22 ≤ k
-heap_low k l n h = absurd (n (omega arith))
-
-pub heap_high : (k : ℕ) → 21 ≤ k → (k ≡ 21 → ⊥) → 22 ≤ k
-heap_high k l n = omega (arith, n)
-
--- ---- no package is opened
-module _ (J : Judged Context) (rows parts : List ℕ) (n : ℕ) (E : List ℕ) (o : ℕ) (z : o ≡ 0) where
-  pub still_context : (f : ℕ) (γ σ : List ℕ) (m item : ℕ) → Answered J f (context_of (held_in rows parts n E) γ σ m) item → Answered J f (context_of (held_in rows parts n (after E o)) γ σ m) item
-  unfolding after
-  still_context f γ σ m item a = rw z a
-
-module _ (p : Places) (l E : List ℕ) (o : ℕ) (w : BlockLetters) (ω : OperandTable) (j k : ℕ) (ek : k ≡ cell 8 (instr_section p l) j 0) (γ σ : List ℕ) (m : ℕ) where
+-- ---- packages
+module _ (p : Places) (l E : List ℕ) (w : BlockLetters) (ω : OperandTable) (j k : ℕ) (ek : k ≡ cell 8 (instr_section p l) j 0) (γ σ : List ℕ) (m : ℕ) where
   abbrev x : Instr
   x = instr_at (instr_section p l) ω j
 
   -- the letters and what is in force stay
-  pub goes_on : o ≡ 0 → (k ≡ 23 → ⊥) → w.hidden ≡ length E → Known E → length E ≤ 64 → HeldIn E γ σ m → Goes p l E o w x γ σ m
+  pub goes_on : (k ≡ 23 → ⊥) → w.hidden ≡ length E → Known E → length E ≤ 64 → HeldIn E γ σ m → Goes p l E None w x γ σ m
   unfolding after
-  goes_on z n h d f g =
-      rw z (record {
+  goes_on n h d f g =
+      record {
         letters = same_letters_lem (instr_section p l) ω j k ek n (letters_in p l w) ∙ ap (λ (i : ℕ). letters_in p l (record { hidden = i; count = w.count; start = w.start })) h;
         known = d;
         held = g;
         few = f;
-        small = omega arith;
-      })
+        small = tt;
+      }
 
   -- a package is opened
-  pub goes_open : k ≡ 23 → w.hidden ≡ length E → EnvsIn (2 * length E) σ m → OpenedTo E o γ → Goes p l E o w x γ σ m
+  pub goes_open : {o : ℕ} → k ≡ 23 → w.hidden ≡ length E → EnvsIn (2 * length E) σ m → OpenedTo E o γ → Goes p l E (Some o) w x γ σ m
   goes_open e h g t =
       record {
         letters = opened_letters (instr_section p l) ω j k ek e (letters_in p l w)

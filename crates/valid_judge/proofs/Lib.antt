@@ -1,2 +1,4 @@
 pub mod Small
+pub mod Codes
+pub mod Results
 pub mod Laws

@@ -10,13 +10,14 @@ ghost use Rattle.valid.specs.Program.{Program};
 ghost use Rattle.valid.specs.Tests.{item_at};
 ghost use Rattle.valid.specs.PassThree.{assign};
 ghost use Rattle.valid_context.specs.Context.{Reading, regs_of, linked, EnvsIn};
-ghost use Rattle.valid_context.specs.Told.{told_of, answer};
+ghost use Rattle.valid_context.specs.Told.{told_of, told};
 ghost use Rattle.valid_typing.specs.Typing.{held_in, Ready, Comparing};
-ghost use Rattle.valid_typing.proofs.Judging.{if_none};
 ghost use Rattle.valid_judge.specs.heap.Forms.{held, InRegs, KeptRegs};
 ghost use Rattle.valid_typing.specs.Image.{Prepared, letters_in};
 ghost use Rattle.valid_judge.specs.Image.{InRegsAt};
 
+use crate::through::and_give;
+use faults::{Fault, both, holds_or};
 use image::Places;
 use types_rows::Held;
 use valid_context::Link;
@@ -29,33 +30,21 @@ pub(crate) fn link_at(n: usize, regs: &[u16], r: usize) -> Link
 {
     let u = valid_context::register(regs, r);
     if u.link < n + 3 {
-        return u;
+        u
+    } else {
+        Link {
+            link: n + 2,
+            env: u.env,
+        }
     }
-    Link {
-        link: n + 2,
-        env: u.env,
-    }
-}
-
-// The fault k where a link is none, else 0.
-pub(crate) fn if_none(k: usize, u: usize) -> usize
-    ensures { result ≡ if_none k u }
-{
-    if u == 0 {
-        return k;
-    }
-    0
 }
 
 // Register d gets the type of a row in an environment.
-pub(crate) fn set_register(regs: &mut [u16], d: usize, row: usize, env: usize) -> usize
+pub(crate) fn set_register(regs: &mut [u16], d: usize, row: usize, env: usize) -> Result<(), Fault>
     requires { (16 ≤ length regs.old) × (row < 65535) × (env ≤ 65535) }
-    ensures { ((T : Reading) (P : Program) (Δ : List Kind) (s : Ty stack) → told_of (assign P Δ (held s (regs_of T regs.old)) d (T.type env row)) ≡ answer result (held s (regs_of T regs.new))) × ((b : ℕ) → env ≤ b → EnvsIn b regs.old 8 → EnvsIn b regs.new 8) }
+    ensures { ((T : Reading) (P : Program) (Δ : List Kind) (s : Ty stack) → told_of (assign P Δ (held s (regs_of T regs.old)) d (T.type env row)) ≡ told (λ u. held s (regs_of T regs.new)) result) × ((b : ℕ) → env ≤ b → EnvsIn b regs.old 8 → EnvsIn b regs.new 8) }
 {
-    if valid_context::assign(regs, d, row, env) {
-        return 0;
-    }
-    9
+    holds_or(valid_context::assign(regs, d, row, env), Fault::WrongType)
 }
 
 // ld d s i
@@ -68,14 +57,11 @@ pub(crate) fn load(
     d: usize,
     s: usize,
     i: usize,
-) -> usize
+) -> Result<(), Fault>
     requires { Ready rows.now parts.now n × (16 ≤ length regs.old) }
     ensures { ((Δ : List Kind) → InRegs rows.now parts.now n envs.now Δ regs.old regs.new result (ld d s i)) × KeptRegs envs.now regs.old regs.new }
 {
-    let c = valid_typing::component(rows, parts, n, regs, s, i);
-    if c.fault != 0 {
-        return c.fault;
-    }
+    let c = valid_typing::component(rows, parts, n, regs, s, i)?;
     set_register(regs, d, c.row, c.env)
 }
 
@@ -90,24 +76,19 @@ pub(crate) fn store(
     i: usize,
     s: usize,
     pending: &mut [u32],
-) -> usize
+) -> Result<(), Fault>
     requires { Comparing rows.now parts.now envs.now n pending.old }
     ensures { (Δ : List Kind) → InRegs rows.now parts.now n envs.now Δ regs.now regs.now result (st d i s) }
 {
-    let c = valid_typing::component(rows, parts, n, regs, d, i);
     let u = link_at(n, regs, s);
-    let f = valid_context::least(c.fault, if_none(9, u.link));
-    if f != 0 {
-        return f;
-    }
-    let t = Held {
-        row: c.row,
-        env: c.env,
-    };
-    if same_link(rows, parts, envs, n, u, t, pending) {
-        return 0;
-    }
-    10
+    let t = and_give(
+        holds_or(u.link != 0, Fault::WrongType),
+        valid_typing::component(rows, parts, n, regs, d, i),
+    )?;
+    holds_or(
+        same_link(rows, parts, envs, n, u, t, pending),
+        Fault::Unequal,
+    )
 }
 
 // The type of link u, 0 aside, is the type t.
@@ -144,33 +125,26 @@ pub(crate) fn stop(
     t: usize,
     w: BlockLetters,
     pending: &mut [u32],
-) -> usize
+) -> Result<(), Fault>
     requires { Prepared p image.now n pending.old × (length envs.now ≤ 64) }
     ensures { InRegsAt p image.now n envs.now (letters_in p image.now w) regs.now regs.now result (halt t) }
 {
     let shared = p.shared;
     let slots = p.slots;
     let end = p.end;
+    let rows = &image[shared..slots];
+    let parts = &image[slots..end];
     let u = link_at(n, regs, 0);
-    let g = valid_typing::formed_row(image, p, n, t, w);
-    let f = valid_context::least(g, if_none(9, u.link));
-    if f != 0 {
-        return f;
-    }
+    both(
+        valid_typing::formed_row(image, p, n, t, w),
+        holds_or(u.link != 0, Fault::WrongType),
+    )?;
     let r = Held {
         row: valid_typing::given_row(n, t),
         env: 2 * envs.len(),
     };
-    if same_link(
-        &image[shared..slots],
-        &image[slots..end],
-        envs,
-        n,
-        u,
-        r,
-        pending,
-    ) {
-        return 0;
-    }
-    10
+    holds_or(
+        same_link(rows, parts, envs, n, u, r, pending),
+        Fault::Unequal,
+    )
 }

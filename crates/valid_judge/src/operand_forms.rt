@@ -5,20 +5,19 @@ ghost use Rattle.valid.specs.Program.{Program};
 ghost use Rattle.valid.specs.PassThree.{judge};
 ghost use Rattle.valid_context.specs.Context.{context_of};
 ghost use Rattle.valid.specs.Bounds.{SmallInstr};
-ghost use Rattle.valid_context.specs.premises.Answers.{Answered};
+ghost use Rattle.valid_typing.specs.target.Fits.{AnsweredBy};
 ghost use Rattle.valid_typing.specs.Image.{read_at, Prepared, instr_in, HoldsAt, letters_in};
 ghost use Rattle.valid_judge.specs.Codes.{ValueForm, JumpForm, OpenForm};
 ghost use Rattle.valid_judge.specs.heap.Forms.{KeptRegs};
 ghost use Rattle.valid_judge.specs.Image.{Roomy, Unpacks, Rooms, InFileAt, OpensAt};
 
 use crate::InstrForm;
-use crate::codes::entry;
 use crate::jumps::Tested;
-use crate::values::Opened;
+use faults::Fault;
 use image::{Counts, Places};
 use valid_scope::BlockLetters;
 use valid_typing::Listed;
-use valid_typing::target::Fitted;
+use valid_typing::target::Misfit;
 
 // add, sub, mul 0 to 2, mov 9, malloc 12
 pub(crate) fn value_form(
@@ -31,23 +30,23 @@ pub(crate) fn value_form(
     w: BlockLetters,
     regs: &mut [u16],
     pending: &mut [u32],
-) -> usize
+) -> Result<(), Fault>
     requires { Prepared p image.now c.rows pending.old × SmallInstr (instr_in p image.now literals.now x.at) × Roomy envs.now regs.old × ValueForm p image.now x }
     ensures { InFileAt p image.now c envs.now (letters_in p image.now w) regs.old regs.new result (instr_in p image.now literals.now x.at) × KeptRegs envs.now regs.old regs.new }
 {
     let from = p.instrs;
     let to = p.parts;
     let instrs = &image[from..to];
-    let a = entry(instrs, x.at, 1);
-    let b = entry(instrs, x.at, 2);
-    let v = entry(instrs, x.at, 5);
+    let a = tables::cell::<8>(instrs, x.at, 1);
+    let b = tables::cell::<8>(instrs, x.at, 2);
+    let v = tables::cell::<8>(instrs, x.at, 5);
     if x.code < 3 {
         return crate::values::compute(image, literals, envs, p, c, v, w, regs, pending, a, b);
     }
     if x.code == 9 {
         return crate::values::move_to(image, literals, envs, p, c, v, w, regs, pending, a);
     }
-    let k = entry(instrs, x.at, 6);
+    let k = tables::cell::<8>(instrs, x.at, 6);
     let o = Listed { first: v, count: k };
     crate::values::make_tuple(image, literals, envs, p, c, o, w, regs, pending, a, b)
 }
@@ -65,18 +64,18 @@ pub(crate) fn jump_form(
     sp: &[u16],
     m: usize,
     pending: &mut [u32],
-) -> Fitted
+) -> Result<(), Misfit>
     requires { Prepared p image.now c.rows pending.old × SmallInstr (instr_in p image.now literals.now x.at) × JumpForm p image.now x × Rooms envs.now regs.now sp.now m }
-    ensures { (P : Program) → HoldsAt p image.now c P → Answered (judge P (letters_in p image.now w) (context_of (read_at p image.now c.rows envs.now) regs.now sp.now m) (instr_in p image.now literals.now x.at)) result.fault (context_of (read_at p image.now c.rows envs.now) regs.now sp.now m) result.item }
+    ensures { (P : Program) → HoldsAt p image.now c P → AnsweredBy (judge P (letters_in p image.now w) (context_of (read_at p image.now c.rows envs.now) regs.now sp.now m) (instr_in p image.now literals.now x.at)) (λ u. context_of (read_at p image.now c.rows envs.now) regs.now sp.now m) result }
 {
     let from = p.instrs;
     let to = p.parts;
     let instrs = &image[from..to];
-    let v = entry(instrs, x.at, 5);
+    let v = tables::cell::<8>(instrs, x.at, 5);
     if x.code == 21 {
         return crate::jumps::jump(image, literals, envs, p, c, v, w, regs, sp, m, pending);
     }
-    let r = entry(instrs, x.at, 1);
+    let r = tables::cell::<8>(instrs, x.at, 1);
     let b = Tested {
         register: r,
         operand: v,
@@ -95,14 +94,14 @@ pub(crate) fn open_form(
     w: BlockLetters,
     regs: &mut [u16],
     pending: &mut [u32],
-) -> Opened
+) -> Result<usize, Fault>
     requires { Prepared p image.now c.rows pending.old × SmallInstr (instr_in p image.now literals.now x.at) × Unpacks envs.now w regs.old × OpenForm p image.now x }
     ensures { OpensAt p image.now c envs.now w regs.old regs.new result (instr_in p image.now literals.now x.at) }
 {
     let from = p.instrs;
     let to = p.parts;
     let instrs = &image[from..to];
-    let d = entry(instrs, x.at, 1);
-    let v = entry(instrs, x.at, 5);
+    let d = tables::cell::<8>(instrs, x.at, 1);
+    let v = tables::cell::<8>(instrs, x.at, 5);
     crate::values::open(image, literals, envs, p, c, v, w, regs, pending, d)
 }

@@ -1,7 +1,7 @@
 // An instruction of pass three that has no operand, by its code in the table of instructions (crate tables): each function here takes the
 // codes of some forms that have the same effect on the checker's arrays, reads the instruction's numbers, and judges it. Promised of each:
 // what `judge` of crate valid gives instruction j of the table, as the form's own function promises it.
-ghost use Rattle.std.specs.Prelude.{◌≤◌};
+ghost use Rattle.std.specs.Prelude.{◌≤◌, IfOk};
 ghost use Rattle.tables.specs.Tables.{OperandTable, instr_at};
 ghost use Rattle.image.specs.Sections.{instr_section};
 ghost use Rattle.valid_typing.specs.Image.{Prepared, letters_in};
@@ -11,10 +11,10 @@ ghost use Rattle.valid_judge.specs.stack.Forms.{Kept};
 ghost use Rattle.valid_judge.specs.Image.{Roomy, Flattens, Rooms, InRegsAt, InStackAt};
 
 use crate::InstrForm;
-use crate::codes::entry;
-use crate::stack::Moved;
 use crate::through::PointerStore;
+use faults::Fault;
 use image::Places;
+use tables::cell;
 use valid_scope::BlockLetters;
 
 // ld 10, st 11, halt 22 and from 24 on
@@ -27,28 +27,21 @@ pub(crate) fn heap_form(
     w: BlockLetters,
     regs: &mut [u16],
     pending: &mut [u32],
-) -> usize
+) -> Result<(), Fault>
     requires { Prepared p image.now n pending.old × Roomy envs.now regs.old × HeapForm p image.now x }
     ensures { ((ω : OperandTable) → InRegsAt p image.now n envs.now (letters_in p image.now w) regs.old regs.new result (instr_at (instr_section p image.now) ω x.at)) × KeptRegs envs.now regs.old regs.new }
 {
-    let from = p.instrs;
-    let to = p.parts;
-    let shared = p.shared;
-    let slots = p.slots;
-    let end = p.end;
-    let instrs = &image[from..to];
-    let rows = &image[shared..slots];
-    let parts = &image[slots..end];
-    let a = entry(instrs, x.at, 1);
-    let b = entry(instrs, x.at, 2);
-    let c = entry(instrs, x.at, 3);
-    if x.code == 10 {
-        return crate::heap::load(rows, parts, envs, n, regs, a, b, c);
+    let instrs = &image[p.instrs..p.parts];
+    let rows = &image[p.shared..p.slots];
+    let parts = &image[p.slots..p.end];
+    let a = cell::<8>(instrs, x.at, 1);
+    let b = cell::<8>(instrs, x.at, 2);
+    let c = cell::<8>(instrs, x.at, 3);
+    match x.code {
+        10 => crate::heap::load(rows, parts, envs, n, regs, a, b, c),
+        11 => crate::heap::store(rows, parts, envs, n, regs, a, b, c, pending),
+        _ => crate::heap::stop(image, envs, p, n, regs, a, w, pending),
     }
-    if x.code == 11 {
-        return crate::heap::store(rows, parts, envs, n, regs, a, b, c, pending);
-    }
-    crate::heap::stop(image, envs, p, n, regs, a, w, pending)
 }
 
 // getsp 13, setsp 14, salloc 15, sfree 16
@@ -63,31 +56,24 @@ pub(crate) fn sp_form(
     sp: &mut [u16],
     depth: usize,
     pending: &mut [u32],
-) -> Moved
+) -> Result<usize, Fault>
     requires { Prepared p image.now n pending.old × Rooms envs.now regs.old sp.old depth × SpForm p image.now x }
-    ensures { ((ω : OperandTable) → InStackAt p image.now n envs.now (letters_in p image.now w) regs.old sp.old depth regs.new sp.new result.depth result.fault (instr_at (instr_section p image.now) ω x.at)) × (result.depth ≤ 64) × Kept envs.now regs.old sp.old depth regs.new sp.new result.depth }
+    ensures { ((ω : OperandTable) → InStackAt p image.now n envs.now (letters_in p image.now w) regs.old sp.old depth regs.new sp.new (λ y. y) result (instr_at (instr_section p image.now) ω x.at)) × IfOk result (λ y. y ≤ 64) × IfOk result (λ y. Kept envs.now regs.old sp.old depth regs.new sp.new y) }
 {
-    let from = p.instrs;
-    let to = p.parts;
-    let shared = p.shared;
-    let slots = p.slots;
-    let end = p.end;
-    let instrs = &image[from..to];
-    let a = entry(instrs, x.at, 1);
-    let b = entry(instrs, x.at, 2);
-    if x.code == 13 {
-        let f = crate::stack::get_sp(image, envs, p, n, w, regs, sp, depth, a, b, pending);
-        return Moved { fault: f, depth };
+    let instrs = &image[p.instrs..p.parts];
+    let rows = &image[p.shared..p.slots];
+    let parts = &image[p.slots..p.end];
+    let a = cell::<8>(instrs, x.at, 1);
+    let b = cell::<8>(instrs, x.at, 2);
+    match x.code {
+        13 => {
+            crate::stack::get_sp(image, envs, p, n, w, regs, sp, depth, a, b, pending)?;
+            Ok(depth)
+        }
+        14 => crate::stack::set_sp(rows, parts, envs, n, regs, sp, depth, a, pending),
+        15 => crate::stack::allocate(n, sp, depth, a),
+        _ => crate::stack::free(sp, depth, a),
     }
-    if x.code == 14 {
-        let rows = &image[shared..slots];
-        let parts = &image[slots..end];
-        return crate::stack::set_sp(rows, parts, envs, n, regs, sp, depth, a, pending);
-    }
-    if x.code == 15 {
-        return crate::stack::allocate(n, sp, depth, a);
-    }
-    crate::stack::free(sp, depth, a)
 }
 
 // sld 17, sst 18, slp 19, ssp 20
@@ -103,36 +89,29 @@ pub(crate) fn item_form(
     work: &mut [u16],
     m: usize,
     pending: &mut [u32],
-) -> usize
+) -> Result<(), Fault>
     requires { Prepared p image.now n pending.old × Flattens p image.now n work.old × Rooms envs.now regs.old sp.old m × ItemForm p image.now x }
-    ensures { ((ω : OperandTable) → InStackAt p image.now n envs.now (letters_in p image.now w) regs.old sp.old m regs.new sp.new m result (instr_at (instr_section p image.now) ω x.at)) × Kept envs.now regs.old sp.old m regs.new sp.new m }
+    ensures { ((ω : OperandTable) → InStackAt p image.now n envs.now (letters_in p image.now w) regs.old sp.old m regs.new sp.new (λ (u : Unit {0}). m) result (instr_at (instr_section p image.now) ω x.at)) × Kept envs.now regs.old sp.old m regs.new sp.new m }
 {
-    let from = p.instrs;
-    let to = p.parts;
-    let shared = p.shared;
-    let slots = p.slots;
-    let end = p.end;
-    let instrs = &image[from..to];
-    let a = entry(instrs, x.at, 1);
-    let b = entry(instrs, x.at, 2);
-    if x.code == 17 {
-        return crate::stack::load_item(regs, sp, m, a, b);
+    let instrs = &image[p.instrs..p.parts];
+    let rows = &image[p.shared..p.slots];
+    let parts = &image[p.slots..p.end];
+    let a = cell::<8>(instrs, x.at, 1);
+    let b = cell::<8>(instrs, x.at, 2);
+    let c = cell::<8>(instrs, x.at, 3);
+    let t = cell::<8>(instrs, x.at, 4);
+    match x.code {
+        17 => crate::stack::load_item(regs, sp, m, a, b),
+        18 => crate::stack::store_item(n, regs, sp, m, a, b),
+        19 => crate::through::load_through(rows, parts, envs, n, regs, sp, m, a, b, c, pending),
+        _ => {
+            let y = PointerStore {
+                pointer: a,
+                item: b,
+                source: c,
+                row: t,
+            };
+            crate::through::store_through(image, envs, p, n, regs, sp, work, m, y, w, pending)
+        }
     }
-    if x.code == 18 {
-        return crate::stack::store_item(n, regs, sp, m, a, b);
-    }
-    let c = entry(instrs, x.at, 3);
-    if x.code == 19 {
-        let rows = &image[shared..slots];
-        let parts = &image[slots..end];
-        return crate::through::load_through(rows, parts, envs, n, regs, sp, m, a, b, c, pending);
-    }
-    let t = entry(instrs, x.at, 4);
-    let y = PointerStore {
-        pointer: a,
-        item: b,
-        source: c,
-        row: t,
-    };
-    crate::through::store_through(image, envs, p, n, regs, sp, work, m, y, w, pending)
 }

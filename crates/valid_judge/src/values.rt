@@ -3,40 +3,38 @@
 // of the packages opened so far. `pending` is lent for comparisons.
 // Promised of each: the least fault that `judge` of crate valid gives the instruction, 0 if it has none, and then the types after it;
 // every environment that is held exists.
-ghost use Rattle.std.specs.Prelude.{◌≡◌, ℕ, suc, ◌+◌, ◌*◌, ◌≤◌, List, [], ◌∷◌, ◌++◌, ltb, length};
+ghost use Rattle.std.specs.Prelude.{◌≡◌, ℕ, ◌+◌, ◌*◌, ◌≤◌, List, ltb, length, IfOk, MatchResult};
 ghost use Rattle.syntax.specs.Syntax.{value, Arith, aop, mov, malloc, unpack};
 ghost use Rattle.types.specs.Types.{Ty};
 ghost use Rattle.valid.specs.Tests.{as_int, as_hidden};
 ghost use Rattle.valid.specs.PassThree.{Judged, ◌▹◌, or_fault};
-ghost use Rattle.valid_context.specs.Told.{told_of, answer};
+ghost use Rattle.valid_context.specs.Told.{told_of, told};
 ghost use Rattle.valid_scope.specs.Letters.{letters_of};
 ghost use Rattle.types_rows.specs.Environments.{Known};
 ghost use Rattle.valid.specs.Bounds.{Short};
-ghost use Rattle.valid_typing.specs.Typing.{held_in, Ready};
+ghost use Rattle.valid_typing.specs.Typing.{held_in, held_type, Ready};
 ghost use Rattle.valid_typing.specs.Image.{Prepared, operand_in, listed_in, letters_in};
 ghost use Rattle.valid_judge.specs.heap.Forms.{KeptRegs};
+ghost use Rattle.valid_judge.specs.values.Forms.{opened_type};
 ghost use Rattle.valid_judge.specs.Image.{Roomy, Unpacks, ListedIn, InFileAt, OpensAt};
 
+use crate::through::and_give;
+use faults::{Fault, both, holds_or};
 use image::{Counts, Places};
+use types_rows::Held;
 use valid_scope::BlockLetters;
-use valid_typing::{Listed, Typed};
-
-// The least fault, 0 if there is none, and then one more than the environment of the package that is opened.
-#[derive(Clone, Copy)]
-pub struct Opened {
-    pub fault: usize,
-    pub opened: usize,
-}
+use valid_typing::Listed;
 
 // A premise has the answer t: that its type is the integer type.
-fn int_fault(rows: &[u16], parts: &[u16], n: usize, t: Typed) -> usize
-    requires { Ready rows.now parts.now n × (t.row ≤ 65535) }
-    ensures { (E : List ℕ) (J : Judged (Ty value)) → told_of J ≡ answer t.fault ((held_in rows.now parts.now n E).type t.env t.row) → told_of (J ▹ λ u. or_fault 9 (as_int u)) ≡ answer result tt }
+fn integral(rows: &[u16], parts: &[u16], n: usize, t: Result<Held, Fault>) -> Result<(), Fault>
+    requires { Ready rows.now parts.now n × IfOk t (λ h. h.row ≤ 65535) }
+    ensures { (E : List ℕ) (J : Judged (Ty value)) → told_of J ≡ told (held_type (held_in rows.now parts.now n E)) t → told_of (J ▹ λ u. or_fault 9 (as_int u)) ≡ told (λ u. tt) result }
 {
-    if t.fault != 0 {
-        return t.fault;
-    }
-    crate::stack::if_not(9, valid_typing::is_int(rows, parts, n, t.row))
+    let h = t?;
+    holds_or(
+        valid_typing::is_int(rows, parts, n, h.row),
+        Fault::WrongType,
+    )
 }
 
 // add, sub, mul: d s v, under the letters w
@@ -52,7 +50,7 @@ pub(crate) fn compute(
     pending: &mut [u32],
     d: usize,
     s: usize,
-) -> usize
+) -> Result<(), Fault>
     requires { Prepared p image.now c.rows pending.old × Short (operand_in p image.now literals.now v) × (v ≤ 131072) × Roomy envs.now regs.old }
     ensures { ((o : Arith) → InFileAt p image.now c envs.now (letters_in p image.now w) regs.old regs.new result (aop o d s (operand_in p image.now literals.now v))) × KeptRegs envs.now regs.old regs.new }
 {
@@ -63,11 +61,8 @@ pub(crate) fn compute(
     let parts = &image[slots..end];
     let n = c.rows;
     let t = valid_typing::operands::operand(image, literals, envs, p, c, v, w, regs, pending);
-    let g = int_fault(rows, parts, n, t);
-    let f = valid_context::least(valid_typing::integer(rows, parts, n, regs, s), g);
-    if f != 0 {
-        return f;
-    }
+    let g = integral(rows, parts, n, t);
+    both(valid_typing::integer(rows, parts, n, regs, s), g)?;
     crate::heap::set_register(regs, d, n, 2 * envs.len())
 }
 
@@ -83,14 +78,11 @@ pub(crate) fn move_to(
     regs: &mut [u16],
     pending: &mut [u32],
     d: usize,
-) -> usize
+) -> Result<(), Fault>
     requires { Prepared p image.now c.rows pending.old × Short (operand_in p image.now literals.now v) × (v ≤ 131072) × Roomy envs.now regs.old }
     ensures { InFileAt p image.now c envs.now (letters_in p image.now w) regs.old regs.new result (mov d (operand_in p image.now literals.now v)) × KeptRegs envs.now regs.old regs.new }
 {
-    let t = valid_typing::operands::operand(image, literals, envs, p, c, v, w, regs, pending);
-    if t.fault != 0 {
-        return t.fault;
-    }
+    let t = valid_typing::operands::operand(image, literals, envs, p, c, v, w, regs, pending)?;
     crate::heap::set_register(regs, d, t.row, t.env)
 }
 
@@ -107,7 +99,7 @@ fn make_listed(
     pending: &mut [u32],
     d: usize,
     t: usize,
-) -> usize
+) -> Result<(), Fault>
     requires { Prepared p image.now c.rows pending.old × ListedIn p image.now literals.now o × Roomy envs.now regs.old }
     ensures { InFileAt p image.now c envs.now (letters_in p image.now w) regs.old regs.new result (malloc d t (listed_in p image.now literals.now o)) × KeptRegs envs.now regs.old regs.new }
 {
@@ -119,25 +111,14 @@ fn make_listed(
     let g = valid_typing::components::operand_list(
         image, literals, envs, p, c, o, w, regs, pending, &mut found,
     );
-    let f = valid_context::least(valid_typing::formed_row(image, p, n, t, w), g);
-    if f != 0 {
-        return f;
-    }
+    both(valid_typing::formed_row(image, p, n, t, w), g)?;
     let r = valid_typing::given_row(n, t);
     let rows = &image[shared..slots];
-    if valid_typing::components::same_tuple(
-        rows,
-        &image[slots..end],
-        envs,
-        n,
-        r,
-        &found,
-        o.count,
-        pending,
-    ) {
-        return crate::heap::set_register(regs, d, r, 2 * envs.len());
+    let parts = &image[slots..end];
+    if !valid_typing::components::same_tuple(rows, parts, envs, n, r, &found, o.count, pending) {
+        return Err(Fault::Unequal);
     }
-    10
+    crate::heap::set_register(regs, d, r, 2 * envs.len())
 }
 
 // malloc d t o
@@ -153,7 +134,7 @@ pub(crate) fn make_tuple(
     pending: &mut [u32],
     d: usize,
     t: usize,
-) -> usize
+) -> Result<(), Fault>
     requires { Prepared p image.now c.rows pending.old × ListedIn p image.now literals.now o × Roomy envs.now regs.old }
     ensures { InFileAt p image.now c envs.now (letters_in p image.now w) regs.old regs.new result (malloc d t (listed_in p image.now literals.now o)) × KeptRegs envs.now regs.old regs.new }
 {
@@ -161,10 +142,7 @@ pub(crate) fn make_tuple(
     if !valid_typing::plain_components::plain_tuple(image, literals, envs, p, c, o, regs, r) {
         return make_listed(image, literals, envs, p, c, o, w, regs, pending, d, t);
     }
-    let f = valid_typing::formed_row(image, p, c.rows, t, w);
-    if f != 0 {
-        return f;
-    }
+    valid_typing::formed_row(image, p, c.rows, t, w)?;
     crate::heap::set_register(regs, d, r, 2 * envs.len())
 }
 
@@ -176,19 +154,14 @@ fn has_room(w: BlockLetters) -> bool
     w.count < 64 - w.hidden
 }
 
-// A premise has the answer t: that its type is a package's, and the type inside.
-fn inside(rows: &[u16], parts: &[u16], n: usize, t: Typed) -> Typed
-    requires { Ready rows.now parts.now n × (t.row ≤ 65535) }
-    ensures { ((E : List ℕ) (J : Judged (Ty value)) → Known E → t.env ≤ 2 * length E → told_of J ≡ answer t.fault ((held_in rows.now parts.now n E).type t.env t.row) → told_of (J ▹ λ u. or_fault 9 (as_hidden u)) ≡ answer result.fault ((held_in rows.now parts.now n (E ++ t.env ∷ [])).type (suc (2 * length E)) result.row)) × (result.row ≤ n + 1) }
+// A premise has the answer t: that its type is a package's, and the row inside, with the package's environment.
+fn inside(rows: &[u16], parts: &[u16], n: usize, t: Result<Held, Fault>) -> Result<Held, Fault>
+    requires { Ready rows.now parts.now n × IfOk t (λ h. h.row ≤ 65535) }
+    ensures { ((E : List ℕ) (J : Judged (Ty value)) → Known E → IfOk t (λ h. h.env ≤ 2 * length E) → told_of J ≡ told (held_type (held_in rows.now parts.now n E)) t → told_of (J ▹ λ u. or_fault 9 (as_hidden u)) ≡ told (opened_type rows.now parts.now n E) result) × IfOk result (λ h. (h.row ≤ n + 1) × MatchResult t (λ k. h.env ≡ k.env) (λ f. ⊥)) }
 {
-    if t.fault != 0 {
-        return Typed {
-            fault: t.fault,
-            row: 0,
-            env: 0,
-        };
-    }
-    valid_typing::hidden_inside(rows, parts, n, t.row)
+    let k = t?;
+    let row = valid_typing::hidden_inside(rows, parts, n, k.row)?;
+    Ok(Held { row, env: k.env })
 }
 
 // unpack d v, under the letters w
@@ -203,7 +176,7 @@ pub(crate) fn open(
     regs: &mut [u16],
     pending: &mut [u32],
     d: usize,
-) -> Opened
+) -> Result<usize, Fault>
     requires { Prepared p image.now c.rows pending.old × Short (operand_in p image.now literals.now v) × (v ≤ 131072) × Unpacks envs.now w regs.old }
     ensures { OpensAt p image.now c envs.now w regs.old regs.new result (unpack d (operand_in p image.now literals.now v)) }
 {
@@ -213,17 +186,10 @@ pub(crate) fn open(
     let rows = &image[shared..slots];
     let parts = &image[slots..end];
     let t = valid_typing::operands::operand(image, literals, envs, p, c, v, w, regs, pending);
-    let i = inside(rows, parts, c.rows, t);
-    let f = valid_context::least(crate::stack::if_not(7, has_room(w)), i.fault);
-    if f != 0 {
-        return Opened {
-            fault: f,
-            opened: 0,
-        };
-    }
-    let g = crate::heap::set_register(regs, d, i.row, 2 * envs.len() + 1);
-    Opened {
-        fault: g,
-        opened: t.env + 1,
-    }
+    let i = and_give(
+        holds_or(has_room(w), Fault::Unbound),
+        inside(rows, parts, c.rows, t),
+    )?;
+    crate::heap::set_register(regs, d, i.row, 2 * envs.len() + 1)?;
+    Ok(i.env)
 }

@@ -1,18 +1,21 @@
 -- The lowest line of pass three, block by block.
-use Prim.Native.Nat.{ℕ, zero, suc, ◌+◌, ◌-◌, ◌*◌, ◌≤◌, ◌<◌}
+use Prim.Native.Nat.{ℕ, zero, suc, ◌+◌, ◌-◌, ◌≤◌, ◌<◌}
 use native.Mathlib.Omega.{arith}
 use mathlib.Core.Path.{◌≡◌, refl, ap, ap₂, sym, ◌∙◌}
 use mathlib.Core.Bool.{Bool, true, false, cond}
 use mathlib.Core.Option.{Option, none, some}
 use mathlib.Core.List.{List, [], ◌∷◌, ◌++◌, append-nil, append-eq-nil_iff}
 use lib.Dec.{eqb, ltb}
-use lib.ListN.{length, get_or, replicate, length-replicate}
+use lib.ListN.{length, replicate, length-replicate}
 use borrow.Author.Tests.{ne_eqb, lt-ltb, ltb-false}
+use Rattle.std.specs.Prelude.{Option as Maybe, Some, None}
+use Rattle.faults.specs.declared.Fault.{Fault as CodeFault}
+use Rattle.faults.specs.Numbers.{fault_number}
 use Rattle.syntax.specs.Syntax.{value, Instr}
 use Rattle.syntax.specs.Fault.{Fault, given, number_of, lowest, Pass, Refusal, lowest_line, or_else}
 use Rattle.syntax.proofs.Least.{least_of, given_none, Numbered, numbered_given, numbered_append, refuse_plain, line_next, line_here, line_append, line_after}
 use Rattle.text.specs.PassOne.{Listing}
-use Rattle.types.specs.Types.{code, items, Arg}
+use Rattle.types.specs.Types.{items, Arg}
 use Rattle.types.specs.Rows.{type_at, types_of}
 use Rattle.tables.specs.Tables.{RowTable, cell, letters_at, rows_in, OperandTable, instrs_from, blocks_from}
 use Rattle.tables.proofs.Steps.{length_rows, length_instrs, end_of, blocks_step}
@@ -28,27 +31,23 @@ use Rattle.types_rows.specs.declared.Val.{Val}
 use Rattle.types_rows.specs.declared.Val.TheVariants.{Code}
 use Rattle.valid_scope.specs.entry.Entry.{block_at}
 use Rattle.valid_scope.proofs.entry.Laws.{block_is}
-use Rattle.valid_context.specs.premises.Answers.{item_said}
-use Rattle.valid_verdict.specs.declared.finding.Finding.{Finding}
-use Rattle.valid_verdict.specs.finding.Found.{refusal_said}
 use Rattle.valid_pass_three.specs.Blocks.{block_pass, the_block}
-use Rattle.valid_verdict.proofs.finding.Laws.{says_none, says_some}
 use Rattle.valid_pass_three.proofs.body.Lines.{length_body}
+
+-- ---- no fault of the code
+pub no_fault : (o : Maybe CodeFault) → ((f : CodeFault) → o ≡ Some f → ⊥) → fault_number o ≡ 0
+no_fault None k = refl
+no_fault (Some f) k = absurd (k f refl)
 
 -- ---- one block
 numbered_block : (first : Bool) (B : Block) → Numbered (block_faults first B)
 unfolding block_faults
 numbered_block first B = numbered_append (given _ 7 ++ given _ 8) (given _ 13) (numbered_append (given _ 7) (given _ 8) (numbered_given _ 6) (numbered_given _ 7)) (numbered_given _ 12)
 
--- a finding without an item
-unitem : (k n : ℕ) → (k ≡ 0 → ⊥) → refusal_said (record { number = k; line = n; item = 100 }) ≡ some (record { number = k; line = n; item = none })
-unfolding item_said
-unitem k n z = says_some (record { number = k; line = n; item = 100 }) z
-
 module _ (P : Program) (first : Bool) (B : Block) (n k : ℕ) (e : k ≡ least_of (block_faults first B)) where
-  pub block_line : (k ≡ 0 → ⊥) → refusal_said (record { number = k; line = n; item = 100 }) ≡ lowest_line n (block_pass P first B)
+  pub block_line : (k ≡ 0 → ⊥) → some (record { number = k; line = n; item = none }) ≡ lowest_line n (block_pass P first B)
   block_line z =
-      unitem k n z ∙ ap (λ (m : ℕ). some (record { number = m; line = n; item = none })) e
+      ap (λ (m : ℕ). some (record { number = m; line = n; item = none })) e
       ∙ ap some (sym (refuse_plain (least_of (block_faults first B)) n (block_faults first B) (item_block first B)))
       ∙ sym (line_here n (block_faults first B) (body_faults P B.letters (holds (at_start B)) B.body) (λ w. z (e ∙ w)))
 
@@ -97,15 +96,15 @@ module _ (P : Program) (T : List Arg) (β ι : List ℕ) (ω : OperandTable) (ni
       ∙ line_append L (block_pass P (eqb b 0) (the_block T β ι ω ni nb b)) Y
       ∙ ap₂ (λ (x : ℕ) (f : Bool). or_else (lowest_line L (block_pass P (eqb b 0) (the_block T β ι ω ni nb b))) (lowest_line x (blocks_faults P f (blocks_of T (blocks_from β ι ω ni (b + 1) (nb - (b + 1))))))) q z
 
-  module _ (b : ℕ) (h : b < nb) (l : cell 2 β b 1 ≤ end_of β ni nb b) (f : Finding) (r : refusal_said f ≡ lowest_line (n + b + cell 2 β b 1 + 1) (block_pass P (eqb b 0) (the_block T β ι ω ni nb b))) where
-    after_block : blocks_left b ≡ or_else (refusal_said f) (blocks_left (b + 1))
-    after_block = step b h l ∙ ap (λ (o : Option Refusal). or_else o (blocks_left (b + 1))) (sym r)
+  module _ (b : ℕ) (h : b < nb) (l : cell 2 β b 1 ≤ end_of β ni nb b) {o : Option Refusal} (r : o ≡ lowest_line (n + b + cell 2 β b 1 + 1) (block_pass P (eqb b 0) (the_block T β ι ω ni nb b))) where
+    after_block : blocks_left b ≡ or_else o (blocks_left (b + 1))
+    after_block = step b h l ∙ ap (λ (p : Option Refusal). or_else p (blocks_left (b + 1))) (sym r)
 
-    pub block_next : f.number ≡ 0 → blocks_left b ≡ blocks_left (b + 1)
-    block_next z = after_block ∙ ap (λ (o : Option Refusal). or_else o (blocks_left (b + 1))) (says_none f z)
+    pub block_next : o ≡ none → blocks_left b ≡ blocks_left (b + 1)
+    block_next z = after_block ∙ ap (λ (p : Option Refusal). or_else p (blocks_left (b + 1))) z
 
-    pub block_found : (f.number ≡ 0 → ⊥) → refusal_said f ≡ blocks_left b
-    block_found z = says_some f z ∙ sym (after_block ∙ ap (λ (o : Option Refusal). or_else o (blocks_left (b + 1))) (says_some f z))
+    pub block_found : {x : Refusal} → o ≡ some x → some x ≡ blocks_left b
+    block_found z = sym (after_block ∙ ap (λ (p : Option Refusal). or_else p (blocks_left (b + 1))) z)
 
   pub blocks_end : (b : ℕ) → nb ≤ b → blocks_left b ≡ none
   unfolding blocks_left blocks_from blocks_of blocks_faults lowest_line
@@ -174,8 +173,8 @@ module _ (P : Program) (T : List Arg) (β ι : List ℕ) (ω : OperandTable) (ni
       let r : length P.types ≡ n = ap length t ∙ c in
       ap₂ (λ (x : ℕ) (Bs : List Block). lowest_line 0 (replicate (suc x) [] ++ blocks_faults P true Bs ++ given (has_none Bs) 8 ∷ [])) r e ∙ last_eight
 
-  pub no_block : length T ≡ n → P.types ≡ T → P.blocks ≡ blocks_of T (blocks_from β ι ω ni 0 nb) → nb ≡ 0 → refusal_said (record { number = 8; line = n + 1; item = 100 }) ≡ lowest_line 0 (pass_three P)
-  no_block c t e z = unitem 8 (n + 1) (λ w. omega arith) ∙ sym (no_line c t (e ∙ none_there z))
+  pub no_block : length T ≡ n → P.types ≡ T → P.blocks ≡ blocks_of T (blocks_from β ι ω ni 0 nb) → nb ≡ 0 → some (record { number = 8; line = n + 1; item = none }) ≡ lowest_line 0 (pass_three P)
+  no_block c t e z = sym (no_line c t (e ∙ none_there z))
 
 -- ---- a block of a code row
 module _ (rows parts : List ℕ) (n c h : ℕ) {v : Val} {x p : ℕ} (e : h ≡ lower (n + 1) c) (f : v ≡ value_at rows (place_v 0 (lift 0) 0) h) (q : v ≡ Code x p) where
@@ -190,33 +189,30 @@ module _ (rows parts : List ℕ) (n c h : ℕ) {v : Val} {x p : ℕ} (e : h ≡ 
   few_items first k xs w z = short_sp first xs (ap (block_faults first) (sym (block_is rows parts n c h e f {x = x} {p = p} xs q)) ∙ numbered_block first (block_of (type_at value (types_of (rows_in (tab rows parts) n)) c) xs) (sym w ∙ z))
 
 -- ---- block b, as the code finds it
-module _ (P : Program) (rows parts β ι : List ℕ) (ω : OperandTable) (ni n nb b c s line : ℕ) (cs : c ≡ get_or β (2 * b) 0) (ss : s ≡ cell 2 β b 1) (ls : line ≡ n + b + s + 1) where
+module _ (P : Program) (rows parts β ι : List ℕ) (ω : OperandTable) (ni n nb b c s line : ℕ) (cs : c ≡ cell 2 β b 0) (ss : s ≡ cell 2 β b 1) (ls : line ≡ n + b + s + 1) where
   abbrev T : List Arg
   T = types_of (rows_in (tab rows parts) n)
 
   abbrev xs : List Instr
   xs = instrs_from ι ω (cell 2 β b 1) (end_of β ni nb b - cell 2 β b 1)
 
-  the_row : c ≡ cell 2 β b 0
-  the_row = let q : 2 * b ≡ 2 * b + 0 = omega arith in cs ∙ ap (λ (i : ℕ). get_or β i 0) q
-
   the_block_lem : block_of (type_at value T c) xs ≡ the_block T β ι ω ni nb b
-  the_block_lem = ap (λ (y : ℕ). block_of (type_at value T y) xs) the_row
+  the_block_lem = ap (λ (y : ℕ). block_of (type_at value T y) xs) cs
 
   the_line : line ≡ n + b + cell 2 β b 1 + 1
   the_line = omega (arith, ls, ss)
 
-  pub found_line : (k : ℕ) (out : Finding) → k ≡ least_of (block_faults (eqb b 0) (block_of (type_at value T c) xs)) → (k ≡ 0 → ⊥) → out ≡ record { number = k; line = line; item = 100 }
-      → refusal_said out ≡ lowest_line (n + b + cell 2 β b 1 + 1) (block_pass P (eqb b 0) (the_block T β ι ω ni nb b))
-  found_line k out e z o =
-      ap refusal_said (o ∙ ap (λ (y : ℕ). record { number = k; line = y; item = 100 }) the_line)
+  pub found_line : (k : ℕ) → k ≡ least_of (block_faults (eqb b 0) (block_of (type_at value T c) xs)) → (k ≡ 0 → ⊥)
+      → some (record { number = k; line = line; item = none }) ≡ lowest_line (n + b + cell 2 β b 1 + 1) (block_pass P (eqb b 0) (the_block T β ι ω ni nb b))
+  found_line k e z =
+      ap (λ (y : ℕ). some (record { number = k; line = y; item = none })) the_line
       ∙ block_line P (eqb b 0) (the_block T β ι ω ni nb b) (n + b + cell 2 β b 1 + 1) k (e ∙ ap (λ (B : Block). least_of (block_faults (eqb b 0) B)) the_block_lem) z
 
-  pub found_body : (k h x p en base : ℕ) (out : Finding) → k ≡ least_of (block_faults (eqb b 0) (block_of (type_at value T c) xs)) → k ≡ 0
+  pub found_body : (k h x p en base : ℕ) (out : Option Refusal) → k ≡ least_of (block_faults (eqb b 0) (block_of (type_at value T c) xs)) → k ≡ 0
       → block_of (type_at value T c) xs ≡ block_at (tab rows parts) h x p xs → en ≡ end_of β ni nb b → base ≡ n + b + 2
-      → refusal_said out ≡ lowest_line (base + s) (body_faults P (letters_at parts p)
+      → out ≡ lowest_line (base + s) (body_faults P (letters_at parts p)
       (holds (at_start (block_at (tab rows parts) h x p (instrs_from ι ω s (en - s))))) (instrs_from ι ω s (en - s)))
-      → refusal_said out ≡ lowest_line (n + b + cell 2 β b 1 + 1) (block_pass P (eqb b 0) (the_block T β ι ω ni nb b))
+      → out ≡ lowest_line (n + b + cell 2 β b 1 + 1) (block_pass P (eqb b 0) (the_block T β ι ω ni nb b))
   found_body k h x p en base out e z bl ee be r =
       let m : base + s ≡ suc (n + b + cell 2 β b 1 + 1) = omega (arith, be, ss) in
       r ∙ ap₂ (λ (j : ℕ) (ys : List Instr). lowest_line j (body_faults P (letters_at parts p) (holds (at_start (block_at (tab rows parts) h x p ys))) ys)) m (ap₂ (λ (i w : ℕ). instrs_from ι ω i (w - i)) ss ee)

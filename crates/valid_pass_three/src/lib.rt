@@ -12,6 +12,7 @@ ghost use Rattle.syntax.specs.Fault.{lowest_line};
 ghost use Rattle.syntax.proofs.Least.{least_of};
 ghost use Rattle.types.specs.Rows.{type_at, types_of};
 ghost use Rattle.tables.specs.Tables.{cell, rows_in};
+ghost use Rattle.faults.specs.Numbers.{fault_number};
 ghost use Rattle.tables.proofs.Steps.{end_of};
 ghost use Rattle.valid.specs.Program.{Program, block_of, blocks_of};
 ghost use Rattle.valid.specs.PassThree.{block_faults, pass_three};
@@ -22,6 +23,7 @@ ghost use Rattle.valid_pass_three.specs.body.Tables.{Tabled, Arrays};
 ghost use Rattle.valid_pass_three.specs.Blocks.{block_pass, block_in, blocks_in, BlockWithin, BlocksWithin};
 
 use crate::body::CodeBlock;
+use faults::Fault;
 use image::{Counts, Places};
 use types_rows::Val;
 use valid_verdict::finding::{Finding, on_line};
@@ -32,27 +34,23 @@ fn block_end(blocks: &[u16], nb: usize, ni: usize, b: usize) -> usize
     ensures { result ≡ end_of blocks.now ni nb b }
 {
     if b + 1 < nb {
-        return types_rows::at(blocks, 2 * (b + 1) + 1);
+        tables::cell::<2>(blocks, b + 1, 1)
+    } else {
+        ni
     }
-    ni
 }
 
-// The least fault of the line of a block with the row r, of n rows; 0 for none.
-fn line_fault(image: &[u16], p: Places, n: usize, r: usize, first: bool) -> usize
+// The least fault of the line of a block with the row r, of n rows.
+fn line_fault(image: &[u16], p: Places, n: usize, r: usize, first: bool) -> Option<Fault>
     requires { Tabled p image.now n × (r ≤ 65535) }
-    ensures { (xs : List Instr) → result ≡ least_of (block_faults first (block_of (type_at value (types_of (rows_in (row_table p image.now) n)) r) xs)) }
+    ensures { (xs : List Instr) → fault_number result ≡ least_of (block_faults first (block_of (type_at value (types_of (rows_in (row_table p image.now) n)) r) xs)) }
 {
-    let uses = p.uses;
-    let tops = p.tops;
-    let shared = p.shared;
-    let slots = p.slots;
-    let end = p.end;
     valid_scope::entry::block_fault(
-        &image[shared..slots],
-        &image[slots..end],
+        &image[p.shared..p.slots],
+        &image[p.slots..p.end],
         n,
-        &image[uses..tops],
-        &image[tops..shared],
+        &image[p.uses..p.tops],
+        &image[p.tops..p.shared],
         r,
         first,
     )
@@ -69,27 +67,22 @@ fn block(
     sp: &mut [u16],
     work: &mut [u16],
     pending: &mut [u32],
-) -> Finding
+) -> Result<(), Finding>
     requires { Tabled p image.now c.rows × BlockWithin p image.now literals.now c b × Arrays regs.old sp.old work.old pending.old }
     ensures { (P : Program) → HoldsAt p image.now c P → refusal_said result ≡ lowest_line (c.rows + b + cell 2 (block_section p image.now) b 1 + 1) (block_pass P (eqb b 0) (block_in p image.now literals.now c b)) }
 {
-    let blocks = p.blocks;
-    let instrs = p.instrs;
-    let shared = p.shared;
-    let slots = p.slots;
-    let table = &image[blocks..instrs];
+    let table = &image[p.blocks..p.instrs];
     let n = c.rows;
-    let r = types_rows::at(table, 2 * b);
-    let first = types_rows::at(table, 2 * b + 1);
+    let r = tables::cell::<2>(table, b, 0);
+    let first = tables::cell::<2>(table, b, 1);
     let line = n + b + first + 1;
     let link = types_rows::link(n + 1, r);
-    let v = types_rows::read_value(&image[shared..slots], link, 0, 0, 0);
+    let v = types_rows::read_value(&image[p.shared..p.slots], link, 0, 0, 0);
     let Val::Code(stack, start) = v else {
-        return on_line(7, line);
+        return Err(on_line(Fault::Unbound, line));
     };
-    let f = line_fault(image, p, n, r, b == 0);
-    if f != 0 {
-        return on_line(f, line);
+    if let Some(f) = line_fault(image, p, n, r, b == 0) {
+        return Err(on_line(f, line));
     }
     let end = block_end(table, c.blocks, c.instrs, b);
     let base = n + b + 2;
@@ -114,24 +107,15 @@ pub fn pass_three(
     sp: &mut [u16],
     work: &mut [u16],
     pending: &mut [u32],
-) -> Finding
+) -> Result<(), Finding>
     requires { Tabled p image.now c.rows × BlocksWithin p image.now literals.now c × Arrays regs.old sp.old work.old pending.old }
     ensures { (P : Program) → HoldsAt p image.now c P → P.blocks ≡ blocks_of (types_of (rows_in (row_table p image.now) c.rows)) (blocks_in p image.now literals.now c) → refusal_said result ≡ lowest_line 0 (pass_three P) }
 {
     if c.blocks == 0 {
-        return on_line(8, c.rows + 1);
+        return Err(on_line(Fault::NoEntry, c.rows + 1));
     }
-    // The loop's invariant speaks of locals, and of no parameter that is a struct.
-    let t = p;
-    let k = c;
-    let mut b = 0;
-    while b < k.blocks {
-        let f = block(image, literals, t, k, b, regs, sp, work, pending);
-        let number = f.number;
-        if number != 0 {
-            return f;
-        }
-        b += 1;
+    for b in 0..c.blocks {
+        block(image, literals, p, c, b, regs, sp, work, pending)?;
     }
-    valid_verdict::finding::nothing()
+    Ok(())
 }

@@ -9,7 +9,7 @@ use mathlib.Core.List.{List}
 use lib.Dec.{eqb, ltb}
 use lib.ListN.{length, get_or, get_elem?, set}
 use lib.Seq.{get_or-set_same, get_or-set_other}
-use borrow.Author.Tests.{eq-eqb, ne_eqb, eqb-true, ltb-true, ltb-false, not-true}
+use borrow.Author.Tests.{eq-eqb, ne_eqb, eqb-true, ltb-true, ltb-false}
 use Rattle.syntax.specs.Syntax.{Kind, Row}
 use Rattle.types.specs.Types.{Arg, arg, a_stack}
 use Rattle.types.specs.Rows.{types_of, row_refs}
@@ -23,7 +23,7 @@ use Rattle.valid_scope.specs.variables.Uses.{use_at, row_use, row_respected}
 use Rattle.valid_scope.specs.Scoped.{row_type, top_in, Free, Scoped, Checked}
 use Rattle.valid_scope.proofs.variables.WellFormed.{fits_unused, fit_each, below_suc, formed_free, formed_respected, formed_made}
 use Rattle.valid_scope.proofs.Rows.{low, row_use_lem, row_respected_lem, row_high, row_type_lem, proper_type, top_respected}
-use Rattle.valid_scope.proofs.variables.Laws.{use_past, use_in}
+use Rattle.valid_scope.proofs.variables.Laws.{use_past, use_in, fit_every}
 
 -- a row's uses are those of its type
 pub type_use : (τ : RowTable) (r : ℕ) (uses : List ℕ) (k : ℕ) → Checked τ r → Free τ r uses → row_use uses k (row_at τ r) ≡ free_in k (row_type τ r)
@@ -126,10 +126,7 @@ module _ (τ : RowTable) (n r : ℕ) (uses tops : List ℕ) (s : Scoped τ n use
   pub formed_not : {x : ℕ} → x ≡ get_or tops r 0 → x ≡ 255 → false ≡ formed_arg Δ (type_in (types_of (rows_in τ n)) r)
   formed_not p q = not_formed (λ e. none_true (sym (ap not (eq-eqb (get_or tops r 0) 255 (sym p ∙ q))) ∙ respected_is ∙ arg_respected Δ (row_type τ r) e))
 
-  pub formed_unfit : (k : ℕ) {u : ℕ} {x : Bool} → u ≡ use_at uses k r → x ≡ fits u (get_elem? Δ k) → not x ≡ true → false ≡ formed_arg Δ (type_in (types_of (rows_in τ n)) r)
-  formed_unfit k p q t = not_formed (λ e. none_true (sym (not-true _ t) ∙ q ∙ ap (λ u. fits u (get_elem? Δ k)) (p ∙ s.free r k h) ∙ arg_free Δ (row_type τ r) e k))
-
-  pub formed_fit : (k : ℕ) {x : ℕ} → x ≡ get_or tops r 0 → (x ≡ 255 → ⊥) → k ≡ x → fit_to Δ (λ k. use_at uses k r) k ≡ true → true ≡ formed_arg Δ (type_in (types_of (rows_in τ n)) r)
+  formed_fit : (k : ℕ) {x : ℕ} → x ≡ get_or tops r 0 → (x ≡ 255 → ⊥) → k ≡ x → fit_to Δ (λ k. use_at uses k r) k ≡ true → true ≡ formed_arg Δ (type_in (types_of (rows_in τ n)) r)
   formed_fit m {x} p q z f = sym (rw (row_type_lem τ n r h) (arg_made Δ (row_type τ r) (proper_type τ r) kept (λ k. each k (ltb k m) refl)))
     where
       kept : respected_in (row_type τ r) ≡ true
@@ -145,3 +142,10 @@ module _ (τ : RowTable) (n r : ℕ) (uses tops : List ℕ) (s : Scoped τ n use
       each : (k : ℕ) (b : Bool) → ltb k m ≡ b → fits (free_in k (row_type τ r)) (get_elem? Δ k) ≡ true
       each k true e = rw (← (s.free r k h)) (fit_each Δ (λ k. use_at uses k r) m f k (ltb-true k m e))
       each k false e = rw (past k (ltb-false k m e) (ltb k 64) refl) (fits_unused (get_elem? Δ k))
+
+  pub formed_by : {b : Bool} {x : ℕ} → x ≡ get_or tops r 0 → (x ≡ 255 → ⊥) → b ≡ fit_to Δ (λ k. use_at uses k r) x → b ≡ formed_arg Δ (type_in (types_of (rows_in τ n)) r)
+  formed_by {b} {x} p q e = go b e
+    where
+      go : (b : Bool) → b ≡ fit_to Δ (λ k. use_at uses k r) x → b ≡ formed_arg Δ (type_in (types_of (rows_in τ n)) r)
+      go true g = formed_fit x p q refl (sym g)
+      go false g = not_formed (λ d. none_true (g ∙ fit_every Δ (λ k. use_at uses k r) x (λ k. ap (λ u. fits u (get_elem? Δ k)) (s.free r k h) ∙ arg_free Δ (row_type τ r) d k)))

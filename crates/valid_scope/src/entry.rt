@@ -3,7 +3,6 @@
 // samples that the entry declares. Asked: that the block's row is a code row (pass two), and the tables of module prepare of load.
 ghost use Rattle.std.specs.Prelude.{◌≡◌, true, false, ◌&&◌, not, List, ◌++◌, get_or, ℕ, ◌≤◌, ◌<◌};
 ghost use Rattle.syntax.specs.Syntax.{value, Instr};
-ghost use Rattle.syntax.specs.Fault.{given};
 ghost use Rattle.syntax.proofs.Least.{least_of};
 ghost use Rattle.types.specs.Types.{Ty, int, push};
 ghost use Rattle.types.specs.Equal.{same};
@@ -15,15 +14,18 @@ ghost use Rattle.valid.specs.Rules.{ints, declared};
 ghost use Rattle.valid.specs.Tests.{is_entry};
 ghost use Rattle.valid.specs.PassThree.{block_faults};
 ghost use Rattle.valid_scope.specs.Scoped.{Scoped};
-ghost use Rattle.valid_scope.specs.entry.Entry.{gaps, Declares, CodeAt, block_at};
+ghost use Rattle.faults.specs.Numbers.{fault_number};
+ghost use Rattle.valid_scope.specs.entry.Entry.{gaps, Declares, FitFirst, CodeAt, block_at};
 
 use crate::BlockLetters;
-use types_rows::{Slot, Val};
+use faults::Fault;
+use types_rows::Val;
 
-// What r1 is as the entry's: fit or not, and how many components it has.
+// The tuple that r1 is as the entry's: its row, where its components start, and how many it has.
 #[derive(Clone, Copy)]
 pub struct Samples {
-    pub fit: bool,
+    pub row: usize,
+    pub start: usize,
     pub count: usize,
 }
 
@@ -32,17 +34,7 @@ fn is_int(rows: &[u16], h: usize) -> bool
     requires { h ≤ 65536 }
     ensures { (parts : List ℕ) → result ≡ same (mean_v (tab rows.now parts) h) int }
 {
-    let v = types_rows::read_value(rows, h, 0, 0, 0);
-    match v {
-        Val::Int => true,
-        Val::Junk => false,
-        Val::ValVar(_) => false,
-        Val::ValFill(_) => false,
-        Val::Tuple(_, _) => false,
-        Val::Pointer(_) => false,
-        Val::Hidden(_) => false,
-        Val::Code(_, _) => false,
-    }
+    matches!(types_rows::read_value(rows, h, 0, 0, 0), Val::Int)
 }
 
 // The c components of row h at p are integers.
@@ -50,15 +42,7 @@ fn all_ints(rows: &[u16], parts: &[u16], h: usize, p: usize, c: usize) -> bool
     requires { (h ≤ 65536) × (0 < h) × (p ≤ 65535) × (c ≤ 65535) }
     ensures { result ≡ same (parts_of (mean_v (tab rows.now parts.now)) parts.now false h p c) (ints c) }
 {
-    let mut i = 0;
-    while i < c {
-        let t = types_rows::link(h, types_rows::at(parts, p + i));
-        if !is_int(rows, t) {
-            return false;
-        }
-        i += 1;
-    }
-    true
+    (0..c).all(|i| is_int(rows, types_rows::link(h, tables::at(parts, p + i))))
 }
 
 // No register of the k at p is named.
@@ -66,55 +50,41 @@ fn none_named(parts: &[u16], p: usize, k: usize) -> bool
     requires { (p ≤ 65536) × (k ≤ 8) }
     ensures { (v : ℕ → Ty value) (h : ℕ) → result ≡ same (parts_of v parts.now true h p k) (gaps k) }
 {
-    let mut i = 0;
-    while i < k {
-        if types_rows::at(parts, p + i) != 0 {
-            return false;
-        }
-        i += 1;
-    }
-    true
+    (0..k).all(|i| tables::at(parts, p + i) == 0)
 }
 
-// Value row t as r1 of the entry: whether it is a tuple of integers, and how many components it has.
-fn tuple_of_ints(rows: &[u16], parts: &[u16], t: usize) -> Samples
+// The tuple that value row t is, if it is one.
+fn tuple_at(rows: &[u16], t: usize) -> Option<Samples>
     requires { t ≤ 65536 }
-    ensures { Declares (push (mean_v (tab rows.now parts.now) t)) result }
+    ensures { (parts : List ℕ) → Declares (tab rows.now parts) (push (mean_v (tab rows.now parts) t)) result }
 {
-    let v = types_rows::read_value(rows, t, 0, 0, 0);
-    match v {
-        Val::Int => no_samples(),
-        Val::Junk => no_samples(),
-        Val::ValVar(_) => no_samples(),
-        Val::ValFill(_) => no_samples(),
-        Val::Tuple(p, c) => Samples {
-            fit: all_ints(rows, parts, t, p, c),
-            count: c,
-        },
-        Val::Pointer(_) => no_samples(),
-        Val::Hidden(_) => no_samples(),
-        Val::Code(_, _) => no_samples(),
+    match types_rows::read_value(rows, t, 0, 0, 0) {
+        Val::Tuple(start, count) => Some(Samples {
+            row: t,
+            start,
+            count,
+        }),
+        _ => None,
     }
 }
 
-fn no_samples() -> Samples
-    ensures { result ≡ record { fit = false; count = 0 } }
-{
-    Samples {
-        fit: false,
-        count: 0,
-    }
-}
-
-// The register of row h that stands at p, as r1 of the entry.
-fn first_register(rows: &[u16], parts: &[u16], h: usize, p: usize) -> Samples
+// The tuple in the register of row h that stands at p, as r1 of the entry.
+fn samples_in(rows: &[u16], parts: &[u16], h: usize, p: usize) -> Option<Samples>
     requires { (0 < h) × (h ≤ 65536) }
-    ensures { Declares (on_slot (mean_v (tab rows.now parts.now)) (slot_at true h (get_or parts.now p 0))) result }
+    ensures { Declares (tab rows.now parts.now) (on_slot (mean_v (tab rows.now parts.now)) (slot_at true h (get_or parts.now p 0))) result }
 {
-    let s = types_rows::part(parts, true, h, p);
-    match s {
-        Slot::Gap => no_samples(),
-        Slot::Known(t) => tuple_of_ints(rows, parts, t),
+    let t = types_rows::part(parts, true, h, p)?;
+    tuple_at(rows, t)
+}
+
+// That register has a tuple of integers.
+fn has_samples(rows: &[u16], parts: &[u16], h: usize, p: usize) -> bool
+    requires { (0 < h) × (h ≤ 65536) }
+    ensures { FitFirst (on_slot (mean_v (tab rows.now parts.now)) (slot_at true h (get_or parts.now p 0))) result }
+{
+    match samples_in(rows, parts, h, p) {
+        Some(x) => all_ints(rows, parts, x.row, x.start, x.count),
+        None => false,
     }
 }
 
@@ -123,47 +93,13 @@ fn is_entry(rows: &[u16], parts: &[u16], h: usize, x: usize, p: usize) -> bool
     requires { CodeAt (tab rows.now parts.now) h x p }
     ensures { (xs : List Instr) → result ≡ is_entry (block_at (tab rows.now parts.now) h x p xs) }
 {
-    if types_rows::letter_count(parts, p) != 0 {
-        return false;
-    }
-    if types_rows::item_count(rows, x) != 0 {
-        return false;
-    }
-    let f = first_register(rows, parts, h, p);
-    if f.fit {
-        return none_named(parts, p + 1, 7);
-    }
-    false
+    types_rows::letter_count(parts, p) == 0
+        && types_rows::item_count(rows, x) == 0
+        && has_samples(rows, parts, h, p)
+        && none_named(parts, p + 1, 7)
 }
 
-// Only block 0 must be fit as the entry.
-fn is_fit(rows: &[u16], parts: &[u16], h: usize, x: usize, p: usize, first: bool) -> bool
-    requires { CodeAt (tab rows.now parts.now) h x p }
-    ensures { (xs : List Instr) → not result ≡ first && not (is_entry (block_at (tab rows.now parts.now) h x p xs)) }
-{
-    if first {
-        return is_entry(rows, parts, h, x, p);
-    }
-    true
-}
-
-// The least of three faults.
-fn least_of(formed: bool, fit: bool, long: bool) -> usize
-    ensures { result ≡ least_of (given (not formed) 7 ++ given (not fit) 8 ++ given long 13) }
-{
-    if !formed {
-        return 7;
-    }
-    if !fit {
-        return 8;
-    }
-    if long {
-        return 13;
-    }
-    0
-}
-
-// The least fault of the line of a block with the row c, of n rows; 0 for none.
+// The least fault of the line of a block with the row c, of n rows. Only block 0 must be fit as the entry.
 pub fn block_fault(
     rows: &[u16],
     parts: &[u16],
@@ -172,23 +108,28 @@ pub fn block_fault(
     tops: &[u16],
     c: usize,
     first: bool,
-) -> usize
+) -> Option<Fault>
     requires { (n ≤ 512) × (c ≤ 65535) × CountedTo (tab rows.now parts.now) n × Scoped (tab rows.now parts.now) n uses.now tops.now }
-    ensures { (xs : List Instr) → result ≡ least_of (block_faults first (block_of (type_at value (types_of (rows_in (tab rows.now parts.now) n)) c) xs)) }
+    ensures { (xs : List Instr) → fault_number result ≡ least_of (block_faults first (block_of (type_at value (types_of (rows_in (tab rows.now parts.now) n)) c) xs)) }
 {
     let h = types_rows::link(n + 1, c);
-    let v = types_rows::read_value(rows, h, 0, 0, 0);
-    let Val::Code(x, p) = v else {
-        return 7;
+    let Val::Code(x, p) = types_rows::read_value(rows, h, 0, 0, 0) else {
+        return Some(Fault::Unbound);
     };
     let none = BlockLetters {
         hidden: 0,
         count: 0,
         start: 0,
     };
-    let formed = crate::formed(rows, parts, n, uses, tops, c, none);
-    let fit = is_fit(rows, parts, h, x, p, first);
-    least_of(formed, fit, 64 < types_rows::item_count(rows, x))
+    if !crate::formed(rows, parts, n, uses, tops, c, none) {
+        Some(Fault::Unbound)
+    } else if first && !is_entry(rows, parts, h, x, p) {
+        Some(Fault::NoEntry)
+    } else if types_rows::item_count(rows, x) > 64 {
+        Some(Fault::TooDeep)
+    } else {
+        None
+    }
 }
 
 // How many samples the block with the row c declares, if it is the entry.
@@ -197,9 +138,11 @@ pub fn sample_count(rows: &[u16], parts: &[u16], n: usize, c: usize) -> usize
     ensures { (xs : List Instr) → result ≡ declared (block_of (type_at value (types_of (rows_in (tab rows.now parts.now) n)) c) xs).regs }
 {
     let h = types_rows::link(n + 1, c);
-    let v = types_rows::read_value(rows, h, 0, 0, 0);
-    let Val::Code(_, p) = v else {
+    let Val::Code(_, p) = types_rows::read_value(rows, h, 0, 0, 0) else {
         return 0;
     };
-    first_register(rows, parts, h, p).count
+    match samples_in(rows, parts, h, p) {
+        Some(x) => x.count,
+        None => 0,
+    }
 }

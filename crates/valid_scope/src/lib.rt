@@ -36,25 +36,17 @@ pub struct BlockLetters {
     pub start: usize,
 }
 
-fn narrow(x: usize) -> u16
-    requires { x ≤ 65535 }
-    ensures { result ≡ x }
-{
-    x as u16
-}
-
 // Each variable that is bound inside row r is of its letter.
 fn row_respected(rows: &[u16], parts: &[u16], uses: &[u16], tops: &[u16], r: usize) -> bool
-    requires { 64 * r + 64 ≤ 2 ^ 64 }
     ensures { result ≡ row_respected uses.now tops.now (row_at (tab rows.now parts.now) r) }
 {
     crate::variables::form_respected(
         parts,
         uses,
         tops,
-        crate::variables::entry(rows, r, 0),
-        crate::variables::entry(rows, r, 1),
-        crate::variables::entry(rows, r, 2),
+        tables::cell::<4>(rows, r, 0),
+        tables::cell::<4>(rows, r, 1),
+        tables::cell::<4>(rows, r, 2),
     )
 }
 
@@ -63,10 +55,7 @@ fn raised(top: usize, u: u16, k: usize) -> usize
     requires { k < 64 }
     ensures { result ≡ cond (eqb u 0) top (suc k) }
 {
-    if u == 0 {
-        return top;
-    }
-    k + 1
+    if u == 0 { top } else { k + 1 }
 }
 
 // A bound of the variables of a row of kind c: that of the rows before it, or, of a variable itself, 64.
@@ -74,25 +63,18 @@ fn limit_of(c: usize, bound: usize) -> usize
     requires { bound ≤ 64 }
     ensures { (result ≡ cond (eqb c 2) 64 (cond (eqb c 8) 64 bound)) × (result ≤ 64) }
 {
-    if c == 2 {
-        return 64;
+    match c {
+        2 | 8 => 64,
+        _ => bound,
     }
-    if c == 8 {
-        return 64;
-    }
-    bound
 }
 
 // Entries `from` to `to` become 0.
 fn clear(uses: &mut [u16], from: usize, to: usize)
-    requires { to ≤ length uses.old }
+    requires { (from ≤ to) × (to ≤ length uses.old) }
     ensures { Cleared uses.old uses.new from to }
 {
-    let mut i = from;
-    while i < to {
-        uses[i] = 0;
-        i += 1;
-    }
+    uses[from..to].fill(0);
 }
 
 // The kind of a row and its two numbers.
@@ -105,13 +87,12 @@ struct Form {
 
 // Those of row r.
 fn form_at(rows: &[u16], r: usize) -> Form
-    requires { 64 * r + 64 ≤ 2 ^ 64 }
     ensures { ((parts : List ℕ) → row_from parts result.kind result.first result.second ≡ row_at (tab rows.now parts) r) × (result.first ≤ 65535) × (result.second ≤ 65535) }
 {
     Form {
-        kind: crate::variables::entry(rows, r, 0),
-        first: crate::variables::entry(rows, r, 1),
-        second: crate::variables::entry(rows, r, 2),
+        kind: tables::cell::<4>(rows, r, 0),
+        first: tables::cell::<4>(rows, r, 1),
+        second: tables::cell::<4>(rows, r, 2),
     }
 }
 
@@ -120,13 +101,9 @@ fn use_in(image: &[u16], p: Places, f: Form, k: usize) -> u16
     requires { Ordered p (length image.now) × (f.first ≤ 65535) × (f.second ≤ 65535) × (k ≤ 65535) }
     ensures { result ≡ row_use (use_section p image.now) k (row_from (part_section p image.now) f.kind f.first f.second) }
 {
-    let parts = p.parts;
-    let past = p.operands;
-    let uses = p.uses;
-    let tops = p.tops;
     crate::variables::form_use(
-        &image[parts..past],
-        &image[uses..tops],
+        &image[p.parts..p.operands],
+        &image[p.uses..p.tops],
         f.kind,
         f.first,
         f.second,
@@ -139,41 +116,24 @@ fn fill_uses(image: &mut [u16], p: Places, r: usize, bound: usize) -> usize
     requires { Ordered p (length image.old) × (64 * r + 64 ≤ p.tops - p.uses) × NextRow (tab (row_section p image.old) (part_section p image.old)) r bound × Free (tab (row_section p image.old) (part_section p image.old)) r (use_section p image.old) }
     ensures { (result ≡ top_of (λ k. free_in k (row_type (tab (row_section p image.old) (part_section p image.old)) r)) 64) × Free (tab (row_section p image.old) (part_section p image.old)) (suc r) (use_section p image.new) × Outside p.uses p.tops image.old image.new }
 {
-    let rows = p.rows;
-    let blocks = p.blocks;
-    let uses = p.uses;
-    let tops = p.tops;
-    let f = form_at(&image[rows..blocks], r);
+    let f = form_at(&image[p.rows..p.blocks], r);
     let limit = limit_of(f.kind, bound);
     let mut top = 0;
-    let mut k = 0;
-    while k < limit {
+    for k in 0..limit {
         let u = use_in(image, p, f, k);
-        image[uses + (64 * r + k)] = u;
+        image[p.uses + (64 * r + k)] = u;
         top = raised(top, u, k);
-        k += 1;
     }
-    clear(&mut image[uses..tops], 64 * r + limit, 64 * r + 64);
+    clear(&mut image[p.uses..p.tops], 64 * r + limit, 64 * r + 64);
     top
 }
 
-fn larger(a: usize, b: usize) -> usize
-    ensures { result ≡ cond (ltb a b) b a }
-{
-    if a < b {
-        return b;
-    }
-    a
-}
-
+// What stands in `tops` for a row with this highest variable.
 fn mark(respected: bool, top: usize) -> u16
     requires { top ≤ 64 }
     ensures { result ≡ cond respected top 255 }
 {
-    if respected {
-        return narrow(top);
-    }
-    255
+    if respected { top as u16 } else { 255 }
 }
 
 // Fills the entries of row r, those of the rows before it being there; from bound to bound.
@@ -181,23 +141,16 @@ fn find_uses(image: &mut [u16], p: Places, r: usize, bound: usize) -> usize
     requires { Ordered p (length image.old) × RowRoom p r × NextRow (tab (row_section p image.old) (part_section p image.old)) r bound × Scoped (tab (row_section p image.old) (part_section p image.old)) r (use_section p image.old) (top_section p image.old) }
     ensures { Scoped (tab (row_section p image.old) (part_section p image.old)) (suc r) (use_section p image.new) (top_section p image.new) × (result ≤ 64) × Within (tab (row_section p image.old) (part_section p image.old)) (suc r) result × Outside p.uses p.shared image.old image.new }
 {
-    let rows = p.rows;
-    let past_rows = p.blocks;
-    let parts = p.parts;
-    let past_parts = p.operands;
-    let uses = p.uses;
-    let tops = p.tops;
-    let end = p.shared;
     let respected = row_respected(
-        &image[rows..past_rows],
-        &image[parts..past_parts],
-        &image[uses..tops],
-        &image[tops..end],
+        &image[p.rows..p.blocks],
+        &image[p.parts..p.operands],
+        &image[p.uses..p.tops],
+        &image[p.tops..p.shared],
         r,
     );
     let top = fill_uses(image, p, r, bound);
-    image[tops + r] = mark(respected, top);
-    larger(bound, top)
+    image[p.tops + r] = mark(respected, top);
+    bound.max(top)
 }
 
 // Fills the entries of the n rows.
@@ -206,10 +159,8 @@ pub fn find_all(image: &mut [u16], p: Places, n: usize)
     ensures { Scoped (tab (row_section p image.old) (part_section p image.old)) n (use_section p image.new) (top_section p image.new) × Outside p.uses p.shared image.old image.new }
 {
     let mut bound = 0;
-    let mut r = 0;
-    while r < n {
+    for r in 0..n {
         bound = find_uses(image, p, r, bound);
-        r += 1;
     }
 }
 
@@ -218,9 +169,10 @@ fn in_block(parts: &[u16], u: u16, k: usize, w: BlockLetters) -> bool
     ensures { result ≡ fits u (get_elem? (letters_of parts.now w) k) }
 {
     if k < w.hidden {
-        return crate::variables::is_value(u);
+        crate::variables::is_value(u)
+    } else {
+        crate::variables::is_bound(parts, u, k - w.hidden, w.count, w.start)
     }
-    crate::variables::is_bound(parts, u, k - w.hidden, w.count, w.start)
 }
 
 // Every variable of row r, one of n, is bound and of its letter under the letters w. `rows` and n are here for the promise alone.
@@ -236,16 +188,6 @@ pub fn formed(
     requires { (r < n) × Scoped (tab rows.now parts.now) n uses.now tops.now }
     ensures { result ≡ formed_arg (letters_of parts.now w) (get_or (types_of (rows_in (tab rows.now parts.now) n)) r (arg value junk)) }
 {
-    let top = types_rows::at(tops, r);
-    if top == 255 {
-        return false;
-    }
-    let mut k = 0;
-    while k < top {
-        if !in_block(parts, crate::variables::use_at(uses, k, r), k, w) {
-            return false;
-        }
-        k += 1;
-    }
-    true
+    let top = tables::at(tops, r);
+    top != 255 && (0..top).all(|k| in_block(parts, crate::variables::use_at(uses, k, r), k, w))
 }

@@ -4,7 +4,7 @@ use native.Mathlib.Nat.{zero-add}
 use native.Mathlib.Omega.{arith}
 use mathlib.Core.Path.{◌≡◌, refl, ap, ap₂, sym, subst, ◌∙◌}
 use mathlib.Core.Bool.{Bool, true, false, cond}
-use mathlib.Core.Logic.{inl, inr}
+use mathlib.Core.Logic.{◌⊎◌, inl, inr}
 use mathlib.Core.Option.{Option, none, some}
 use mathlib.Core.List.{List, [], ◌∷◌, ◌++◌, map, reverse}
 use lib.Dec.{leb}
@@ -288,31 +288,28 @@ module _ (first ps : List ℕ) (a b x y : ℕ) where
     pub alike_code : (q : ℕ) → k ≡ 5 → q ≡ get_or ps (b + 8) 0 → first_of first a ≡ first_of first x → PartsAlike k (9 + q) → Alike first ps k a b x y
     alike_code q e f g h = rw e (code_alike q f g (rw e at h))
 
-    pub alike_value : k ≡ 2 → a ≡ x → Alike first ps k a b x y
+    pub alike_number : (k ≡ 2) ⊎ (k ≡ 8) → a ≡ x → Alike first ps k a b x y
     unfolding row_from renamed
-    alike_value e f = rw (e, f) refl
-
-    pub alike_stack : k ≡ 8 → a ≡ x → Alike first ps k a b x y
-    unfolding row_from renamed
-    alike_stack e f = rw (e, f) refl
+    alike_number (inl e) f = rw (e, f) refl
+    alike_number (inr e) f = rw (e, f) refl
 
   high_alike : (k : ℕ) → 10 ≤ k → first_of first a ≡ first_of first x → first_of first b ≡ first_of first y → Alike first ps k a b x y
   unfolding renamed
   high_alike k h f g = ap (renamed (first_of first)) (row_last ps k a b h) ∙ ap₂ row_a f g ∙ sym (ap (renamed (first_of first)) (row_last ps k x y h))
 
-  pub alike_rest : (k : ℕ) → (k ≡ 3 → ⊥) → (k ≡ 2 → ⊥) → (k ≡ 8 → ⊥) → (k ≡ 5 → ⊥) → first_of first a ≡ first_of first x → first_of first b ≡ first_of first y → Alike first ps k a b x y
+  pub alike_rest : (k : ℕ) → (k ≡ 3 → ⊥) → ((k ≡ 2) ⊎ (k ≡ 8) → ⊥) → (k ≡ 5 → ⊥) → first_of first a ≡ first_of first x → first_of first b ≡ first_of first y → Alike first ps k a b x y
   unfolding row_from renamed
-  alike_rest zero h i j l f g = refl
-  alike_rest (suc zero) h i j l f g = refl
-  alike_rest (suc (suc zero)) h i j l f g = absurd (i refl)
-  alike_rest (suc (suc (suc zero))) h i j l f g = absurd (h refl)
-  alike_rest (suc (suc (suc (suc zero)))) h i j l f g = ap row_p f
-  alike_rest (suc (suc (suc (suc (suc zero))))) h i j l f g = absurd (l refl)
-  alike_rest (suc (suc (suc (suc (suc (suc zero)))))) h i j l f g = ap row_h f
-  alike_rest (suc (suc (suc (suc (suc (suc (suc zero))))))) h i j l f g = refl
-  alike_rest (suc (suc (suc (suc (suc (suc (suc (suc zero)))))))) h i j l f g = absurd (j refl)
-  alike_rest (suc (suc (suc (suc (suc (suc (suc (suc (suc zero))))))))) h i j l f g = ap₂ row_k f g
-  alike_rest (suc (suc (suc (suc (suc (suc (suc (suc (suc (suc k)))))))))) h i j l f g = high_alike (suc (suc (suc (suc (suc (suc (suc (suc (suc (suc k)))))))))) (omega arith) f g
+  alike_rest zero h i l f g = refl
+  alike_rest (suc zero) h i l f g = refl
+  alike_rest (suc (suc zero)) h i l f g = absurd (i (inl refl))
+  alike_rest (suc (suc (suc zero))) h i l f g = absurd (h refl)
+  alike_rest (suc (suc (suc (suc zero)))) h i l f g = ap row_p f
+  alike_rest (suc (suc (suc (suc (suc zero))))) h i l f g = absurd (l refl)
+  alike_rest (suc (suc (suc (suc (suc (suc zero)))))) h i l f g = ap row_h f
+  alike_rest (suc (suc (suc (suc (suc (suc (suc zero))))))) h i l f g = refl
+  alike_rest (suc (suc (suc (suc (suc (suc (suc (suc zero)))))))) h i l f g = absurd (i (inr refl))
+  alike_rest (suc (suc (suc (suc (suc (suc (suc (suc (suc zero))))))))) h i l f g = ap₂ row_k f g
+  alike_rest (suc (suc (suc (suc (suc (suc (suc (suc (suc (suc k)))))))))) h i l f g = high_alike (suc (suc (suc (suc (suc (suc (suc (suc (suc (suc k)))))))))) (omega arith) f g
 
 -- rows that are alike have the same type
 module _ (τ : RowTable) (m : ℕ) (first : List ℕ) (c r : ℕ) (h : c ≤ r) (k : r < m) (hf : Firsts τ m first r) (low : Lower τ (r + 1)) where

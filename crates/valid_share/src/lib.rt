@@ -28,17 +28,11 @@ fn same_type(rows: &[u16], parts: &[u16], m: usize, c: usize, r: usize, pending:
     requires { (m ≤ 514) × (c < m) × (r < m) × (1543 ≤ length pending.old) }
     ensures { result ≡ true → get_or (types_of (rows_in (tab rows.now parts.now) m)) c (arg value junk) ≡ get_or (types_of (rows_in (tab rows.now parts.now) m)) r (arg value junk) }
 {
-    let s = types_rows::is_stack(rows, r);
-    if types_rows::is_stack(rows, c) {
-        if s {
-            return types_equal::equal_stacks(rows, parts, m, c, r, pending);
-        }
-        return false;
+    match (types_rows::is_stack(rows, c), types_rows::is_stack(rows, r)) {
+        (true, true) => types_equal::equal_stacks(rows, parts, m, c, r, pending),
+        (false, false) => types_equal::equal_values(rows, parts, m, c, r, pending),
+        _ => false,
     }
-    if s {
-        return false;
-    }
-    types_equal::equal_values(rows, parts, m, c, r, pending)
 }
 
 // The first c parts of two rows of the kind k, with the numbers a and b and with x and y, are the same in the new table.
@@ -55,14 +49,12 @@ fn alike_parts(
     requires { SmallForms a b x y × (c ≤ 65544) }
     ensures { result ≡ true → (j : ℕ) → j < c → new_part first.now parts.now k a b j ≡ new_part first.now parts.now k x y j }
 {
-    let mut j = 0;
-    while j < c {
-        if crate::rename::new_part(parts, first, k, a, b, j)
-            != crate::rename::new_part(parts, first, k, x, y, j)
+    for j in 0..c {
+        if rename::new_part(parts, first, k, a, b, j)
+            != rename::new_part(parts, first, k, x, y, j)
         {
             return false;
         }
-        j += 1;
     }
     true
 }
@@ -80,34 +72,19 @@ fn alike_forms(
     requires { SmallForms a b x y }
     ensures { result ≡ true → Alike first.now parts.now k a b x y }
 {
-    if k == 3 {
-        if b == y {
-            return alike_parts(parts, first, k, a, b, x, y, b);
+    match k {
+        3 => b == y && alike_parts(parts, first, k, a, b, x, y, b),
+        2 | 8 => a == x,
+        5 => {
+            let c = 9 + types_rows::letter_count(parts, b);
+            rename::first_of(first, a) == rename::first_of(first, x)
+                && alike_parts(parts, first, k, a, b, x, y, c)
         }
-        return false;
+        _ => {
+            rename::first_of(first, a) == rename::first_of(first, x)
+                && rename::first_of(first, b) == rename::first_of(first, y)
+        }
     }
-    if k == 2 {
-        return a == x;
-    }
-    if k == 8 {
-        return a == x;
-    }
-    if crate::rename::first_of(first, a) != crate::rename::first_of(first, x) {
-        return false;
-    }
-    if k == 5 {
-        return alike_parts(
-            parts,
-            first,
-            k,
-            a,
-            b,
-            x,
-            y,
-            9 + types_rows::letter_count(parts, b),
-        );
-    }
-    crate::rename::first_of(first, b) == crate::rename::first_of(first, y)
 }
 
 // Rows c and r, of m rows, name rows of the same types in the same form, as is seen from the rows that stand for those that they name.
@@ -115,19 +92,12 @@ fn alike(rows: &[u16], parts: &[u16], m: usize, first: &[u16], c: usize, r: usiz
     requires { RowsTo (tab rows.now parts.now) m first.now r × (c ≤ r) }
     ensures { result ≡ true → get_or (types_of (rows_in (tab rows.now parts.now) m)) c (arg value junk) ≡ get_or (types_of (rows_in (tab rows.now parts.now) m)) r (arg value junk) }
 {
-    let k = types_rows::entry(rows, c, 0);
-    if k != types_rows::entry(rows, r, 0) {
-        return false;
-    }
-    alike_forms(
-        parts,
-        first,
-        k,
-        types_rows::entry(rows, c, 1),
-        types_rows::entry(rows, c, 2),
-        types_rows::entry(rows, r, 1),
-        types_rows::entry(rows, r, 2),
-    )
+    let k = tables::cell::<4>(rows, c, 0);
+    let a = tables::cell::<4>(rows, c, 1);
+    let b = tables::cell::<4>(rows, c, 2);
+    let x = tables::cell::<4>(rows, r, 1);
+    let y = tables::cell::<4>(rows, r, 2);
+    k == tables::cell::<4>(rows, r, 0) && alike_forms(parts, first, k, a, b, x, y)
 }
 
 // Row c stands for row r: it stands for itself, their hashes are equal, and their types. What is pending stands behind the hashes in `work`.
@@ -143,16 +113,10 @@ fn stands_for(
     requires { RowsTo (tab rows.now parts.now) m first.now r × Counted (tab rows.now parts.now) m × (c ≤ r) × (2567 ≤ length work.old) }
     ensures { result ≡ true → get_or (types_of (rows_in (tab rows.now parts.now) m)) c (arg value junk) ≡ get_or (types_of (rows_in (tab rows.now parts.now) m)) r (arg value junk) }
 {
-    if crate::row_hash::get(work, 2 * c) != crate::row_hash::get(work, 2 * r) {
-        return false;
-    }
-    if types_rows::at(first, c) != c {
-        return false;
-    }
-    if alike(rows, parts, m, first, c, r) {
-        return true;
-    }
-    same_type(rows, parts, m, c, r, &mut work[1024..])
+    tables::entry_or(work, 2 * c, 0) == tables::entry_or(work, 2 * r, 0)
+        && tables::at(first, c) == c
+        && (alike(rows, parts, m, first, c, r)
+            || same_type(rows, parts, m, c, r, &mut work[1024..]))
 }
 
 // A row that is found to have the type of row r.
@@ -168,17 +132,17 @@ fn first_like(
     requires { RowsTo (tab rows.now parts.now) m first.now r × Counted (tab rows.now parts.now) m × (2567 ≤ length work.old) }
     ensures { (get_or (types_of (rows_in (tab rows.now parts.now) m)) result (arg value junk) ≡ get_or (types_of (rows_in (tab rows.now parts.now) m)) r (arg value junk)) × (result ≤ r) }
 {
-    let h = crate::row_hash::chain_of(work, r);
-    let mut c = crate::row_hash::below(chains, h, r + 1);
-    while 0 < c {
-        if stands_for(rows, parts, m, first, work, c - 1, r) {
-            return c - 1;
+    let mut next = row_hash::row_below(chains, row_hash::chain_of(work, r), r);
+    while let Some(c) = next {
+        if stands_for(rows, parts, m, first, work, c, r) {
+            return c;
         }
-        c = crate::row_hash::below(chains, 255 + c, c);
+        next = row_hash::row_below(chains, 256 + c, c);
     }
     r
 }
 
+// Writes into `first` a row of the type of each of the n rows.
 fn find_first(
     rows: &[u16],
     parts: &[u16],
@@ -190,13 +154,11 @@ fn find_first(
     requires { (n ≤ 512) × Counted (tab rows.now parts.now) (n + 2) × Lower (tab rows.now parts.now) n × WorkFor n first.old work.old }
     ensures { Firsts (tab rows.now parts.now) (n + 2) first.new n }
 {
-    let mut r = 0;
-    while r < n {
-        crate::row_hash::put_hash(rows, parts, first, work, r);
+    for r in 0..n {
+        row_hash::put_hash(rows, parts, first, work, r);
         let c = first_like(rows, parts, n + 2, first, work, chains, r);
-        first[r] = crate::rename::narrow(c);
-        crate::row_hash::chain_row(chains, work, c, r);
-        r += 1;
+        first[r] = c as u16;
+        row_hash::chain_row(chains, work, c, r);
     }
 }
 
@@ -208,19 +170,9 @@ pub fn share(image: &mut [u16], p: Places, n: usize, first: &mut [u16], work: &m
     requires rows_clear { RowsClear (tab (row_section p image.old) (part_section p image.old)) n × ((r : ℕ) → r < n → SmallRow (row_at (tab (row_section p image.old) (part_section p image.old)) r)) }
     ensures { Shared (tab (row_section p image.old) (part_section p image.old)) (tab (shared_section p image.new) (slot_section p image.new)) n × Outside p.shared p.end image.old image.new }
 {
-    let rows = p.rows;
-    let blocks = p.blocks;
-    let parts = p.parts;
-    let operands = p.operands;
-    let mut chains = [0u16; 768];
-    find_first(
-        &image[rows..blocks],
-        &image[parts..operands],
-        n,
-        first,
-        work,
-        &mut chains,
-    );
-    crate::rename::fill_rows(image, p, first, n + 2);
-    crate::rename::fill_parts(image, p, first, n);
+    let rows = &image[p.rows..p.blocks];
+    let parts = &image[p.parts..p.operands];
+    find_first(rows, parts, n, first, work, &mut [0; 768]);
+    rename::fill_rows(image, p, first, n + 2);
+    rename::fill_parts(image, p, first, n);
 }

@@ -1,8 +1,8 @@
 -- What is found, and what a package hides.
 use Prim.Native.Nat.{ℕ, suc, ◌+◌, ◌*◌, ◌≤◌}
 use native.Mathlib.Omega.{arith}
-use mathlib.Core.Path.{◌≡◌, refl, ap, sym, ◌∙◌}
-use mathlib.Core.Option.{none, some}
+use mathlib.Core.Path.{◌≡◌, ap, sym, ◌∙◌}
+use mathlib.Core.Option.{none}
 use mathlib.Core.List.{List, [], ◌∷◌, ◌++◌}
 use lib.ListN.{length}
 use Rattle.syntax.specs.Syntax.{value}
@@ -16,13 +16,10 @@ use Rattle.types_rows.proofs.Environments.{read_none, read_opened}
 use Rattle.valid_context.specs.Told.{told_of, answer}
 use Rattle.valid_context.proofs.Told.{told_some, told_none}
 use Rattle.valid_typing.specs.Typing.{types_in, held_in, Found}
-use Rattle.valid_typing.specs.declared.Typed.{Typed}
+use Rattle.types_rows.specs.declared.Held.{Held}
 
--- a fault, and what is read now
-pub found_fault : {n : ℕ} {E regs : List ℕ} {t : Typed} → t.row ≡ 0 → t.env ≡ 0 → Found n E regs t
-found_fault e f = record { row_in = omega arith; small = omega arith; exists = λ g. omega arith }
-
-pub found_now : {n : ℕ} {E regs : List ℕ} {t : Typed} → length E ≤ 64 → t.row ≤ n + 1 → t.env ≡ 2 * length E → Found n E regs t
+-- what is read now
+pub found_now : {n : ℕ} {E regs : List ℕ} {t : Held} → length E ≤ 64 → t.row ≤ n + 1 → t.env ≡ 2 * length E → Found n E regs t
 found_now l h e = record { row_in = h; small = omega arith; exists = λ g. omega arith }
 
 -- ---- what a package hides

@@ -14,7 +14,8 @@ use Rattle.valid.specs.Tests.{item_at, as_hidden, as_value, formed_arg, formed_a
 use Rattle.valid.specs.PassThree.{Judged, ◌▹◌, or_fault, need, formed, base, applied, packed, operand}
 use Rattle.valid_context.specs.Context.{Reading, linked}
 use Rattle.syntax.proofs.Least.{least}
-use Rattle.valid_context.specs.Told.{told_of, answer}
+use Rattle.valid_context.specs.Told.{gives, lacks, told_of, answer}
+use Rattle.valid_context.proofs.Results.{lacks_then}
 use Rattle.valid_context.proofs.Told.{told_and, told_stop, told_some, told_none, told_need}
 use Rattle.valid_typing.proofs.Judging.{if_none, told_map, told_next, needs, stops, known_told}
 
@@ -40,26 +41,26 @@ module _ (P : Program) (Δ : List Kind) (g : Ty stack) where
     carrying u = or_fault 9 (as_code u) ▹ fitting
 
     -- the base has no type
-    pub applied_stops : (f : ℕ) (u : Ty value) → told_of (base P Δ g b) ≡ answer f u → (f ≡ 0 → ⊥) → told_of (applied P Δ unequal g b A t) ≡ answer f tt
+    pub applied_stops : {k : ℕ} → told_of (base P Δ g b) ≡ lacks k → told_of (applied P Δ unequal g b A t) ≡ lacks k
     unfolding applied filling fitting carrying
-    applied_stops f u p h = stops _ carrying f u tt p h
+    applied_stops p = lacks_then _ carrying p
 
-    -- it is no code, or the letters do not fit
-    pub applied_plain : (f : ℕ) (u : Ty value) → told_of (base P Δ g b) ≡ answer f u → f ≡ 0 → as_code u ≡ none → told_of (applied P Δ unequal g b A t) ≡ answer 9 tt
-    unfolding applied filling fitting carrying
-    applied_plain f u p z e = told_next _ carrying f 9 u tt p z (rw e (told_stop {A = CodeType} (or_fault 9 none) fitting 9 (record { letters = []; sp = g; regs = g }) tt (told_none 8 _) (omega arith)))
+    module _ (u : Ty value) (p : told_of (base P Δ g b) ≡ gives u) where
+      -- it is no code, or the letters do not fit
+      pub applied_plain : as_code u ≡ none → told_of (applied P Δ unequal g b A t) ≡ lacks 9
+      unfolding applied filling fitting carrying answer
+      applied_plain e = told_next _ carrying 0 9 u tt p refl (rw e (told_stop {A = CodeType} (or_fault 9 none) fitting 9 (record { letters = []; sp = g; regs = g }) tt (told_none 8 (record { letters = []; sp = g; regs = g })) (omega arith)))
 
-    pub applied_letters : (f : ℕ) (u : Ty value) (c : CodeType) → told_of (base P Δ g b) ≡ answer f u → f ≡ 0 → as_code u ≡ some c → letters_left A c.letters ≡ none → told_of (applied P Δ unequal g b A t) ≡ answer 14 tt
-    unfolding applied filling fitting carrying
-    applied_letters f u c p z e l =
-        told_next _ carrying f 14 u tt p z (rw e (told_next (or_fault 9 (some c)) fitting 0 14 c tt (told_some 9 c) refl (rw l (told_stop {A = List Kind} (or_fault 14 none) (filling c) 14 [] tt (told_none 13 []) (omega arith)))))
+      pub applied_letters : (c : CodeType) → as_code u ≡ some c → letters_left A c.letters ≡ none → told_of (applied P Δ unequal g b A t) ≡ lacks 14
+      unfolding applied filling fitting carrying answer
+      applied_letters c e l =
+          told_next _ carrying 0 14 u tt p refl (rw e (told_next (or_fault 9 (some c)) fitting 0 14 c tt (told_some 9 c) refl (rw l (told_stop {A = List Kind} (or_fault 14 none) (filling c) 14 [] tt (told_none 13 []) (omega arith)))))
 
-    pub applied_told : (f : ℕ) (u : Ty value) (c : CodeType) (q : List Kind) (v : Bool) → number_of unequal ≡ 10 → told_of (base P Δ g b) ≡ answer f u → f ≡ 0 → as_code u ≡ some c → letters_left A c.letters ≡ some q
-        → v ≡ is_filled (type_of P t) (filled A q c.sp c.regs) → told_of (applied P Δ unequal g b A t) ≡ answer (cond v 0 10) tt
-    unfolding applied filling fitting carrying
-    applied_told f u c q v n p z e l i =
-        told_next _ carrying f (cond v 0 10) u tt p z (rw e (told_next (or_fault 9 (some c)) fitting 0 (cond v 0 10) c tt (told_some 9 c) refl
-        (rw l (told_next (or_fault 14 (some q)) (filling c) 0 (cond v 0 10) q tt (told_some 14 q) refl (rw i (told_need unequal _ 9 n))))))
+      pub applied_told : (c : CodeType) (q : List Kind) (v : Bool) → number_of unequal ≡ 10 → as_code u ≡ some c → letters_left A c.letters ≡ some q → v ≡ is_filled (type_of P t) (filled A q c.sp c.regs) → told_of (applied P Δ unequal g b A t) ≡ answer (cond v 0 10) tt
+      unfolding applied filling fitting carrying answer
+      applied_told c q v n e l i =
+          told_next _ carrying 0 (cond v 0 10) u tt p refl (rw e (told_next (or_fault 9 (some c)) fitting 0 (cond v 0 10) c tt (told_some 9 c) refl
+          (rw l (told_next (or_fault 14 (some q)) (filling c) 0 (cond v 0 10) q tt (told_some 14 q) refl (rw i (told_need unequal _ 9 n))))))
 
   pub operand_told : (unequal : Fault) (b : Base) (ts : List ℕ) (t f h : ℕ) (v : Bool) → v ≡ formed_args Δ (args_of P ts) → told_of (formed P Δ t) ≡ answer f tt → told_of (applied P Δ unequal g b (args_of P ts) t) ≡ answer h tt
       → told_of (operand P Δ unequal g (inst b ts t)) ≡ answer (least (cond v 0 7) (least f h)) (type_of P t)

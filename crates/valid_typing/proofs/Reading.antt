@@ -1,8 +1,9 @@
 -- A type that was read in an environment has the form of its row, and its parts are read there.
 use Prim.Native.Nat.{ℕ, zero, suc}
-use mathlib.Core.Path.{◌≡◌, refl, ap, ap₂, ◌∙◌}
+use mathlib.Core.Path.{◌≡◌, refl, ap, ◌∙◌}
 use mathlib.Core.Bool.{Bool, true, false}
 use mathlib.Core.Option.{Option, none, some}
+use Rattle.std.specs.Prelude.{Option as CodeOption, Some, None}
 use mathlib.Core.List.{List}
 use lib.ListN.{get_or}
 use Rattle.syntax.specs.Partial.{guarded}
@@ -11,8 +12,6 @@ use Rattle.types.specs.Types.{Ty, nil, push, svar, gap}
 use Rattle.valid.specs.Tests.{item_at}
 use Rattle.types_rows.specs.Read.{slot_at, on_slot, parts_of, drop_s}
 use Rattle.types_rows.specs.Environments.{read_in}
-use Rattle.types_rows.specs.declared.Slot.{Slot}
-use Rattle.types_rows.specs.declared.Slot.TheVariants.{Gap, Known}
 use Rattle.types_rows.proofs.Environments.{read_nil, read_push, read_svar, read_gap}
 
 -- what is there, as f makes it
@@ -42,9 +41,9 @@ module _ (E : List ℕ) (e : ℕ) where
   read_item (gap a) zero = rw (read_gap E e a)
   read_item (gap a) (suc i) = rw (read_gap E e a) (read_item a i)
 
-  slot_read : (v : ℕ → Ty value) (s : Slot) (a : Ty stack) → read_in E e (on_slot v s a) ≡ on_slot (λ t. read_in E e (v t)) s (read_in E e a)
-  slot_read v Gap a = read_gap E e a
-  slot_read v (Known t) a = read_push E e (v t) a
+  slot_read : (v : ℕ → Ty value) (s : CodeOption ℕ) (a : Ty stack) → read_in E e (on_slot v s a) ≡ on_slot (λ t. read_in E e (v t)) s (read_in E e a)
+  slot_read v None a = read_gap E e a
+  slot_read v (Some t) a = read_push E e (v t) a
 
   -- the parts of a row
   pub read_parts : (v : ℕ → Ty value) (ps : List ℕ) (file : Bool) (h p n : ℕ) → read_in E e (parts_of v ps file h p n) ≡ parts_of (λ t. read_in E e (v t)) ps file h p n

@@ -1,10 +1,11 @@
 -- The items of a stack row against those of sp.
 use Prim.Native.Nat.{ℕ, zero, suc, ◌+◌, ◌-◌, ◌*◌, ◌≤◌, ◌<◌}
 use native.Mathlib.Omega.{arith}
-use native.Mathlib.Nat.{add-zero, sub-zero}
+use native.Mathlib.Nat.{sub-zero}
 use mathlib.Core.Path.{◌≡◌, refl, ap, ap₂, sym, ◌∙◌}
 use mathlib.Core.Bool.{Bool, true, false, ◌&&◌, cond}
 use mathlib.Core.Option.{Option, none, some}
+use Rattle.std.specs.Prelude.{Option as CodeOption, Some, None}
 use mathlib.Core.List.{List, []}
 use lib.Dec.{ltb, eqb}
 use lib.ListN.{length}
@@ -21,7 +22,7 @@ use Rattle.valid.specs.Tests.{item_at, above}
 use Rattle.types_rows.specs.Read.{tab, lift, mean_v, mean_s, value_under, stack_under, drop_s, ItemOf, items_at, CountedTo}
 use Rattle.types_rows.specs.Environments.{var_in, read_in}
 use Rattle.types_rows.specs.declared.Item.{Item}
-use Rattle.types_rows.specs.declared.Item.TheVariants.{NoItem, ValItem, VarItem}
+use Rattle.types_rows.specs.declared.Item.TheVariants.{Val as ValItem, Var as VarItem}
 use Rattle.types_rows.proofs.Laws.{items_drop, empty_nil}
 use Rattle.types_rows.proofs.Bridge.{counted_to}
 use Rattle.types_rows.proofs.Environments.{plain, read_nil, read_push, read_svar, read_items}
@@ -32,48 +33,48 @@ use Rattle.valid_typing.specs.Typing.{types_in, held_in, Ready, item_is, LowItem
 use Rattle.valid_typing.proofs.Reading.{over, read_item}
 
 -- item j of the stack a, the stack row h as it is read
-abbrev pub ItemIs : RowTable → ℕ → Ty stack → ℕ → Item → Type 0
-ItemIs τ h a j NoItem = drop_s j a ≡ nil
-ItemIs τ h a j (ValItem t) = (t < h) × (drop_s j a ≡ push (mean_v τ t) (drop_s (suc j) a))
-ItemIs τ h a j (VarItem k) = drop_s j a ≡ svar k (drop_s (suc j) a)
+abbrev pub ItemIs : RowTable → ℕ → Ty stack → ℕ → CodeOption Item → Type 0
+ItemIs τ h a j None = drop_s j a ≡ nil
+ItemIs τ h a j (Some (ValItem t)) = (t < h) × (drop_s j a ≡ push (mean_v τ t) (drop_s (suc j) a))
+ItemIs τ h a j (Some (VarItem k)) = drop_s j a ≡ svar k (drop_s (suc j) a)
 
-pub item_read : (τ : RowTable) (h j : ℕ) (it : Item) → ItemOf τ (lift 0) 0 h (stack_under τ [] (lift 0) 0 h) j it → ItemIs τ h (mean_s τ h) j it
+pub item_read : (τ : RowTable) (h j : ℕ) (it : CodeOption Item) → ItemOf τ (lift 0) 0 h (stack_under τ [] (lift 0) 0 h) j it → ItemIs τ h (mean_s τ h) j it
 unfolding stack_under value_under
-item_read τ h j NoItem e = rw (plain 0 (mean_s τ h)) at e
-item_read τ h j (ValItem t) e = (e.0, rw (plain 0 (mean_s τ h), plain 0 (mean_v τ t)) at e.1)
-item_read τ h j (VarItem k) e = rw (plain 0 (mean_s τ h)) at e
+item_read τ h j None e = rw (plain 0 (mean_s τ h)) at e
+item_read τ h j (Some (ValItem t)) e = (e.0, rw (plain 0 (mean_s τ h), plain 0 (mean_v τ t)) at e.1)
+item_read τ h j (Some (VarItem k)) e = rw (plain 0 (mean_s τ h)) at e
 
 -- the same in an environment, with the variable as it counts now
-abbrev pub ItemNow : RowTable → List ℕ → ℕ → ℕ → Ty stack → ℕ → Item → Type 0
-ItemNow τ E e h a j NoItem = drop_s j a ≡ nil
-ItemNow τ E e h a j (ValItem t) = (t < h) × (drop_s j a ≡ push (read_in E e (mean_v τ t)) (drop_s (suc j) a))
-ItemNow τ E e h a j (VarItem k) = drop_s j a ≡ svar k (drop_s (suc j) a)
+abbrev pub ItemNow : RowTable → List ℕ → ℕ → ℕ → Ty stack → ℕ → CodeOption Item → Type 0
+ItemNow τ E e h a j None = drop_s j a ≡ nil
+ItemNow τ E e h a j (Some (ValItem t)) = (t < h) × (drop_s j a ≡ push (read_in E e (mean_v τ t)) (drop_s (suc j) a))
+ItemNow τ E e h a j (Some (VarItem k)) = drop_s j a ≡ svar k (drop_s (suc j) a)
 
-pub item_now : (τ : RowTable) (E : List ℕ) (e h j : ℕ) (it : Item) → ItemOf τ (var_in E e) 0 h (stack_under τ [] (var_in E e) 0 h) j it → ItemNow τ E e h (read_in E e (mean_s τ h)) j it
+pub item_now : (τ : RowTable) (E : List ℕ) (e h j : ℕ) (it : CodeOption Item) → ItemOf τ (var_in E e) 0 h (stack_under τ [] (var_in E e) 0 h) j it → ItemNow τ E e h (read_in E e (mean_s τ h)) j it
 unfolding stack_under value_under read_in
-item_now τ E e h j NoItem q = q
-item_now τ E e h j (ValItem t) q = q
-item_now τ E e h j (VarItem k) q = q
+item_now τ E e h j None q = q
+item_now τ E e h j (Some (ValItem t)) q = q
+item_now τ E e h j (Some (VarItem k)) q = q
 
 module _ (rows parts : List ℕ) (n : ℕ) (E : List ℕ) (e : ℕ) where
   abbrev T : Reading
   T = held_in rows parts n E
 
   -- ---- equal items
-  same_top : (h : ℕ) (a b : Ty stack) (j f y : ℕ) (it : Item) → ItemNow (tab rows parts) E e h a j it → same (drop_s j a) (on_item T f y b) ≡ item_is rows parts n E e it f y && same (drop_s (suc j) a) b
-  same_top h a b j f y NoItem q = rw q (go (ltb y first_var))
+  same_top : (h : ℕ) (a b : Ty stack) (j f y : ℕ) (it : CodeOption Item) → ItemNow (tab rows parts) E e h a j it → same (drop_s j a) (on_item T f y b) ≡ item_is rows parts n E e it f y && same (drop_s (suc j) a) b
+  same_top h a b j f y None q = rw q (go (ltb y first_var))
     where
-      go : (v : Bool) → same nil (cond v (push (T.type f y) b) (svar (T.variable f (y - first_var)) b)) ≡ item_is rows parts n E e NoItem f y && same (drop_s (suc j) a) b
+      go : (v : Bool) → same nil (cond v (push (T.type f y) b) (svar (T.variable f (y - first_var)) b)) ≡ item_is rows parts n E e None f y && same (drop_s (suc j) a) b
       go true = unfold same item_is in refl
       go false = unfold same item_is in refl
-  same_top h a b j f y (ValItem t) q = rw q.1 (unfold item_is in go (ltb y first_var))
+  same_top h a b j f y (Some (ValItem t)) q = rw q.1 (unfold item_is in go (ltb y first_var))
     where
       go : (v : Bool)
           → same (push (read_in E e (mean_v (tab rows parts) t)) (drop_s (suc j) a)) (cond v (push (T.type f y) b) (svar (T.variable f (y - first_var)) b))
           ≡ cond v (same (read_in E e (mean_v (tab rows parts) t)) (T.type f y)) false && same (drop_s (suc j) a) b
       go true = unfold same in refl
       go false = unfold same in refl
-  same_top h a b j f y (VarItem k) q = rw q (unfold item_is in go (ltb y first_var))
+  same_top h a b j f y (Some (VarItem k)) q = rw q (unfold item_is in go (ltb y first_var))
     where
       go : (v : Bool) → same (svar k (drop_s (suc j) a)) (cond v (push (T.type f y) b) (svar (T.variable f (y - first_var)) b)) ≡ cond v false (eqb k (var_in E f (y - first_var))) && same (drop_s (suc j) a) b
       go true = unfold same in refl
@@ -88,7 +89,7 @@ module _ (rows parts : List ℕ) (n : ℕ) (E : List ℕ) (e : ℕ) where
     unfolding drop_s
     same_first = rw sub-zero
 
-    module _ (i : ℕ) (it : Item) (y f : ℕ) (l : i < m) (q : ItemNow (tab rows parts) E e h a i it) (g : y ≡ cell 2 sp (m - i - 1) 0) (d : f ≡ cell 2 sp (m - i - 1) 1) (r : RestSame i) where
+    module _ (i : ℕ) (it : CodeOption Item) (y f : ℕ) (l : i < m) (q : ItemNow (tab rows parts) E e h a i it) (g : y ≡ cell 2 sp (m - i - 1) 0) (d : f ≡ cell 2 sp (m - i - 1) 1) (r : RestSame i) where
       one_on : same a (sp_of T sp m) ≡ item_is rows parts n E e it f y && same (drop_s (suc i) a) (sp_of T sp (m - i - 1))
       one_on =
           let o : m - i ≡ suc (m - i - 1) = omega arith in
@@ -113,48 +114,52 @@ module _ (rows parts : List ℕ) (n : ℕ) (E : List ℕ) (e : ℕ) where
         sym (r ∙ rw (empty_nil (drop_s i a) z, o) (unfold sp_of same in refl))
 
 -- ---- single items
-pub low_item : {h t : ℕ} {it : Item} → it ≡ ValItem t → LowItem h it → t ≤ h
+-- which item there is
+pub which_item : (it : CodeOption Item) (x y : Item) → x ≡ y → it ≡ Some x → it ≡ Some y
+which_item it x y e h = h ∙ ap Some e
+
+pub low_item : {h t : ℕ} {it : CodeOption Item} → it ≡ Some (ValItem t) → LowItem h it → t ≤ h
 low_item e l = rw e at l
 
-pub small_item : {k : ℕ} {it : Item} → it ≡ VarItem k → SmallItem it → k ≤ 60000
+pub small_item : {k : ℕ} {it : CodeOption Item} → it ≡ Some (VarItem k) → SmallItem it → k ≤ 60000
 small_item e l = rw e at l
 
-pub link_none : (n : ℕ) {it : Item} → it ≡ NoItem → LinkIs n it 0
+pub link_none : (n : ℕ) {it : CodeOption Item} → it ≡ None → LinkIs n it 0
 link_none n e = rw e refl
 
-pub link_var : (n k : ℕ) {it : Item} → it ≡ VarItem k → LinkIs n it 0
+pub link_var : (n k : ℕ) {it : CodeOption Item} → it ≡ Some (VarItem k) → LinkIs n it 0
 link_var n k e = rw e refl
 
-pub link_val : (n t r : ℕ) {it : Item} → it ≡ ValItem t → ((rows parts : List ℕ) → Ready rows parts n → type_at value (types_in rows parts n) r ≡ mean_v (tab rows parts) t) → LinkIs n it (r + 1)
+pub link_val : (n t r : ℕ) {it : CodeOption Item} → it ≡ Some (ValItem t) → ((rows parts : List ℕ) → Ready rows parts n → type_at value (types_in rows parts n) r ≡ mean_v (tab rows parts) t) → LinkIs n it (r + 1)
 link_val n t r e h = rw e ((λ z. omega arith), λ rows parts y. let q : r + 1 - 1 ≡ r = omega arith in rw q (h rows parts y))
 
-pub entry_none : (n : ℕ) {it : Item} → it ≡ NoItem → EntryIs n it 0
+pub entry_none : (n : ℕ) {it : CodeOption Item} → it ≡ None → EntryIs n it 0
 entry_none n e = rw e tt
 
-pub entry_val : (n t r : ℕ) {it : Item} → it ≡ ValItem t → r < first_var → ((rows parts : List ℕ) → Ready rows parts n → type_at value (types_in rows parts n) r ≡ mean_v (tab rows parts) t) → EntryIs n it r
+pub entry_val : (n t r : ℕ) {it : CodeOption Item} → it ≡ Some (ValItem t) → r < first_var → ((rows parts : List ℕ) → Ready rows parts n → type_at value (types_in rows parts n) r ≡ mean_v (tab rows parts) t) → EntryIs n it r
 entry_val n t r e l h = rw e (λ rows parts E f b y. rw (lt-ltb r first_var l, h rows parts y))
 
-pub entry_var : (n k : ℕ) {it : Item} → it ≡ VarItem k → EntryIs n it (k + 1024)
+pub entry_var : (n k : ℕ) {it : CodeOption Item} → it ≡ Some (VarItem k) → EntryIs n it (k + 1024)
 entry_var n k e = rw e (λ T f b. let q : k + 1024 - first_var ≡ k = omega arith in rw (le-ltb (k + 1024) first_var (omega arith), q))
 
-module _ (rows parts : List ℕ) (n : ℕ) (E : List ℕ) (e f y : ℕ) {it : Item} where
-  pub is_none : it ≡ NoItem → false ≡ item_is rows parts n E e it f y
+module _ (rows parts : List ℕ) (n : ℕ) (E : List ℕ) (e f y : ℕ) {it : CodeOption Item} where
+  pub is_none : it ≡ None → false ≡ item_is rows parts n E e it f y
   unfolding item_is
   is_none q = rw q
 
-  pub is_val : (t : ℕ) {v : Bool} → it ≡ ValItem t → y < first_var → v ≡ same (read_in E e (mean_v (tab rows parts) t)) ((held_in rows parts n E).type f y) → v ≡ item_is rows parts n E e it f y
+  pub is_val : (t : ℕ) {v : Bool} → it ≡ Some (ValItem t) → y < first_var → v ≡ same (read_in E e (mean_v (tab rows parts) t)) ((held_in rows parts n E).type f y) → v ≡ item_is rows parts n E e it f y
   unfolding item_is
   is_val t q l h = rw (q, lt-ltb y first_var l) h
 
-  pub val_var : (t : ℕ) → it ≡ ValItem t → first_var ≤ y → false ≡ item_is rows parts n E e it f y
+  pub val_var : (t : ℕ) → it ≡ Some (ValItem t) → first_var ≤ y → false ≡ item_is rows parts n E e it f y
   unfolding item_is
   val_var t q l = rw (q, le-ltb y first_var l)
 
-  pub var_val : (k : ℕ) → it ≡ VarItem k → y < first_var → false ≡ item_is rows parts n E e it f y
+  pub var_val : (k : ℕ) → it ≡ Some (VarItem k) → y < first_var → false ≡ item_is rows parts n E e it f y
   unfolding item_is
   var_val k q l = rw (q, lt-ltb y first_var l)
 
-  pub is_var : (k w : ℕ) → it ≡ VarItem k → first_var ≤ y → w ≡ var_in E f (y - first_var) → eqb k w ≡ item_is rows parts n E e it f y
+  pub is_var : (k w : ℕ) → it ≡ Some (VarItem k) → first_var ≤ y → w ≡ var_in E f (y - first_var) → eqb k w ≡ item_is rows parts n E e it f y
   unfolding item_is
   is_var k w q l h = rw (q, le-ltb y first_var l, h)
 
@@ -169,15 +174,15 @@ module _ (rows parts : List ℕ) (n x : ℕ) (r : Ready rows parts n) (l : x ≤
   pub item_asks : (0 ≤ 1099511627776) × (x ≤ 65536) × CountedTo (tab rows parts) x
   item_asks = (omega arith, (let f = r.few in omega arith), counted_link)
 
-  pub now_low : (E : List ℕ) (e : ℕ) (a : Ty stack) (j : ℕ) (it : Item) → ItemNow (tab rows parts) E e x a j it → LowItem (n + 2) it
-  now_low E e a j NoItem q = tt
-  now_low E e a j (ValItem t) q = let h = q.0 in omega arith
-  now_low E e a j (VarItem k) q = tt
+  pub now_low : (E : List ℕ) (e : ℕ) (a : Ty stack) (j : ℕ) (it : CodeOption Item) → ItemNow (tab rows parts) E e x a j it → LowItem (n + 2) it
+  now_low E e a j None q = tt
+  now_low E e a j (Some (ValItem t)) q = let h = q.0 in omega arith
+  now_low E e a j (Some (VarItem k)) q = tt
 
-  pub item_low : (a : Ty stack) (j : ℕ) (it : Item) → ItemIs (tab rows parts) x a j it → LowItem (n + 2) it
-  item_low a j NoItem e = tt
-  item_low a j (ValItem t) e = let h = e.0 in omega arith
-  item_low a j (VarItem k) e = tt
+  pub item_low : (a : Ty stack) (j : ℕ) (it : CodeOption Item) → ItemIs (tab rows parts) x a j it → LowItem (n + 2) it
+  item_low a j None e = tt
+  item_low a j (Some (ValItem t)) e = let h = e.0 in omega arith
+  item_low a j (Some (VarItem k)) e = tt
 
 small_drop : (j : ℕ) (a : Ty stack) → SmallVars a → SmallVars (drop_s j a)
 unfolding drop_s
@@ -187,10 +192,10 @@ small_drop (suc j) (push t a) s = small_drop j a s
 small_drop (suc j) (svar k a) s = small_drop j a s.1
 small_drop (suc j) (gap a) s = small_drop j a s
 
-pub item_small : (τ : RowTable) (x : ℕ) (a : Ty stack) (j : ℕ) (it : Item) → SmallVars a → ItemIs τ x a j it → SmallItem it
-item_small τ x a j NoItem s e = tt
-item_small τ x a j (ValItem t) s e = tt
-item_small τ x a j (VarItem k) s e = let h = rw e at (small_drop j a s) in h.0
+pub item_small : (τ : RowTable) (x : ℕ) (a : Ty stack) (j : ℕ) (it : CodeOption Item) → SmallVars a → ItemIs τ x a j it → SmallItem it
+item_small τ x a j None s e = tt
+item_small τ x a j (Some (ValItem t)) s e = tt
+item_small τ x a j (Some (VarItem k)) s e = let h = rw e at (small_drop j a s) in h.0
 
 item_top : (t : Ty value) (a : Ty stack) → item_at (push t a) 0 ≡ some t
 unfolding item_at
@@ -223,35 +228,35 @@ module _ (rows parts : List ℕ) (n x : ℕ) (a : Ty stack) where
   unfolding drop_s
   item_first i = rw sub-zero
 
-  module _ (i j : ℕ) (it : Item) (u : ℕ) (e : ItemIs (tab rows parts) x a j it) (k : LinkIs n it u) (r : RestItem i j) where
+  module _ (i j : ℕ) (it : CodeOption Item) (u : ℕ) (e : ItemIs (tab rows parts) x a j it) (k : LinkIs n it u) (r : RestItem i j) where
     pub item_ends : u ≡ 0 → item_at a i ≡ row_link rows parts n 0
     item_ends z = r ∙ go it e k
       where
-        go : (it : Item) → ItemIs (tab rows parts) x a j it → LinkIs n it u → item_at (drop_s j a) (i - j) ≡ none
-        go NoItem e k = rw e (unfold item_at in refl)
-        go (ValItem t) e k = absurd (k.0 z)
-        go (VarItem v) e k = rw e (unfold item_at in refl)
+        go : (it : CodeOption Item) → ItemIs (tab rows parts) x a j it → LinkIs n it u → item_at (drop_s j a) (i - j) ≡ none
+        go None e k = rw e (unfold item_at in refl)
+        go (Some (ValItem t)) e k = absurd (k.0 z)
+        go (Some (VarItem v)) e k = rw e (unfold item_at in refl)
 
     pub item_next : (u ≡ 0 → ⊥) → j < i → RestItem i (j + 1)
     item_next z l = r ∙ go it e k
       where
-        go : (it : Item) → ItemIs (tab rows parts) x a j it → LinkIs n it u → item_at (drop_s j a) (i - j) ≡ item_at (drop_s (j + 1) a) (i - (j + 1))
-        go NoItem e k = absurd (z k)
-        go (ValItem t) e k =
+        go : (it : CodeOption Item) → ItemIs (tab rows parts) x a j it → LinkIs n it u → item_at (drop_s j a) (i - j) ≡ item_at (drop_s (j + 1) a) (i - (j + 1))
+        go None e k = absurd (z k)
+        go (Some (ValItem t)) e k =
             let p : i - j ≡ suc (i - (j + 1)) = omega arith in
             let q : j + 1 ≡ suc j = omega arith in
             rw (e.1, p) (item_under (mean_v (tab rows parts) t) (drop_s (suc j) a) (i - (j + 1)) ∙ ap (λ (m : ℕ). item_at (drop_s m a) (i - (j + 1))) (sym q))
-        go (VarItem v) e k = absurd (z k)
+        go (Some (VarItem v)) e k = absurd (z k)
 
     pub item_last : Ready rows parts n → i ≡ j → item_at a i ≡ row_link rows parts n u
     item_last y q = r ∙ ap (λ (m : ℕ). item_at (drop_s j a) (i - m)) (sym q) ∙ go it e k
       where
-        go : (it : Item) → ItemIs (tab rows parts) x a j it → LinkIs n it u → item_at (drop_s j a) (i - i) ≡ row_link rows parts n u
-        go NoItem e k = rw (e, k) (unfold item_at in refl)
-        go (ValItem t) e k =
+        go : (it : CodeOption Item) → ItemIs (tab rows parts) x a j it → LinkIs n it u → item_at (drop_s j a) (i - i) ≡ row_link rows parts n u
+        go None e k = rw (e, k) (unfold item_at in refl)
+        go (Some (ValItem t)) e k =
             let p : i - i ≡ 0 = omega arith in
             rw (e.1, p) (item_top (mean_v (tab rows parts) t) (drop_s (suc j) a) ∙ ap some (sym (k.1 rows parts y)) ∙ sym (row_link_lem rows parts n u k.0))
-        go (VarItem v) e k = rw (e, k) (unfold item_at in refl)
+        go (Some (VarItem v)) e k = rw (e, k) (unfold item_at in refl)
 
 -- ---- the items of a stack row put into sp
 join_item : (T : Reading) (f y : ℕ) (a b : Ty stack) → join (on_item T f y a) b ≡ on_item T f y (join a b)
@@ -283,16 +288,16 @@ module _ (rows parts : List ℕ) (n m x e : ℕ) (a : Ty stack) where
   abbrev pub Written : List ℕ → ℕ → Type 0
   Written sp i = (E : List ℕ) → join (sp_above (held_in rows parts n E) sp (m - i) i) (read_in E e (drop_s i a)) ≡ read_in E e a
 
-  entry_item : (E : List ℕ) (i y : ℕ) (it : Item) → i < m → items a ≡ m → Ready rows parts n → ItemIs (tab rows parts) x a i it → EntryIs n it y → on_item (held_in rows parts n E) e y (read_in E e (drop_s (suc i) a)) ≡ read_in E e (drop_s i a)
-  entry_item E i y NoItem l c r q k = let z = items_drop i a in let w : items (drop_s i a) ≡ 0 = ap items q ∙ unfold items in refl in absurd (omega arith)
-  entry_item E i y (ValItem t) l c r q k = k rows parts E e (read_in E e (drop_s (suc i) a)) r ∙ sym (ap (read_in E e) q.1 ∙ read_push E e (mean_v (tab rows parts) t) (drop_s (suc i) a))
-  entry_item E i y (VarItem v) l c r q k = k (held_in rows parts n E) e (read_in E e (drop_s (suc i) a)) ∙ sym (ap (read_in E e) q ∙ read_svar E e v (drop_s (suc i) a))
+  entry_item : (E : List ℕ) (i y : ℕ) (it : CodeOption Item) → i < m → items a ≡ m → Ready rows parts n → ItemIs (tab rows parts) x a i it → EntryIs n it y → on_item (held_in rows parts n E) e y (read_in E e (drop_s (suc i) a)) ≡ read_in E e (drop_s i a)
+  entry_item E i y None l c r q k = let z = items_drop i a in let w : items (drop_s i a) ≡ 0 = ap items q ∙ unfold items in refl in absurd (omega arith)
+  entry_item E i y (Some (ValItem t)) l c r q k = k rows parts E e (read_in E e (drop_s (suc i) a)) r ∙ sym (ap (read_in E e) q.1 ∙ read_push E e (mean_v (tab rows parts) t) (drop_s (suc i) a))
+  entry_item E i y (Some (VarItem v)) l c r q k = k (held_in rows parts n E) e (read_in E e (drop_s (suc i) a)) ∙ sym (ap (read_in E e) q ∙ read_svar E e v (drop_s (suc i) a))
 
   pub written_none : (sp : List ℕ) → Written sp 0
   unfolding sp_above join drop_s
   written_none sp E = refl
 
-  pub written_next : (sp : List ℕ) (i y : ℕ) (it : Item) → i < m → 2 * m ≤ length sp → items a ≡ m → Ready rows parts n → ItemIs (tab rows parts) x a i it → EntryIs n it y → Written sp i → Written (with_entry sp (m - i - 1) y e) (i + 1)
+  pub written_next : (sp : List ℕ) (i y : ℕ) (it : CodeOption Item) → i < m → 2 * m ≤ length sp → items a ≡ m → Ready rows parts n → ItemIs (tab rows parts) x a i it → EntryIs n it y → Written sp i → Written (with_entry sp (m - i - 1) y e) (i + 1)
   written_next sp i y it l h c r q k w E =
       let T = held_in rows parts n E in
       let s = with_entry sp (m - i - 1) y e in

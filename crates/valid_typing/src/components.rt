@@ -1,5 +1,5 @@
 // Pass three's look at the components that `malloc` takes: the types of a list of operands, and whether a row is the tuple of them.
-// Promised: the least fault of the list as crate valid defines it (`operands`), 0 if there is none, and then the rows of its types, each
+// Promised: the least fault of the list as crate valid defines it (`operands`), or, if there is none, the rows of its types, each
 // with its environment; and the test `same` of crate types against the tuple. Asked: the tables of module prepare of load, and operands
 // with at most eight arguments.
 ghost use Rattle.std.specs.Prelude.{◌≡◌, false, ◌≤◌, length};
@@ -10,13 +10,14 @@ ghost use Rattle.types.specs.Equal.{same};
 ghost use Rattle.valid.specs.Program.{Program};
 ghost use Rattle.types_rows.specs.Read.{tab, parts_of, mean_v};
 ghost use Rattle.valid_context.specs.Context.{regs_of};
-ghost use Rattle.valid_context.specs.Told.{told_of, answer};
+ghost use Rattle.valid_context.specs.Told.{told_of, told};
 ghost use Rattle.valid.specs.Bounds.{AllShort};
 ghost use Rattle.valid_typing.specs.Typing.{types_in, held_in, Comparing, RowParts};
 ghost use Rattle.valid_typing.specs.Image.{read_at, Prepared, listed_in, ListedInto, HoldsAt, letters_in};
 ghost use Rattle.valid_typing.specs.components.Components.{types_from, components};
 
 use crate::Listed;
+use faults::Fault;
 use image::{Counts, Places};
 use types_rows::{Held, Val};
 use valid_scope::BlockLetters;
@@ -33,24 +34,23 @@ pub fn operand_list(
     regs: &[u16],
     pending: &mut [u32],
     found: &mut [u16],
-) -> usize
+) -> Result<(), Fault>
     requires { Prepared p image.now c.rows pending.old × AllShort (listed_in p image.now literals.now o) × ListedInto o found.old × (length envs.now ≤ 64) }
-    ensures { (P : Program) → HoldsAt p image.now c P → told_of (components P (letters_in p image.now w) (regs_of (read_at p image.now c.rows envs.now) regs.now) (listed_in p image.now literals.now o)) ≡ answer result (types_from (read_at p image.now c.rows envs.now) found.new 0 o.count) }
+    ensures { (P : Program) → HoldsAt p image.now c P → told_of (components P (letters_in p image.now w) (regs_of (read_at p image.now c.rows envs.now) regs.now) (listed_in p image.now literals.now o)) ≡ told (λ u. types_from (read_at p image.now c.rows envs.now) found.new 0 o.count) result }
 {
     // The loop's invariant speaks of locals, and of no parameter that is a struct.
     let t = p;
     let k = c;
     let u = w;
     let v = o.first;
-    let mut f = 0;
-    let mut i = o.count;
-    while i > 0 {
-        let r = crate::operands::operand(image, literals, envs, t, k, v + i - 1, u, regs, pending);
-        valid_context::put(found, i - 1, r.row as u16, r.env as u16);
-        f = valid_context::least(r.fault, f);
-        i -= 1;
+    let mut all = Ok(());
+    for i in (0..o.count).rev() {
+        match crate::operands::operand(image, literals, envs, t, k, v + i, u, regs, pending) {
+            Ok(h) => valid_context::put(found, i, h.row as u16, h.env as u16),
+            Err(f) => all = faults::both(Err(f), all),
+        }
     }
-    f
+    all
 }
 
 // The c components that stand in `parts` from p on, of the row of link h, which is read now, are the rows in `found`.
@@ -68,20 +68,18 @@ fn same_parts(
     requires { Comparing rows.now parts.now envs.now n pending.old × RowParts n h p × (c ≤ 65535) }
     ensures { result ≡ same (parts_of (mean_v (tab rows.now parts.now)) parts.now false h p c) (types_from (held_in rows.now parts.now n envs.now) found.now 0 c) }
 {
-    let mut i = 0;
-    while i < c {
+    for i in 0..c {
         let l = Held {
-            row: crate::row_of(n, types_rows::link(h, types_rows::at(parts, p + i))),
+            row: crate::row_of(n, types_rows::link(h, tables::at(parts, p + i))),
             env: 2 * envs.len(),
         };
         let r = Held {
-            row: valid_context::number(found, i, 0),
-            env: valid_context::number(found, i, 1),
+            row: tables::cell::<2>(found, i, 0),
+            env: tables::cell::<2>(found, i, 1),
         };
         if !crate::same_rows(rows, parts, envs, n, l, r, pending) {
             return false;
         }
-        i += 1;
     }
     true
 }
@@ -101,12 +99,8 @@ pub fn same_tuple(
     ensures { result ≡ same (type_at value (types_in rows.now parts.now n) t) (tuple (types_from (held_in rows.now parts.now n envs.now) found.now 0 c)) }
 {
     let h = types_rows::link(n + 3, t);
-    let v = types_rows::read_value(rows, h, 0, 0, 0);
-    let Val::Tuple(p, k) = v else {
+    let Val::Tuple(p, k) = types_rows::read_value(rows, h, 0, 0, 0) else {
         return false;
     };
-    if k != c {
-        return false;
-    }
-    same_parts(rows, parts, envs, n, h, p, c, found, pending)
+    k == c && same_parts(rows, parts, envs, n, h, p, c, found, pending)
 }

@@ -15,7 +15,7 @@ pub mod operands;
 pub mod plain_components;
 pub mod target;
 
-ghost use Rattle.std.specs.Prelude.{◌≡◌, ℕ, suc, ◌+◌, ◌-◌, ◌*◌, ◌≤◌, ◌<◌, true, cond, List, [], ◌∷◌, ◌++◌, map, reverse, length, get_or, take};
+ghost use Rattle.std.specs.Prelude.{IfOk, IfSome, ◌≡◌, ℕ, suc, ◌+◌, ◌-◌, ◌*◌, ◌≤◌, ◌<◌, true, cond, List, [], ◌∷◌, ◌++◌, map, reverse, length, get_or, take};
 ghost use Rattle.syntax.specs.Partial.{guarded};
 ghost use Rattle.syntax.specs.Syntax.{Kind, value, stack};
 ghost use Rattle.types.specs.Types.{junk, nil, svar, arg, kind_of, items};
@@ -31,26 +31,18 @@ ghost use Rattle.types_rows.specs.Read.{tab, mean_v, mean_s};
 ghost use Rattle.types_rows.specs.Environments.{read_in, Known};
 ghost use Rattle.valid_context.specs.Context.{Reading, regs_of, sp_of, sp_above, linked, EnvsIn};
 ghost use Rattle.image.specs.Sections.{Ordered, arg_section, shared_section, slot_section};
-ghost use Rattle.valid_context.specs.Told.{told_of, answer};
-ghost use Rattle.valid_typing.specs.Typing.{types_in, held_in, Ready, Comparing, Found, component_at, code_in, code_read, item_is, LowItem, EntryIn, LinkIs, LaidOut, SmallItem, EntryIs, given_row, given_arg, args_in, fits_letter, letters_less};
+ghost use Rattle.valid_context.specs.Told.{told_of, told};
+ghost use Rattle.valid_typing.specs.Typing.{types_in, held_in, held_type, held_stack, Ready, Comparing, Found, component_at, code_seen, CodeIn, item_is, LowItem, EntryIn, LinkIs, LaidOut, SmallItem, EntryIs, given_row, given_arg, args_in, fits_letter, letters_less};
 ghost use Rattle.valid_typing.specs.Image.{row_table, ScopedAt, letters_in};
 
+use faults::Fault;
 use image::Places;
 use types_rows::{Held, Item, Stk, Val};
 use valid_scope::BlockLetters;
 
-// What a premise answers: its least fault, or 0 and a row, with the environment that it was read in.
-#[derive(Clone, Copy)]
-pub struct Typed {
-    pub fault: usize,
-    pub row: usize,
-    pub env: usize,
-}
-
 // A code row: its link, its stack's link, and where its registers start.
 #[derive(Clone, Copy)]
 pub struct Coded {
-    pub is: bool,
     pub link: usize,
     pub stack: usize,
     pub start: usize,
@@ -69,10 +61,7 @@ pub fn row_of(n: usize, h: usize) -> usize
     requires { (n ≤ 512) × (h ≤ n + 2) }
     ensures { ((rows parts : List ℕ) → Ready rows parts n → type_at value (types_in rows parts n) result ≡ mean_v (tab rows parts) h) × (result ≤ n + 1) }
 {
-    if h == 0 {
-        return n + 1;
-    }
-    h - 1
+    if h == 0 { n + 1 } else { h - 1 }
 }
 
 // Row t is the integer type.
@@ -80,135 +69,97 @@ pub fn is_int(rows: &[u16], parts: &[u16], n: usize, t: usize) -> bool
     requires { Ready rows.now parts.now n × (t ≤ 65535) }
     ensures { (E : List ℕ) (e : ℕ) → as_int ((held_in rows.now parts.now n E).type e t) ≡ guarded result tt }
 {
-    let v = types_rows::read_value(rows, types_rows::link(n + 3, t), 0, 0, 0);
-    if let Val::Int = v {
-        return true;
-    }
-    false
+    matches!(
+        types_rows::read_value(rows, types_rows::link(n + 3, t), 0, 0, 0),
+        Val::Int
+    )
 }
 
 // Register r is an integer.
-pub fn integer(rows: &[u16], parts: &[u16], n: usize, regs: &[u16], r: usize) -> usize
+pub fn integer(rows: &[u16], parts: &[u16], n: usize, regs: &[u16], r: usize) -> Result<(), Fault>
     requires { Ready rows.now parts.now n }
-    ensures { (E : List ℕ) (P : Program) (Δ : List Kind) → told_of (integer_at P Δ (regs_of (held_in rows.now parts.now n E) regs.now) r) ≡ answer result tt }
+    ensures { (E : List ℕ) (P : Program) (Δ : List Kind) → told_of (integer_at P Δ (regs_of (held_in rows.now parts.now n E) regs.now) r) ≡ told (λ u. tt) result }
 {
     let u = valid_context::register(regs, r);
     if u.link == 0 {
-        return 9;
+        return Err(Fault::WrongType);
     }
-    if is_int(rows, parts, n, u.link - 1) {
-        return 0;
-    }
-    9
+    faults::holds_or(is_int(rows, parts, n, u.link - 1), Fault::WrongType)
 }
 
 // Component i of the tuple in register r.
-pub fn component(rows: &[u16], parts: &[u16], n: usize, regs: &[u16], r: usize, i: usize) -> Typed
+pub fn component(
+    rows: &[u16],
+    parts: &[u16],
+    n: usize,
+    regs: &[u16],
+    r: usize,
+    i: usize,
+) -> Result<Held, Fault>
     requires { Ready rows.now parts.now n }
-    ensures { ((E : List ℕ) (P : Program) (Δ : List Kind) → told_of (component_at P Δ (regs_of (held_in rows.now parts.now n E) regs.now) r i) ≡ answer result.fault ((held_in rows.now parts.now n E).type result.env result.row)) × ((E : List ℕ) → Found n E regs.now result) }
+    ensures { ((E : List ℕ) (P : Program) (Δ : List Kind) → told_of (component_at P Δ (regs_of (held_in rows.now parts.now n E) regs.now) r i) ≡ told (held_type (held_in rows.now parts.now n E)) result) × ((E : List ℕ) → IfOk result (λ h. Found n E regs.now h)) }
 {
     let u = valid_context::register(regs, r);
     if u.link == 0 {
-        return Typed {
-            fault: 9,
-            row: 0,
-            env: 0,
-        };
+        return Err(Fault::WrongType);
     }
     let h = types_rows::link(n + 3, u.link - 1);
-    let v = types_rows::read_value(rows, h, 0, 0, 0);
-    let Val::Tuple(p, c) = v else {
-        return Typed {
-            fault: 9,
-            row: 0,
-            env: 0,
-        };
+    let Val::Tuple(p, c) = types_rows::read_value(rows, h, 0, 0, 0) else {
+        return Err(Fault::WrongType);
     };
     if i >= c {
-        return Typed {
-            fault: 11,
-            row: 0,
-            env: 0,
-        };
+        return Err(Fault::NoItem);
     }
-    let t = types_rows::link(h, types_rows::at(parts, p + i));
-    Typed {
-        fault: 0,
+    let t = types_rows::link(h, tables::at(parts, p + i));
+    Ok(Held {
         row: row_of(n, t),
         env: u.env,
-    }
+    })
 }
 
 // The stack to which register r points, as a link.
-pub fn pointer(rows: &[u16], parts: &[u16], n: usize, regs: &[u16], r: usize) -> Typed
+pub fn pointer(rows: &[u16], parts: &[u16], n: usize, regs: &[u16], r: usize) -> Result<Held, Fault>
     requires { Ready rows.now parts.now n }
-    ensures { ((E : List ℕ) (P : Program) (Δ : List Kind) → told_of (pointer_at P Δ (regs_of (held_in rows.now parts.now n E) regs.now) r) ≡ answer result.fault (read_in E result.env (mean_s (tab rows.now parts.now) result.row))) × ((E : List ℕ) → Found n E regs.now result) }
+    ensures { ((E : List ℕ) (P : Program) (Δ : List Kind) → told_of (pointer_at P Δ (regs_of (held_in rows.now parts.now n E) regs.now) r) ≡ told (held_stack rows.now parts.now E) result) × ((E : List ℕ) → IfOk result (λ h. Found n E regs.now h)) }
 {
     let u = valid_context::register(regs, r);
     if u.link == 0 {
-        return Typed {
-            fault: 9,
-            row: 0,
-            env: 0,
-        };
+        return Err(Fault::WrongType);
     }
-    let v = types_rows::read_value(rows, types_rows::link(n + 3, u.link - 1), 0, 0, 0);
-    let Val::Pointer(x) = v else {
-        return Typed {
-            fault: 9,
-            row: 0,
-            env: 0,
-        };
+    let h = types_rows::link(n + 3, u.link - 1);
+    let Val::Pointer(x) = types_rows::read_value(rows, h, 0, 0, 0) else {
+        return Err(Fault::WrongType);
     };
-    Typed {
-        fault: 0,
-        row: x,
-        env: u.env,
-    }
+    Ok(Held { row: x, env: u.env })
 }
 
 // What the package type of row t hides: its row, and fault 9 if it is no package type. Once the package is opened, that row is read in the
 // environment that the unpack makes.
-pub fn hidden_inside(rows: &[u16], parts: &[u16], n: usize, t: usize) -> Typed
+pub fn hidden_inside(rows: &[u16], parts: &[u16], n: usize, t: usize) -> Result<usize, Fault>
     requires { Ready rows.now parts.now n × (t ≤ 65535) }
-    ensures { (told_of (or_fault 9 (as_hidden (type_at value (types_in rows.now parts.now n) t))) ≡ answer result.fault (type_at value (types_in rows.now parts.now n) result.row)) × ((E : List ℕ) (e : ℕ) → Known E → e ≤ 2 * length E → told_of (or_fault 9 (as_hidden ((held_in rows.now parts.now n E).type e t))) ≡ answer result.fault ((held_in rows.now parts.now n (E ++ e ∷ [])).type (suc (2 * length E)) result.row)) × (result.row ≤ n + 1) }
+    ensures { (told_of (or_fault 9 (as_hidden (type_at value (types_in rows.now parts.now n) t))) ≡ told (type_at value (types_in rows.now parts.now n)) result) × ((E : List ℕ) (e : ℕ) → Known E → e ≤ 2 * length E → told_of (or_fault 9 (as_hidden ((held_in rows.now parts.now n E).type e t))) ≡ told ((held_in rows.now parts.now n (E ++ e ∷ [])).type (suc (2 * length E))) result) × IfOk result (λ x. x ≤ n + 1) }
 {
-    let v = types_rows::read_value(rows, types_rows::link(n + 3, t), 0, 0, 0);
-    let Val::Hidden(x) = v else {
-        return Typed {
-            fault: 9,
-            row: 0,
-            env: 0,
-        };
+    let h = types_rows::link(n + 3, t);
+    let Val::Hidden(x) = types_rows::read_value(rows, h, 0, 0, 0) else {
+        return Err(Fault::WrongType);
     };
-    Typed {
-        fault: 0,
-        row: row_of(n, x),
-        env: 0,
-    }
+    Ok(row_of(n, x))
 }
 
 // Row t as code.
-pub(crate) fn code(rows: &[u16], parts: &[u16], n: usize, t: usize) -> Coded
+pub(crate) fn code(rows: &[u16], parts: &[u16], n: usize, t: usize) -> Option<Coded>
     requires { Ready rows.now parts.now n × (t ≤ 65535) }
-    ensures { ((E : List ℕ) (e : ℕ) → as_code ((held_in rows.now parts.now n E).type e t) ≡ guarded result.is (code_read E e (code_in rows.now parts.now result.link result.stack result.start))) × (result.link ≤ n + 2) × (result.stack ≤ n + 1) × (result.start ≤ 65535) }
+    ensures { ((E : List ℕ) (e : ℕ) → as_code ((held_in rows.now parts.now n E).type e t) ≡ code_seen rows.now parts.now E e result) × IfSome result (λ c. CodeIn n c) }
 {
     let h = types_rows::link(n + 3, t);
-    let v = types_rows::read_value(rows, h, 0, 0, 0);
-    let Val::Code(x, p) = v else {
-        return Coded {
-            is: false,
-            link: 0,
-            stack: 0,
-            start: 0,
-        };
+    let Val::Code(x, p) = types_rows::read_value(rows, h, 0, 0, 0) else {
+        return None;
     };
-    Coded {
-        is: true,
+    Some(Coded {
         link: h,
         stack: x,
         start: p,
-    }
+    })
 }
 
 // Rows l and r are both the integer type, as most rows that are compared are.
@@ -216,16 +167,10 @@ fn both_int(rows: &[u16], parts: &[u16], n: usize, l: usize, r: usize) -> bool
     requires { Ready rows.now parts.now n }
     ensures { result ≡ true → (E : List ℕ) (e f : ℕ) → (held_in rows.now parts.now n E).type e l ≡ (held_in rows.now parts.now n E).type f r }
 {
-    if 512 < l {
+    if l > 512 || r > 512 {
         return false;
     }
-    if 512 < r {
-        return false;
-    }
-    if is_int(rows, parts, n, l) {
-        return is_int(rows, parts, n, r);
-    }
-    false
+    is_int(rows, parts, n, l) && is_int(rows, parts, n, r)
 }
 
 // Rows l and r, in the environments e and f, are seen at once to have the same type.
@@ -241,13 +186,7 @@ pub(crate) fn same_at_sight(
     requires { Ready rows.now parts.now n }
     ensures { result ≡ true → (E : List ℕ) → (held_in rows.now parts.now n E).type e l ≡ (held_in rows.now parts.now n E).type f r }
 {
-    if l != r {
-        return both_int(rows, parts, n, l, r);
-    }
-    if e == f {
-        return true;
-    }
-    both_int(rows, parts, n, l, r)
+    (l == r && e == f) || both_int(rows, parts, n, l, r)
 }
 
 // The value types of l and r are equal.
@@ -263,10 +202,8 @@ pub fn same_rows(
     requires { Comparing rows.now parts.now envs.now n pending.old × (l.env ≤ 65535) × (r.env ≤ 65535) }
     ensures { result ≡ same ((held_in rows.now parts.now n envs.now).type l.env l.row) ((held_in rows.now parts.now n envs.now).type r.env r.row) }
 {
-    if same_at_sight(rows, parts, n, l.row, l.env, r.row, r.env) {
-        return true;
-    }
-    types_equal::equal_held(rows, parts, envs, n + 2, l, r, pending)
+    same_at_sight(rows, parts, n, l.row, l.env, r.row, r.env)
+        || types_equal::equal_held(rows, parts, envs, n + 2, l, r, pending)
 }
 
 // ---- items
@@ -276,7 +213,7 @@ fn same_item(
     parts: &[u16],
     envs: &[u16],
     n: usize,
-    it: Item,
+    it: Option<Item>,
     e: usize,
     y: usize,
     f: usize,
@@ -286,24 +223,16 @@ fn same_item(
     ensures { result ≡ item_is rows.now parts.now n envs.now e it f y }
 {
     match it {
-        Item::NoItem => false,
-        Item::ValItem(t) => {
-            if y < 1024 {
-                let l = Held {
-                    row: row_of(n, t),
-                    env: e,
-                };
-                let r = Held { row: y, env: f };
-                return same_rows(rows, parts, envs, n, l, r, pending);
-            }
-            false
+        None => false,
+        Some(Item::Val(t)) => {
+            let l = Held {
+                row: row_of(n, t),
+                env: e,
+            };
+            let r = Held { row: y, env: f };
+            y < 1024 && same_rows(rows, parts, envs, n, l, r, pending)
         }
-        Item::VarItem(k) => {
-            if y < 1024 {
-                return false;
-            }
-            k == types_rows::variables::variable(envs, f, y - 1024)
-        }
+        Some(Item::Var(k)) => y >= 1024 && k == types_rows::variables::variable(envs, f, y - 1024),
     }
 }
 
@@ -312,24 +241,15 @@ fn seen_item(rows: &[u16], parts: &[u16], n: usize, t: usize, e: usize, y: usize
     requires { Ready rows.now parts.now n × (t ≤ n + 2) }
     ensures { result ≡ true → (y < 1024) × ((E : List ℕ) → read_in E e (mean_v (tab rows.now parts.now) t) ≡ (held_in rows.now parts.now n E).type f y) }
 {
-    if 1023 < y {
-        return false;
-    }
-    same_at_sight(rows, parts, n, row_of(n, t), e, y, f)
+    y < 1024 && same_at_sight(rows, parts, n, row_of(n, t), e, y, f)
 }
 
 // The i lowest items of sp are the stack variable k of environment e alone.
 fn lone_variable(sp: &[u16], i: usize, k: usize, e: usize) -> bool
     ensures { result ≡ true → (T : Reading) → sp_of T sp.now i ≡ svar (T.variable e k) nil }
 {
-    if i != 1 {
-        return false;
-    }
-    let y = valid_context::number(sp, 0, 0);
-    if y < 1024 {
-        return false;
-    }
-    if valid_context::number(sp, 0, 1) != e {
+    let y = tables::cell::<2>(sp, 0, 0);
+    if i != 1 || y < 1024 || tables::cell::<2>(sp, 0, 1) != e {
         return false;
     }
     y - 1024 == k
@@ -345,31 +265,21 @@ fn seen_items(rows: &[u16], parts: &[u16], n: usize, sp: &[u16], m: usize, x: He
     let mut y = x.row;
     let mut i = m;
     loop {
-        let s = types_rows::read_stack(rows, y, 0, 0, 0);
-        match s {
-            Stk::Nil => {
-                return i == 0;
-            }
-            Stk::StkVar(k) => {
-                return lone_variable(sp, i, k, e);
-            }
-            Stk::StkFill(_) => {
-                return false;
-            }
+        match types_rows::read_stack(rows, y, 0, 0, 0) {
+            Stk::Nil => return i == 0,
+            Stk::StkVar(k) => return lone_variable(sp, i, k, e),
             Stk::Push(t, z) => {
                 if i == 0 {
                     return false;
                 }
-                let u = valid_context::number(sp, i - 1, 0);
-                if !seen_item(rows, parts, n, t, e, u, valid_context::number(sp, i - 1, 1)) {
+                let u = tables::cell::<2>(sp, i - 1, 0);
+                if !seen_item(rows, parts, n, t, e, u, tables::cell::<2>(sp, i - 1, 1)) {
                     return false;
                 }
                 y = z;
                 i -= 1;
             }
-            Stk::Join(_, _) => {
-                return false;
-            }
+            _ => return false,
         }
     }
 }
@@ -393,15 +303,13 @@ fn same_each(
     if types_rows::item_count(rows, h) != m {
         return false;
     }
-    let mut i = 0;
-    while i < m {
+    for i in 0..m {
         let it = types_rows::item_in(rows, parts, envs, e, h, i);
-        let y = valid_context::number(sp, m - i - 1, 0);
-        let f = valid_context::number(sp, m - i - 1, 1);
+        let y = tables::cell::<2>(sp, m - i - 1, 0);
+        let f = tables::cell::<2>(sp, m - i - 1, 1);
         if !same_item(rows, parts, envs, n, it, e, y, f, pending) {
             return false;
         }
-        i += 1;
     }
     true
 }
@@ -420,10 +328,7 @@ pub fn same_items(
     requires { Comparing rows.now parts.now envs.now n pending.old × (x.row ≤ n + 2) × (x.env ≤ 65535) × (m ≤ 65535) }
     ensures { result ≡ same (read_in envs.now x.env (mean_s (tab rows.now parts.now) x.row)) (sp_of (held_in rows.now parts.now n envs.now) sp.now m) }
 {
-    if seen_items(rows, parts, n, sp, m, x) {
-        return true;
-    }
-    same_each(rows, parts, envs, n, sp, m, x, pending)
+    seen_items(rows, parts, n, sp, m, x) || same_each(rows, parts, envs, n, sp, m, x, pending)
 }
 
 // The items of the stack row of link x, in its environment, are a tail of sp's.
@@ -441,21 +346,17 @@ pub fn is_tail(
     ensures { above (read_in envs.now x.env (mean_s (tab rows.now parts.now) x.row)) (sp_of (held_in rows.now parts.now n envs.now) sp.now d) ≡ guarded result (sp_above (held_in rows.now parts.now n envs.now) sp.now (items (mean_s (tab rows.now parts.now) x.row)) (d - items (mean_s (tab rows.now parts.now) x.row))) }
 {
     let m = types_rows::item_count(rows, x.row);
-    if d < m {
-        return false;
-    }
-    same_items(rows, parts, envs, n, sp, m, x, pending)
+    m <= d && same_items(rows, parts, envs, n, sp, m, x, pending)
 }
 
 // The link of an item that is a value type, else 0.
-fn link_of(n: usize, it: Item) -> usize
+fn link_of(n: usize, it: Option<Item>) -> usize
     requires { (n ≤ 512) × LowItem (n + 2) it }
     ensures { LinkIs n it result × (result ≤ n + 2) }
 {
     match it {
-        Item::NoItem => 0,
-        Item::ValItem(t) => row_of(n, t) + 1,
-        Item::VarItem(_) => 0,
+        Some(Item::Val(t)) => row_of(n, t) + 1,
+        _ => 0,
     }
 }
 
@@ -464,25 +365,23 @@ pub fn row_item(rows: &[u16], parts: &[u16], n: usize, x: usize, i: usize) -> us
     requires { Ready rows.now parts.now n × (x ≤ n + 2) }
     ensures { ((E : List ℕ) (e : ℕ) → item_at (read_in E e (mean_s (tab rows.now parts.now) x)) i ≡ linked (held_in rows.now parts.now n E) e result) × (result ≤ n + 2) }
 {
-    let mut j = 0;
-    while j < i {
+    for j in 0..i {
         if link_of(n, types_rows::item_at(rows, parts, 0, 0, x, j)) == 0 {
             return 0;
         }
-        j += 1;
     }
     link_of(n, types_rows::item_at(rows, parts, 0, 0, x, i))
 }
 
 // The entry of sp that stands for an item.
-fn entry_of(n: usize, it: Item) -> u16
+fn entry_of(n: usize, it: Option<Item>) -> u16
     requires { (n ≤ 512) × LowItem (n + 2) it × SmallItem it }
     ensures { EntryIs n it result }
 {
     match it {
-        Item::NoItem => 0,
-        Item::ValItem(t) => row_of(n, t) as u16,
-        Item::VarItem(k) => (k + 1024) as u16,
+        None => 0,
+        Some(Item::Val(t)) => row_of(n, t) as u16,
+        Some(Item::Var(k)) => (k + 1024) as u16,
     }
 }
 
@@ -494,11 +393,9 @@ pub fn flatten(rows: &[u16], parts: &[u16], n: usize, sp: &mut [u16], x: Held)
     let h = x.row;
     let e = x.env;
     let m = types_rows::item_count(rows, h);
-    let mut i = 0;
-    while i < m {
+    for i in 0..m {
         let it = types_rows::item_at(rows, parts, 0, 0, h, i);
         valid_context::put(sp, m - i - 1, entry_of(n, it), e as u16);
-        i += 1;
     }
 }
 
@@ -508,10 +405,7 @@ pub fn given_row(n: usize, t: usize) -> usize
     requires { n ≤ 512 }
     ensures { (result ≡ given_row n t) × (result ≤ n + 1) }
 {
-    if t < n {
-        return t;
-    }
-    n + 1
+    if t < n { t } else { n + 1 }
 }
 
 // Row t of the program's n rows is a stack row.
@@ -519,10 +413,7 @@ pub(crate) fn is_stack_row(rows: &[u16], n: usize, t: usize) -> bool
     requires { n ≤ 512 }
     ensures { (parts : List ℕ) → kind_of (given_arg rows.now parts n t) ≡ cond result stack value }
 {
-    if t < n {
-        return types_rows::is_stack(rows, t);
-    }
-    false
+    t < n && types_rows::is_stack(rows, t)
 }
 
 // Row t, as an argument, is formed under the letters w.
@@ -538,16 +429,19 @@ fn formed_arg(
     requires { Scoped (tab rows.now parts.now) n uses.now tops.now }
     ensures { result ≡ formed_arg (letters_of parts.now w) (given_arg rows.now parts.now n t) }
 {
-    if t < n {
-        return valid_scope::formed(rows, parts, n, uses, tops, t, w);
-    }
-    true
+    t >= n || valid_scope::formed(rows, parts, n, uses, tops, t, w)
 }
 
 // The type of row t is formed under the letters w.
-pub fn formed_row(image: &[u16], p: Places, n: usize, t: usize, w: BlockLetters) -> usize
+pub fn formed_row(
+    image: &[u16],
+    p: Places,
+    n: usize,
+    t: usize,
+    w: BlockLetters,
+) -> Result<(), Fault>
     requires { Ordered p (length image.now) × (n ≤ 512) × ScopedAt p image.now n }
-    ensures { (P : Program) → P.types ≡ types_of (rows_in (row_table p image.now) n) → told_of (formed P (letters_in p image.now w) t) ≡ answer result tt }
+    ensures { (P : Program) → P.types ≡ types_of (rows_in (row_table p image.now) n) → told_of (formed P (letters_in p image.now w) t) ≡ told (λ u. tt) result }
 {
     let uses = p.uses;
     let tops = p.tops;
@@ -555,21 +449,22 @@ pub fn formed_row(image: &[u16], p: Places, n: usize, t: usize, w: BlockLetters)
     let slots = p.slots;
     let end = p.end;
     let rows = &image[shared..slots];
+    let parts = &image[slots..end];
     if is_stack_row(rows, n, t) {
-        return 0;
+        return Ok(());
     }
-    if formed_arg(
-        rows,
-        &image[slots..end],
-        n,
-        &image[uses..tops],
-        &image[tops..shared],
-        t,
-        w,
-    ) {
-        return 0;
-    }
-    7
+    faults::holds_or(
+        formed_arg(
+            rows,
+            parts,
+            n,
+            &image[uses..tops],
+            &image[tops..shared],
+            t,
+            w,
+        ),
+        Fault::Unbound,
+    )
 }
 
 // The c arguments that stand in the table from a on are formed under the letters w.
@@ -597,13 +492,11 @@ pub(crate) fn formed_args(
     let parts = &image[slots..end];
     // The loop's invariant speaks of locals, and of no parameter that is a struct.
     let u = w;
-    let mut i = 0;
-    while i < c {
-        let t = types_rows::at(args, a + i);
+    for i in 0..c {
+        let t = tables::at(args, a + i);
         if !formed_arg(rows, parts, n, uses, tops, t, u) {
             return false;
         }
-        i += 1;
     }
     true
 }
@@ -613,10 +506,8 @@ pub(crate) fn reversed(args: &[u16], a: usize, c: usize, n: usize, back: &mut [u
     requires { (n ≤ 512) × (c ≤ length back.old) × (a + c ≤ 4294967295) }
     ensures { take c back.new ≡ reverse (map (given_row n) (span args.now a c)) }
 {
-    let mut i = 0;
-    while i < c {
-        back[c - i - 1] = given_row(n, types_rows::at(args, a + i)) as u16;
-        i += 1;
+    for i in 0..c {
+        back[c - i - 1] = given_row(n, tables::at(args, a + i)) as u16;
     }
 }
 
@@ -624,10 +515,7 @@ pub(crate) fn reversed(args: &[u16], a: usize, c: usize, n: usize, back: &mut [u
 fn letter_fits(stack: bool, x: usize) -> bool
     ensures { result ≡ fits_letter stack x }
 {
-    if stack {
-        return x != 0;
-    }
-    x == 0
+    if stack { x != 0 } else { x == 0 }
 }
 
 // There is a letter for each argument, and it is of the argument's kind: the code row's registers start at p.
@@ -640,13 +528,11 @@ pub(crate) fn letters_fit(rows: &[u16], parts: &[u16], n: usize, args: &[u16], p
     if k < c {
         return false;
     }
-    let mut j = 0;
-    while j < c {
-        let x = types_rows::at(parts, p + 9 + (k - c + j));
-        if !letter_fits(types_rows::is_stack(rows, types_rows::at(args, j)), x) {
+    for j in 0..c {
+        let x = tables::at(parts, p + 9 + (k - c + j));
+        if !letter_fits(types_rows::is_stack(rows, tables::at(args, j)), x) {
             return false;
         }
-        j += 1;
     }
     true
 }

@@ -12,7 +12,7 @@ ghost use Rattle.valid.specs.PassThree.{operand};
 ghost use Rattle.types_rows.specs.Read.{parts_of, mean_v};
 ghost use Rattle.image.specs.Sections.{operand_section, slot_section};
 ghost use Rattle.valid_context.specs.Context.{regs_of};
-ghost use Rattle.valid_context.specs.Told.{told_of, answer};
+ghost use Rattle.valid_context.specs.Told.{gives, told_of};
 ghost use Rattle.valid_typing.specs.Typing.{RowParts};
 ghost use Rattle.valid_typing.specs.operands.Operands.{operand_table};
 ghost use Rattle.valid_typing.specs.Image.{row_table, types_at, read_at, PlainIn, ListedWithin, HoldsAt};
@@ -35,7 +35,7 @@ fn plain_fits(
     t: usize,
 ) -> bool
     requires { PlainIn p image.now c.rows envs.now × (v ≤ 131072) × (t ≤ c.rows + 1) }
-    ensures { result ≡ true → (P : Program) (Δ : List Kind) (args : List ℕ) → HoldsAt p image.now c P → told_of (operand P Δ (fault 10) (regs_of (read_at p image.now c.rows envs.now) regs.now) (operand_at (operand_table (operand_section p image.now) literals.now args) v)) ≡ answer 0 (type_at value (types_at p image.now c.rows) t) }
+    ensures { result ≡ true → (P : Program) (Δ : List Kind) (args : List ℕ) → HoldsAt p image.now c P → told_of (operand P Δ (fault 10) (regs_of (read_at p image.now c.rows envs.now) regs.now) (operand_at (operand_table (operand_section p image.now) literals.now args) v)) ≡ gives (type_at value (types_at p image.now c.rows) t) }
 {
     let operands = p.operands;
     let args = p.args;
@@ -46,19 +46,18 @@ fn plain_fits(
     let rows = &image[shared..slots];
     let parts = &image[slots..end];
     let n = c.rows;
-    let kind = crate::bases::entry(table, v, 0);
-    let count = crate::bases::entry(table, v, 1);
+    let kind = tables::cell::<4>(table, v, 0);
+    let count = tables::cell::<4>(table, v, 1);
     if !crate::operands::is_plain(kind, count) {
         return false;
     }
     if kind == 1 {
         return crate::is_int(rows, parts, n, t);
     }
-    let number = crate::bases::number_at(literals, v);
-    let b = crate::bases::base_type(image, envs, p, c, regs, kind, number);
-    if b.fault != 0 {
+    let number = tables::number_at(literals, v);
+    let Ok(b) = crate::bases::base_type(image, envs, p, c, regs, kind, number) else {
         return false;
-    }
+    };
     crate::same_at_sight(rows, parts, n, b.row, b.env, t, 2 * envs.len())
 }
 
@@ -75,7 +74,7 @@ fn plain_parts(
     at: usize,
 ) -> bool
     requires { PlainIn p image.now c.rows envs.now × RowParts c.rows h at × ListedWithin o }
-    ensures { result ≡ true → (P : Program) (Δ : List Kind) (args : List ℕ) → HoldsAt p image.now c P → told_of (components P Δ (regs_of (read_at p image.now c.rows envs.now) regs.now) (operands_at (operand_table (operand_section p image.now) literals.now args) o.first o.count)) ≡ answer 0 (parts_of (mean_v (row_table p image.now)) (slot_section p image.now) false h at o.count) }
+    ensures { result ≡ true → (P : Program) (Δ : List Kind) (args : List ℕ) → HoldsAt p image.now c P → told_of (components P Δ (regs_of (read_at p image.now c.rows envs.now) regs.now) (operands_at (operand_table (operand_section p image.now) literals.now args) o.first o.count)) ≡ gives (parts_of (mean_v (row_table p image.now)) (slot_section p image.now) false h at o.count) }
 {
     // The loop's invariant speaks of locals, and of no parameter that is a struct.
     let q = p;
@@ -84,16 +83,11 @@ fn plain_parts(
     let end = p.end;
     let parts = &image[slots..end];
     let v = o.first;
-    let mut i = o.count;
-    while i > 0 {
-        let t = crate::row_of(
-            k.rows,
-            types_rows::link(h, types_rows::at(parts, at + i - 1)),
-        );
-        if !plain_fits(image, literals, envs, q, k, v + i - 1, regs, t) {
+    for i in (0..o.count).rev() {
+        let t = crate::row_of(k.rows, types_rows::link(h, tables::at(parts, at + i)));
+        if !plain_fits(image, literals, envs, q, k, v + i, regs, t) {
             return false;
         }
-        i -= 1;
     }
     true
 }
@@ -115,12 +109,8 @@ pub fn plain_tuple(
     let shared = p.shared;
     let slots = p.slots;
     let h = types_rows::link(c.rows + 3, t);
-    let u = types_rows::read_value(&image[shared..slots], h, 0, 0, 0);
-    let Val::Tuple(at, k) = u else {
+    let Val::Tuple(at, k) = types_rows::read_value(&image[shared..slots], h, 0, 0, 0) else {
         return false;
     };
-    if k != o.count {
-        return false;
-    }
-    plain_parts(image, literals, envs, p, c, o, regs, h, at)
+    k == o.count && plain_parts(image, literals, envs, p, c, o, regs, h, at)
 }

@@ -13,10 +13,6 @@ use Rattle.text.specs.PassOne.{pass_one}
 use Rattle.valid.specs.Program.{program_of}
 use Rattle.valid.specs.PassThree.{pass_three}
 use Rattle.valid.specs.Verdict.{accepted, refused, instr_count, answer, pass_two_of, passes, check}
-use Rattle.valid_context.proofs.Told.{said_none, said_some}
-use Rattle.valid_verdict.specs.declared.finding.Finding.{Finding}
-use Rattle.valid_verdict.specs.finding.Found.{refusal_said}
-use Rattle.valid_verdict.proofs.finding.Laws.{says_none, says_some}
 use Rattle.valid_verdict.specs.declared.Answer.TheVariants.{Accepted, Refused, Unfit}
 use Rattle.valid_verdict.specs.Answers.{verdict_is, low, third}
 
@@ -44,18 +40,17 @@ module _ (text : List ℕ) where
     third_only : (o : Option Refusal) → o ≡ third text → answer (program_of text) o ≡ check text
     third_only o t = ap₂ (λ (x y : Option Refusal). answer (program_of text) (or_else x y)) e t ∙ verdict
 
-    module _ (f : Finding) (t : refusal_said f ≡ third text) where
-      pub answers_none : (b i : ℕ) → f.number ≡ 0 → b ≡ length (program_of text).blocks → i ≡ instr_count (program_of text).blocks → verdict_is (Accepted b i) ≡ check text
+    module _ {o : Option Refusal} (t : o ≡ third text) where
+      pub answers_none : {b i : ℕ} → o ≡ none → b ≡ length (program_of text).blocks → i ≡ instr_count (program_of text).blocks → verdict_is (Accepted b i) ≡ check text
       unfolding verdict_is
-      answers_none b i z p q = ap₂ accepted p q ∙ third_only none (sym (says_none f z) ∙ t)
+      answers_none z p q = ap₂ accepted p q ∙ third_only none (sym z ∙ t)
 
-      pub answers_third : (f.number ≡ 0 → ⊥) → f.item ≡ 100 → verdict_is (Refused f.number f.line) ≡ check text
+      pub answers_third : {k l : ℕ} → o ≡ some (record { number = k; line = l; item = none }) → verdict_is (Refused k l) ≡ check text
       unfolding verdict_is
-      answers_third z h = ap (λ (o : Option ℕ). refused (record { number = f.number; line = f.line; item = o })) (sym (said_none f.item h)) ∙ third_only _ (sym (says_some f z) ∙ t)
+      answers_third z = third_only _ (sym z ∙ t)
 
-      pub answers_unfit : (f.number ≡ 0 → ⊥) → (f.item ≡ 100 → ⊥) → verdict_is (Unfit f.line f.item) ≡ check text
+      pub answers_unfit : {k l i : ℕ} → o ≡ some (record { number = k; line = l; item = some i }) → verdict_is (Unfit l i) ≡ check text
       unfolding verdict_is
-      answers_unfit z h =
-          let i = said_some f.item h in
-          let n : f.number ≡ 10 = item_ten 0 (pass_three (program_of text)) (sym t ∙ says_some f z) i in
-          ap₂ (λ (k : ℕ) (o : Option ℕ). refused (record { number = k; line = f.line; item = o })) (sym n) (sym i) ∙ third_only _ (sym (says_some f z) ∙ t)
+      answers_unfit {k} {l} {i} z =
+          let n : k ≡ 10 = item_ten 0 (pass_three (program_of text)) (sym t ∙ z) refl in
+          ap (λ (m : ℕ). refused (record { number = m; line = l; item = some i })) (sym n) ∙ third_only _ (sym z ∙ t)

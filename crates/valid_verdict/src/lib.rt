@@ -14,6 +14,7 @@ ghost use Rattle.valid_verdict.specs.Answers.{verdict_is, low, third};
 
 use crate::finding::Finding;
 
+// Kept: one enum with a refusal's number, since a caller in C hands back any number as an answer (`verdict_by` of stal_lines).
 // Accepted with the counts of blocks and instructions; refused with number and line; refused with 10 at a jump or branch, with the line
 // and the first item that does not fit (0 for sp, 1 to 8 for a register, 99 for the resulting row).
 #[derive(Clone, Copy)]
@@ -24,16 +25,14 @@ pub enum Answer {
 }
 
 // The answer by what pass three found.
-pub fn answer_by(f: Finding, nb: usize, ni: usize) -> Answer
-    ensures { (text : List ℕ) → none ≡ low text → refusal_said f ≡ third text → (f.number ≡ 0 → (nb ≡ length (program_of text).blocks) × (ni ≡ instr_count (program_of text).blocks)) → verdict_is result ≡ check text }
+pub fn answer_by(found: Result<(), Finding>, nb: usize, ni: usize) -> Answer
+    ensures { (text : List ℕ) → none ≡ low text → refusal_said found ≡ third text → (refusal_said found ≡ none → (nb ≡ length (program_of text).blocks) × (ni ≡ instr_count (program_of text).blocks)) → verdict_is result ≡ check text }
 {
-    let number = f.number;
-    let item = f.item;
-    if number == 0 {
-        return Answer::Accepted(nb, ni);
+    match found {
+        Ok(_) => Answer::Accepted(nb, ni),
+        Err(f) => match f.item {
+            Some(item) => Answer::Unfit(f.line, item),
+            None => Answer::Refused(f.fault.number(), f.line),
+        },
     }
-    if item == 100 {
-        return Answer::Refused(number, f.line);
-    }
-    Answer::Unfit(f.line, item)
 }

@@ -1,5 +1,6 @@
 use mathlib.Core.Path.{◌≡◌}
 use Rattle.image.specs.Sections.{part, row_section, block_section, part_section}
+use Rattle.faults.specs.Numbers.{fault_number}
 use Rattle.exec_ready.proofs.Laws.{no_block, some_block_fault}
 use Rattle.exec_ready.proofs.first_fault.Goals as goal
 
@@ -15,4 +16,4 @@ unfolding part
 returns c =
     let some_of : c.args.nb ≡ 0 → ⊥ = search in
     let a = c.args in
-    λ xs. some_block_fault (row_section a.p a.image.now) (part_section a.p a.image.now) a.n c.at-c.result (block_section a.p a.image.now) c.block_fault.result a.nb xs some_of c.at-c.ensures.0 (c.block_fault.ensures xs)
+    λ xs. some_block_fault (row_section a.p a.image.now) (part_section a.p a.image.now) a.n c.at-c.result (block_section a.p a.image.now) (fault_number c.block_fault.result) a.nb xs some_of c.at-c.ensures.0 (c.block_fault.ensures xs)

@@ -9,9 +9,6 @@ use Rattle.valid.specs.Rules.{declared}
 use Rattle.image.specs.Sections.{part, row_section, part_section}
 use Rattle.exec_ready.proofs.samples_wanted.Goals as goal
 
-pub sample_count-requires : goal.sample_count-requires
-sample_count-requires c = (c.requires.1, c.at-c.ensures.1)
-
 pub returns : goal.returns
 unfolding part
 returns c =

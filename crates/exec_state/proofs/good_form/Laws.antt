@@ -1,6 +1,7 @@
 -- Laws of the walk over the heap, of the marks that it makes, and of words that are tested by them.
-use mathlib.Core.Path.{◌≡◌, refl, ap, ap₂, sym, ◌∙◌}
-use mathlib.Core.Bool.{Bool, true, false, ◌&&◌, ◌||◌, not, cond}
+use mathlib.Core.Path.{◌≡◌, refl, ap, ap₂, sym, ◌∙◌, subst}
+use Rattle.std.specs.Prelude.{Option}
+use mathlib.Core.Bool.{Bool, true, false, ◌&&◌, cond}
 use mathlib.Core.List.{List, [], ◌∷◌, ◌++◌, append-nil}
 use Prim.Native.Nat.{ℕ, zero, suc, ◌+◌, ◌-◌, ◌<◌, ◌≤◌}
 use native.Mathlib.Nat.{not-suc-le-zero, le_of_suc-le-suc}
@@ -8,61 +9,54 @@ use native.Mathlib.Omega.{arith}
 use lib.Dec.{leb, ltb, eqb}
 use lib.ListN.{length, get_or, take, set}
 use borrow.Author.Tests.{leb-true, le-leb, lt-leb, eq-eqb, ne_eqb}
-use Rattle.exec.specs.Machine.{Word, Memory, capacity, at, State, Bodies, flat}
+use Rattle.exec.specs.Machine.{Word, Memory, at, State, Bodies, flat}
 use Rattle.exec.specs.Run.{words_from, tuple_length, end_to_end, starts_at, good_word, good_words, in_use, good_form, long_enough}
 use Rattle.exec_machine.specs.declared.Place.{Place}
 use Rattle.exec_machine.specs.Step.{state_of}
-use Rattle.exec_state.specs.good_form.Marks.{in_limits, mark_of, left_after, marks_from, good_by, all_good_by}
+use Rattle.exec_state.specs.good_form.Marks.{in_limits, Few, mark_of, left_after, marks_from, good_by, all_good_by}
 
--- ---- a test of the other value
-pub was_false : (b : Bool) → not b ≡ true → b ≡ false
-was_false true e = sym e
-was_false false e = refl
-
-pub was_true : (b : Bool) → not b ≡ false → b ≡ true
-was_true true e = refl
-was_true false e = sym e
+-- ---- one test after another
+pub and_is : (c a b : Bool) {v : Bool} → a ≡ c → v ≡ (c && b) → v ≡ (a && b)
+and_is c a b e h = h ∙ ap (λ (x : Bool). x && b) (sym e)
 
 -- ---- one word
 abbrev word : ℕ → ℕ → Word
 word k n = record { kind = k; number = n }
 
-pub no_length : (k n : ℕ) → (k ≡ 0 → ⊥) → 17 ≡ tuple_length (word k n)
+pub no_length : (k n : ℕ) → (k ≡ 0 → ⊥) → 16 < tuple_length (word k n)
 unfolding tuple_length
-no_length k n h = simp (ne_eqb k 0 h)
+no_length k n h = rw (ne_eqb k 0 h) (omega arith)
 
-pub too_long : (k n : ℕ) → k ≡ 0 → 16 < n → 17 ≡ tuple_length (word k n)
+pub too_long : (k n : ℕ) → 16 < n → 16 < tuple_length (word k n)
 unfolding tuple_length
-too_long k n e h = simp (eq-eqb k 0 e, lt-leb n 16 h)
+too_long k n h = rw (lt-leb n 16 h) (pick (eqb k 0))
+  where
+    pick : (b : Bool) → 16 < cond (b && false) n 17
+    pick true = omega arith
+    pick false = omega arith
 
-pub its_length : (k n r : ℕ) → k ≡ 0 → n ≤ 16 → r ≡ n → r ≡ tuple_length (word k n)
+pub its_length : (k n : ℕ) → k ≡ 0 → n ≤ 16 → n ≡ tuple_length (word k n)
 unfolding tuple_length
-its_length k n r e h q = simp (eq-eqb k 0 e, le-leb n 16 h) q
+its_length k n e h = simp (eq-eqb k 0 e, le-leb n 16 h)
 
-pub at_start : (k : ℕ) (w : Word) {r : ℕ} → k ≡ 0 → r ≡ tuple_length w → r ≡ left_after k w
+pub at_start : (k : ℕ) (w : Word) (o : Option ℕ) → k ≡ 0 → Few (tuple_length w) o → Few (left_after k w) o
 unfolding left_after
-at_start k w e h = h ∙ ap (λ (j : ℕ). left_after j w) (sym e)
+at_start k w o e h = subst (λ (j : ℕ). Few (left_after j w) o) (sym e) h
 
 pub within : (k : ℕ) (w : Word) → (k ≡ 0 → ⊥) → k - 1 ≡ left_after k w
 unfolding left_after
 within zero w h = absurd (h refl)
 within (suc k) w h = omega arith
 
-pub marked : (k : ℕ) → k ≡ 0 → 1 ≡ mark_of k
+pub marked : (k : ℕ) → eqb k 0 ≡ mark_of k
 unfolding mark_of
-marked k e = ap mark_of (sym e)
-
-pub unmarked : (k : ℕ) → (k ≡ 0 → ⊥) → 0 ≡ mark_of k
-unfolding mark_of
-unmarked zero h = absurd (h refl)
-unmarked (suc k) h = refl
+marked zero = refl
+marked (suc k) = ne_eqb (suc k) 0 (λ e. omega arith)
 
 -- ---- the walk
 -- the walk is before word i of those used, with k components left; what it found so far is in `starts`
-pub record Marking (m : Memory) (used : ℕ) (starts₀ starts : List ℕ) (k i : ℕ) : Type 0 where
-  pub passed : i ≤ used
+pub record Marking (m : Memory) (used : ℕ) (starts : List Bool) (k i : ℕ) : Type 0 where
   pub few : k ≤ 16
-  pub size : length starts ≡ length starts₀
   pub rest : end_to_end (words_from m i (used - i)) k ≡ end_to_end (words_from m 0 used) 0
   pub marks : take i starts ++ marks_from (words_from m i (used - i)) k ≡ marks_from (words_from m 0 used) 0
 
@@ -78,10 +72,10 @@ at_end zero = refl
 at_end (suc k) = ne_eqb (suc k) 0 (λ e. omega arith)
 
 -- what the table has up to here, one entry more
-more_marked : (l : List ℕ) (i v : ℕ) (vs : List ℕ) → i < length l → take (suc i) (set l i v) ++ vs ≡ take i l ++ (v ∷ vs)
+more_marked : (l : List Bool) (i : ℕ) (v : Bool) (vs : List Bool) → i < length l → take (suc i) (set l i v) ++ vs ≡ take i l ++ (v ∷ vs)
 more_marked [] i v vs h = absurd (not-suc-le-zero h)
 more_marked (x ∷ l) zero v vs h = refl
-more_marked (x ∷ l) (suc i) v vs h = ap (λ (t : List ℕ). x ∷ t) (more_marked l i v vs (le_of_suc-le-suc h))
+more_marked (x ∷ l) (suc i) v vs h = ap (λ (t : List Bool). x ∷ t) (more_marked l i v vs (le_of_suc-le-suc h))
 
 one_more_lem : (m : Memory) (i n : ℕ) → i < n → words_from m i (n - i) ≡ at m i ∷ words_from m (i + 1) (n - (i + 1))
 unfolding words_from
@@ -118,26 +112,26 @@ module _ (m : Memory) (used : ℕ) where
       goes_on l = ap (λ (t : Bool). t && end_to_end (left (i + 1)) k') (sym (le-leb k' 16 l)) ∙ turn
 
   -- the table so far, and the marks that are left
-  module _ (l : List ℕ) (i k : ℕ) (M : List ℕ) (inv : take i l ++ marks_from (left i) k ≡ M) where
+  module _ (l : List Bool) (i k : ℕ) (M : List Bool) (inv : take i l ++ marks_from (left i) k ≡ M) where
     pub all_marked : used ≤ i → i ≤ used → take used l ≡ M
     unfolding marks_from
     all_marked h g =
         let e : used ≡ i = omega arith in
         ap (λ (j : ℕ). take j l) e ∙ sym (append-nil (take i l)) ∙ ap (λ (ws : List Word). take i l ++ marks_from ws k) (sym (no_more m i used h)) ∙ inv
 
-    pub one_marked : i < used → i < length l → (k' v : ℕ) (w : Word) → w ≡ at m i → k' ≡ left_after k w → v ≡ mark_of k → take (i + 1) (set l i v) ++ marks_from (left (i + 1)) k' ≡ M
+    pub one_marked : i < used → i < length l → (k' : ℕ) (v : Bool) (w : Word) → w ≡ at m i → k' ≡ left_after k w → v ≡ mark_of k → take (i + 1) (set l i v) ++ marks_from (left (i + 1)) k' ≡ M
     unfolding marks_from
     one_marked h g k' v w ew ek ev =
         let s : i + 1 ≡ suc i = omega arith in
         let n : k' ≡ left_after k (at m i) = ek ∙ ap (left_after k) ew in
         ap (λ (j : ℕ). take j (set l i v) ++ marks_from (left (i + 1)) k') s
         ∙ more_marked l i v (marks_from (left (i + 1)) k') g
-        ∙ ap₂ (λ (x j : ℕ). take i l ++ (x ∷ marks_from (left (i + 1)) j)) ev n
+        ∙ ap₂ (λ (x : Bool) (j : ℕ). take i l ++ (x ∷ marks_from (left (i + 1)) j)) ev n
         ∙ ap (λ (ws : List Word). take i l ++ marks_from ws k) (sym (one_more_lem m i used h))
         ∙ inv
 
 -- the marks are the tuples' starts
-pub starts_are : (ws : List Word) (k a : ℕ) → starts_at ws k a ≡ eqb (get_or (marks_from ws k) a 0) 1
+pub starts_are : (ws : List Word) (k a : ℕ) → starts_at ws k a ≡ get_or (marks_from ws k) a false
 unfolding starts_at marks_from mark_of left_after
 starts_are [] k a = refl
 starts_are (w ∷ ws) zero zero = refl
@@ -145,65 +139,8 @@ starts_are (w ∷ ws) zero (suc a) = starts_are ws (tuple_length w) a
 starts_are (w ∷ ws) (suc k) zero = refl
 starts_are (w ∷ ws) (suc k) (suc a) = starts_are ws k a
 
--- ---- lookups
-pub not_used : (l : List ℕ) (used a : ℕ) → used ≤ a → false ≡ eqb (get_or (take used l) a 0) 1
-not_used l zero a h = refl
-not_used [] (suc u) a h = refl
-not_used (x ∷ l) (suc u) zero h = absurd (not-suc-le-zero h)
-not_used (x ∷ l) (suc u) (suc a) h = not_used l u a (le_of_suc-le-suc h)
-
-looked_up : (l : List ℕ) (used a : ℕ) → a < used → get_or l a 0 ≡ get_or (take used l) a 0
-looked_up l zero a h = absurd (not-suc-le-zero h)
-looked_up [] (suc u) a h = refl
-looked_up (x ∷ l) (suc u) zero h = refl
-looked_up (x ∷ l) (suc u) (suc a) h = looked_up l u a (le_of_suc-le-suc h)
-
-pub in_use_lem : (l : List ℕ) (used a : ℕ) → a < used → eqb (get_or l a 0) 1 ≡ eqb (get_or (take used l) a 0) 1
-in_use_lem l used a h = ap (λ (x : ℕ). eqb x 1) (looked_up l used a h)
-
--- ---- words by the marks
-module _ (M : List ℕ) (k n : ℕ) where
-  abbrev Good : Bool → Type 0
-  Good r = r ≡ good_by M (word k n)
-
-  at_kind : (j : ℕ) {r : Bool} → k ≡ j → r ≡ good_by M (word j n) → Good r
-  at_kind j e h = h ∙ ap (λ (i : ℕ). good_by M (word i n)) (sym e)
-
-  pub plain : k ≤ 1 → Good true
-  unfolding good_by
-  plain h = go k h
-    where
-      go : (j : ℕ) → j ≤ 1 → true ≡ good_by M (word j n)
-      go zero g = refl
-      go (suc zero) g = refl
-      go (suc (suc j)) g = absurd (not-suc-le-zero (le_of_suc-le-suc g))
-
-  pub tuple : {r : Bool} → k ≡ 2 → r ≡ eqb (get_or M n 0) 1 → Good r
-  unfolding good_by
-  tuple e h = h ∙ at_kind 2 e (go (eqb (get_or M n 0) 1))
-    where
-      go : (t : Bool) → t ≡ (t || false || false)
-      go true = refl
-      go false = refl
-
-  pub height : k ≡ 3 → Good (leb n 256)
-  unfolding good_by
-  height e = at_kind 3 e (go (leb n 256))
-    where
-      go : (t : Bool) → t ≡ (t || false)
-      go true = refl
-      go false = refl
-
-  pub junk : k ≡ 4 → Good (eqb n 0)
-  unfolding good_by
-  junk e = at_kind 4 e refl
-
-  pub no_kind : (k ≤ 1 → ⊥) → (k ≡ 2 → ⊥) → (k ≡ 3 → ⊥) → (k ≡ 4 → ⊥) → Good false
-  unfolding good_by
-  no_kind a b c d = simp (ne_eqb k 0 (λ e. a (omega arith)), ne_eqb k 1 (λ e. a (omega arith)), ne_eqb k 2 b, ne_eqb k 3 c, ne_eqb k 4 d)
-
 -- the words from i on are left, of n
-module _ (M : List ℕ) (m : Memory) (i n : ℕ) (G : Bool) (inv : all_good_by M (words_from m i (n - i)) ≡ G) where
+module _ (M : List Bool) (m : Memory) (i n : ℕ) (G : Bool) (inv : all_good_by M (words_from m i (n - i)) ≡ G) where
   pub all_good : n ≤ i → true ≡ G
   unfolding all_good_by
   all_good h = ap (all_good_by M) (sym (no_more m i n h)) ∙ inv
@@ -229,45 +166,8 @@ unfolding all_good_by good_words
 all_good_is H [] = refl
 all_good_is H (w ∷ ws) = ap₂ ◌&&◌ (good_is H w) (all_good_is H ws)
 
-pub by_marks : (M : List ℕ) (H ws : List Word) {r : Bool} → M ≡ marks_from H 0 → r ≡ all_good_by M ws → r ≡ good_words H ws
-by_marks M H ws e h = h ∙ ap (λ (l : List ℕ). all_good_by l ws) e ∙ all_good_is H ws
-
--- ---- limits
-module _ (σ : State) where
-  pub few_registers : (x : ℕ) → x ≡ capacity σ.registers → x < 8 → false ≡ long_enough σ
-  unfolding long_enough
-  few_registers x e h =
-      let q : capacity σ.registers < 8 = omega (arith, e, h) in
-      simp (lt-leb 8 (capacity σ.registers) q)
-
-  module _ (x : ℕ) (ex : x ≡ capacity σ.registers) (hx : 8 ≤ x) where
-    pub short_stack : (y : ℕ) → y ≡ capacity σ.stack → y < 256 → false ≡ long_enough σ
-    unfolding long_enough
-    short_stack y e h =
-        let p : 8 ≤ capacity σ.registers = omega (arith, ex, hx) in
-        let q : capacity σ.stack < 256 = omega (arith, e, h) in
-        simp (le-leb 8 (capacity σ.registers) p, lt-leb 256 (capacity σ.stack) q)
-
-    pub by_heap : (y z : ℕ) → y ≡ capacity σ.stack → 256 ≤ y → z ≡ capacity σ.heap → leb 2048 z ≡ long_enough σ
-    unfolding long_enough
-    by_heap y z ey h ez =
-        let p : 8 ≤ capacity σ.registers = omega (arith, ex, hx) in
-        let q : 256 ≤ capacity σ.stack = omega (arith, ey, h) in
-        simp (le-leb 8 (capacity σ.registers) p, le-leb 256 (capacity σ.stack) q) (ap (leb 2048) ez)
-
--- ---- the place
-module _ (count : ℕ) (p : Place) where
-  pub too_deep : 256 < p.depth → false ≡ in_limits count p
-  unfolding in_limits
-  too_deep h = simp (lt-leb p.depth 256 h)
-
-  pub too_full : p.depth ≤ 256 → 2048 < p.used → false ≡ in_limits count p
-  unfolding in_limits
-  too_full d h = simp (le-leb p.depth 256 d, lt-leb p.used 2048 h)
-
-  pub by_position : p.depth ≤ 256 → p.used ≤ 2048 → ltb p.position count ≡ in_limits count p
-  unfolding in_limits
-  by_position d h = simp (le-leb p.depth 256 d, le-leb p.used 2048 h)
+pub by_marks : (M : List Bool) (H ws : List Word) {r : Bool} → M ≡ marks_from H 0 → r ≡ all_good_by M ws → r ≡ good_words H ws
+by_marks M H ws e h = h ∙ ap (λ (l : List Bool). all_good_by l ws) e ∙ all_good_is H ws
 
 no : {X : Type 0} → false ≡ true → X
 no e = absurd (zero_one (ap number e))
@@ -300,7 +200,7 @@ pub use_within : (count : ℕ) (p : Place) → in_limits count p ≡ true → p.
 unfolding in_limits
 use_within count p e = leb-true p.used 2048 (second_of (leb p.depth 256) (leb p.used 2048) (ltb p.position count) e)
 
-pub marks_are : (r : Bool) (x y : List ℕ) → r ≡ true → cond r x [] ≡ cond r y [] → x ≡ y
+pub marks_are : (r : Bool) (x y : List Bool) → r ≡ true → cond r x [] ≡ cond r y [] → x ≡ y
 marks_are true x y e h = h
 marks_are false x y e h = no e
 
@@ -335,12 +235,16 @@ module _ (rk rn sk sn hk hn : List ℕ) (p : Place) (P : Bodies) (count : ℕ) (
       not_tuples e = sym (whole_is ∙ rw e)
 
       module _ (ee : end_to_end H 0 ≡ true) where
-        pub bad_registers : good_words H (in_use σ.registers 8) ≡ false → false ≡ Whole
-        bad_registers e = sym (whole_is ∙ rw (ee, e))
+        abbrev before_heap : Bool
+        before_heap = good_words H (in_use σ.registers 8) && good_words H (in_use σ.stack σ.depth)
 
-        module _ (er : good_words H (in_use σ.registers 8) ≡ true) where
-          pub bad_stack : good_words H (in_use σ.stack σ.depth) ≡ false → false ≡ Whole
-          bad_stack e = sym (whole_is ∙ rw (ee, er, e))
+        words_are : Whole ≡ before_heap && good_words H H
+        words_are = whole_is ∙ rw ee
 
-          pub by_heap_words : good_words H (in_use σ.stack σ.depth) ≡ true → good_words H H ≡ Whole
-          by_heap_words e = sym (whole_is ∙ rw (ee, er, e))
+        -- v says whether the registers and the stack are good
+        module _ (v : Bool) (e : v ≡ before_heap) where
+          pub bad_before : v ≡ false → v ≡ Whole
+          bad_before t = t ∙ ap (λ (b : Bool). b && good_words H H) (sym t ∙ e) ∙ sym words_are
+
+          pub and_heap : {r : Bool} → v ≡ true → r ≡ good_words H H → r ≡ Whole
+          and_heap t h = h ∙ ap (λ (b : Bool). b && good_words H H) (sym t ∙ e) ∙ sym words_are

@@ -15,9 +15,6 @@ use Rattle.text.specs.Bytes.{Line, lines_of, literal}
 use Rattle.text.specs.Samples.{sample, samples_from, samples_of}
 use Rattle.text_lines.specs.Parts.{first_part}
 use Rattle.text_lines.proofs.Parts.{line_ended, line_unended, lines_none}
-use Rattle.text_fields.specs.declared.numbers.Number.{Number}
-use Rattle.text_fields.specs.declared.numbers.Number.TheVariants.{Value, Bad}
-use Rattle.text_fields.specs.numbers.Numbers.{number_of}
 use Rattle.exec_state.specs.samples.Counted.{exactly}
 
 -- the samples read, and those of the lines that are left
@@ -90,20 +87,16 @@ module _ (text out : List ℕ) (at n want : ℕ) (inv : joined (take n out) text
           let q : want ≤ length (take n out) = omega (arith, length-take-le n out (omega arith)) in
           sym (many (take n out) want q (literal line) (samples_from (lines_of (drop (e + 1) text)))) ∙ ap (exactly want) whole
 
-      module _ (x : Number) (r : number_of x ≡ literal line) where
-        pub malformed : x ≡ Bad → none ≡ exactly want (samples_of text)
-        malformed b =
-            let z : literal line ≡ none = sym r ∙ ap number_of b in
-            ap (λ (o : Option ℕ). exactly want (chain (chain o (λ y. chain (samples_from (lines_of (drop (e + 1) text))) (λ ys. some (y ∷ ys)))) (λ ys. some (take n out ++ ys)))) (sym z) ∙ ap (exactly want) whole
+      pub malformed : none ≡ literal line → none ≡ exactly want (samples_of text)
+      malformed b = ap (λ (o : Option ℕ). exactly want (chain (chain o (λ y. chain (samples_from (lines_of (drop (e + 1) text))) (λ ys. some (y ∷ ys)))) (λ ys. some (take n out ++ ys)))) b ∙ ap (exactly want) whole
 
-        pub one_read : (v : ℕ) → x ≡ Value v → n < want → joined (take (n + 1) (set out n v)) text (e + 1) ≡ samples_of text
-        one_read v b k =
-            let z : literal line ≡ some v = sym r ∙ ap number_of b in
-            let q : n < length out = omega arith in
-            let s : n + 1 ≡ suc n = omega arith in
-            let t : take (n + 1) (set out n v) ≡ take n out ++ (v ∷ []) = ap (λ (m : ℕ). take m (set out n v)) s ∙ taken out n v q in
-            let o : Option (List ℕ) = samples_from (lines_of (drop (e + 1) text)) in
-            ap (λ (xs : List ℕ). joined xs text (e + 1)) t
-            ∙ put_behind (take n out) v o
-            ∙ ap (λ (p : Option ℕ). chain (chain p (λ y. chain o (λ ys. some (y ∷ ys)))) (λ ys. some (take n out ++ ys))) (sym z)
-            ∙ whole
+      pub one_read : (v : ℕ) → some v ≡ literal line → n < want → joined (take (n + 1) (set out n v)) text (e + 1) ≡ samples_of text
+      one_read v b k =
+          let q : n < length out = omega arith in
+          let s : n + 1 ≡ suc n = omega arith in
+          let t : take (n + 1) (set out n v) ≡ take n out ++ (v ∷ []) = ap (λ (m : ℕ). take m (set out n v)) s ∙ taken out n v q in
+          let o : Option (List ℕ) = samples_from (lines_of (drop (e + 1) text)) in
+          ap (λ (xs : List ℕ). joined xs text (e + 1)) t
+          ∙ put_behind (take n out) v o
+          ∙ ap (λ (p : Option ℕ). chain (chain p (λ y. chain o (λ ys. some (y ∷ ys)))) (λ ys. some (take n out ++ ys))) b
+          ∙ whole

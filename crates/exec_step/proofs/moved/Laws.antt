@@ -1,6 +1,6 @@
 -- From the change that a function makes to the step that it is.
 use mathlib.Core.Path.{◌≡◌, refl, ap, sym, ◌∙◌}
-use mathlib.Core.Bool.{Bool, true, false, cond}
+use mathlib.Core.Bool.{Bool, true, false, not, cond}
 use Prim.Native.Nat.{ℕ, ◌+◌, ◌*◌, ◌≤◌}
 use native.Mathlib.Omega.{arith}
 use lib.ListN.{replicate}
@@ -15,6 +15,14 @@ use Rattle.exec_step.specs.declared.moved.Moved.TheVariants.{To, Paused, Ended}
 use Rattle.exec_step.specs.moved.Stepped.{held, toward, Reached, Waits, Stops, Turned}
 
 -- ---- with budget and without
+pub spent : (more : Bool) → not more ≡ true → more ≡ false
+spent true e = sym e
+spent false e = refl
+
+pub left : (more : Bool) → not more ≡ false → more ≡ true
+left true e = refl
+left false e = sym e
+
 module _ (more : Bool) where
   pub moves : (to h u : ℕ) → more ≡ true → To to h u ≡ toward more to h u
   moves to h u e = ap (λ (b : Bool). toward b to h u) (sym e)

@@ -1,7 +1,7 @@
 -- The words of operands, and what a branch does by its test.
 use mathlib.Core.Path.{◌≡◌, ap, sym, ◌∙◌}
 use mathlib.Core.Bool.{Bool, true, false, cond}
-use Prim.Native.Nat.{ℕ, ◌-◌, ◌<◌, ◌≤◌}
+use Prim.Native.Nat.{ℕ, ◌<◌, ◌≤◌}
 use borrow.Author.Tests.{eq-eqb, ne_eqb, lt-ltb, le-ltb}
 use Rattle.syntax.specs.Syntax.{reg, lit, plain}
 use Rattle.exec.specs.Machine.{Memory, Word, at, int_kind, sign_of, taken, integer, base_word, word_of}

@@ -1,7 +1,5 @@
 -- Laws of one read and of one write, of table entries and of operands.
-use Rattle.std.proofs.Common.{◌≡◌, ℕ, zero, suc, ◌+◌, ◌-◌, ◌*◌, ◌/◌, ◌%◌, ◌<◌, ◌≤◌, Bool, true, false, cond, eqb, ltb, List, [], ◌∷◌, length, get_or, sym, refl, ap, ◌∙◌, le_trans, le_of_suc-le-suc, not-suc-le-zero, mul_comm, div-lt_iff_lt-mul, mul-le-mul_left, arith, le-ltb, ne_eqb}
-use native.Mathlib.Nat.{mul-div-le}
-use lib.ListN.{get_or-eq_default}
+use Rattle.std.proofs.Common.{◌≡◌, ℕ, zero, suc, ◌+◌, ◌-◌, ◌*◌, ◌/◌, ◌%◌, ◌<◌, ◌≤◌, Bool, true, false, cond, eqb, ltb, List, [], ◌∷◌, length, get_or, sym, refl, ap, ◌∙◌, le_of_suc-le-suc, not-suc-le-zero, arith, le-ltb, ne_eqb}
 use Rattle.syntax.specs.Syntax.{pack}
 use Rattle.exec.specs.Machine.{Word, Memory, at, junk_kind, integer, label, base_word, word_of}
 use Rattle.tables.specs.Tables.{cell, OperandTable, span, base_of, operand_of, operand_from, operand_at}
@@ -16,20 +14,6 @@ any_default (x ∷ l) (suc i) d e h = any_default l i d e (le_of_suc-le-suc h)
 pub word_in : (ks ns : List ℕ) (i : ℕ) → i < length ks → ◌≡◌ {A = Word} (record { kind = get_or ks i 0; number = get_or ns i 0 }) (at (lent ks ns) i)
 unfolding at
 word_in ks ns i h = λ k. record { kind = any_default ks i 0 junk_kind h k; number = get_or ns i 0 }
-
-pub past : (l : List ℕ) (i d : ℕ) → length l ≤ i → d ≡ get_or l i d
-past l i d h = sym (get_or-eq_default l d h)
-
--- ---- entries
--- a record that starts within the table, and one that does not
-pub starts : (w i n : ℕ) → i ≤ n / w → w * i ≤ n
-starts w i n h = le_trans (mul-le-mul_left w h) (mul-div-le n w)
-
-pub beyond : (w i n k : ℕ) → k < w → n / w < i → n ≤ w * i + k
-beyond w i n k hk h =
-    let p : 0 < w = omega arith in
-    let q : n < i * w = (div-lt_iff_lt-mul p).0 h in
-    omega (arith, mul_comm w i)
 
 -- ---- operands
 module _ (R : Memory) where

@@ -2,6 +2,14 @@
 use Rattle.std.specs.Prelude.{ℕ, zero, suc}
 use Rattle.syntax.specs.Syntax.{Arith, add, sub, mul, Branch, beq, bneq, bgt, blt, bgte, blte}
 use Rattle.exec.specs.Machine.{Sign, negative, null, positive}
+use Rattle.exec_words.specs.declared.arith.Arith.{Arith as Operation}
+use Rattle.exec_words.specs.declared.arith.Arith.TheVariants.{Add, Sub, Mul}
+
+-- an operation of the code, as that of crate syntax
+abbrev pub arith_is : Operation → Arith
+arith_is Add = add
+arith_is Sub = sub
+arith_is Mul = mul
 
 -- operation k, in the order of the forms
 unfoldable pub arith_of : ℕ → Arith

@@ -1,5 +1,6 @@
 use mathlib.Core.Path.{ap}
 use native.Mathlib.Omega.{arith}
+use borrow.Author.Rules.{rules}
 use Rattle.text.specs.Bytes.{bytes}
 use Rattle.print.specs.Lines.{kind_name}
 use Rattle.print_lines.proofs.Laws.{kind_put, junk_name}
@@ -24,5 +25,4 @@ returns-in-3 c = kind_put c.args.kind (ap kind_name c.in-3.is) (omega arith) c.p
 pub returns-in_default : goal.returns-in_default
 unfolding bytes
 returns-in_default c =
-    let n = c.in_default.in_default-own.rest in
-    kind_put _ (junk_name _ n.0.0.0.1 n.0.0.1 n.0.1 n.1) (omega arith) c.put-in_default.ensures
+    kind_put _ (junk_name _ (search rules) (search rules) (search rules) (search rules)) (omega arith) c.put-in_default.ensures

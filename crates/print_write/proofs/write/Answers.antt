@@ -5,4 +5,4 @@ pub returns-then-out-line : goal.returns-then-out-line
 returns-then-out-line c = not_put _ _ c.if-out-line.true
 
 pub returns : goal.returns
-returns c = put_first _ _ _ _ c.put-n.ensures c.if-out-line.false
+returns c = put_first _ _ _ _ c.put.ensures c.if-out-line.false

@@ -4,7 +4,6 @@ use Rattle.text.specs.Bytes.{bytes}
 use Rattle.print.specs.Decimal.{digit, digits_in, decimal, signed_decimal}
 use Rattle.print.specs.Lines.{parted, line_of, refusal}
 use Rattle.print_write.specs.Put.{Puts}
-use Rattle.print_write.specs.Wide.{signed64}
 use Rattle.print_write.proofs.Laws.{puts_behind}
 use Rattle.report.specs.Day.{refused, no_integer, figures, report_fields, report_line}
 use Rattle.report_day.specs.declared.Figures.{Figures}
@@ -26,14 +25,14 @@ seven_line a b c d e f g = simp append_assoc
 
 pub seven_figures : {l l1 l2 l3 l4 l5 l6 : List ℕ} {a b c d e g : ℕ} (f : Figures)
     → Puts l 0 (decimal f.count ++ (44 ∷ decimal f.others)) l1 a
-    → Puts l1 a (44 ∷ signed_decimal (signed64 f.total)) l2 b
-    → Puts l2 b (44 ∷ signed_decimal (signed64 f.smallest)) l3 c
-    → Puts l3 c (44 ∷ signed_decimal (signed64 f.largest)) l4 d
-    → Puts l4 d (44 ∷ signed_decimal (signed64 f.quotient)) l5 e
+    → Puts l1 a (44 ∷ signed_decimal f.total) l2 b
+    → Puts l2 b (44 ∷ signed_decimal f.smallest) l3 c
+    → Puts l3 c (44 ∷ signed_decimal f.largest) l4 d
+    → Puts l4 d (44 ∷ signed_decimal f.quotient) l5 e
     → Puts l5 e (44 ∷ (decimal f.remainder ++ (10 ∷ []))) l6 g
     → take g l6 ≡ report_line (figures (figures_is f))
 unfolding report_line report_fields
 seven_figures f p q r s t u =
     (puts_behind p (puts_behind q (puts_behind r (puts_behind s (puts_behind t u))))).held
     ∙ append_assoc (decimal f.count) (44 ∷ decimal f.others) _
-    ∙ sym (seven_line (decimal f.count) (decimal f.others) (signed_decimal (signed64 f.total)) (signed_decimal (signed64 f.smallest)) (signed_decimal (signed64 f.largest)) (signed_decimal (signed64 f.quotient)) (decimal f.remainder))
+    ∙ sym (seven_line (decimal f.count) (decimal f.others) (signed_decimal f.total) (signed_decimal f.smallest) (signed_decimal f.largest) (signed_decimal f.quotient) (decimal f.remainder))

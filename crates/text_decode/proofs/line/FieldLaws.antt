@@ -1,7 +1,7 @@
 -- Laws of single fields and of a form's plain fields in a row.
 -- Assumes nothing.
 use mathlib.Core.Path.{◌≡◌, refl, ap, sym, ◌∙◌}
-use mathlib.Core.Bool.{Bool, true, false, ◌&&◌, cond}
+use mathlib.Core.Bool.{Bool, true, false, cond}
 use mathlib.Core.List.{List, [], ◌∷◌}
 use mathlib.Core.Option.{Option, none, some, none-ne-some, some-injective}
 use Prim.Native.Nat.{ℕ, zero, suc, ◌+◌, ◌-◌, ◌<◌, ◌≤◌}
@@ -12,15 +12,10 @@ use Rattle.syntax.specs.Partial.{chain, guarded}
 use Rattle.text.specs.Bytes.{bytes, same_bytes, number}
 use Rattle.text.specs.Grammar.{row_number, index, amount, register, known}
 use Rattle.text_lines.specs.Parts.{first_part}
-use Rattle.text_fields.specs.numbers.Numbers.{number_of}
-use Rattle.text_fields.specs.declared.numbers.Number.{Number}
-use Rattle.text_fields.specs.declared.numbers.Number.TheVariants.{Value, Bad}
 use Rattle.text_fields.proofs.numbers.Laws.{number_bounds}
 use Rattle.text_decode.specs.line.Fields.{fields_from, plain_field, read_slot, read_slots, kept_as, part_number}
 use Rattle.text_decode.specs.line.Forms.{form_cell, kinds_of, form_of}
 use Rattle.text_decode.specs.declared.line.Form.{Form}
-use Rattle.text_decode.specs.line.Answers.{slot_of}
-use Rattle.text_decode.specs.declared.line.Slot.{Slot}
 use Rattle.text_decode.proofs.line.Walk.{fields_past, fields_next}
 
 -- ---- their numbers fit
@@ -83,59 +78,35 @@ module _ (line : List ℕ) (at kind : ℕ) where
     slot_here : read_slot kind (fields_from line at) ≡ chain (plain_field kind (take (e - at) (drop at line))) (λ n. some (n, fields_from line (e + 1)))
     slot_here = ap (read_slot kind) (fields_next line at e is l) ∙ slot_first kind (take (e - at) (drop at line)) (fields_from line (e + 1)) h
 
-    pub slot_bad : (r : Number) → r ≡ Bad → number_of r ≡ plain_field kind (take (e - at) (drop at line)) → none ≡ read_slot kind (fields_from line at)
-    slot_bad r b n =
-        let q : plain_field kind (take (e - at) (drop at line)) ≡ none = sym n ∙ ap number_of b in
-        sym (slot_here ∙ simp q)
+    pub slot_bad : plain_field kind (take (e - at) (drop at line)) ≡ none → none ≡ read_slot kind (fields_from line at)
+    slot_bad q = sym (slot_here ∙ simp q)
 
-    pub slot_is : (r : Number) (v : ℕ) → r ≡ Value v → number_of r ≡ plain_field kind (take (e - at) (drop at line)) → some (v, fields_from line (e + 1)) ≡ read_slot kind (fields_from line at)
-    slot_is r v b n =
-        let q : plain_field kind (take (e - at) (drop at line)) ≡ some v = sym n ∙ ap number_of b in
-        sym (slot_here ∙ simp q)
+    pub slot_is : (v : ℕ) → plain_field kind (take (e - at) (drop at line)) ≡ some v → some (v, fields_from line (e + 1)) ≡ read_slot kind (fields_from line at)
+    slot_is v q = sym (slot_here ∙ simp q)
 
--- ---- four in a row, each from where the one before left off
-module _ (line : List ℕ) (at k l m n : ℕ) where
-  four_slots : (p q r s : Bool) (a b c d i j g h : ℕ) → guarded p (a, fields_from line i) ≡ read_slot k (fields_from line at)
-      → guarded q (b, fields_from line j) ≡ read_slot l (fields_from line i) → guarded r (c, fields_from line g) ≡ read_slot m (fields_from line j)
-      → guarded s (d, fields_from line h) ≡ read_slot n (fields_from line g) → guarded ((p && q) && (r && s)) (
-        a ∷ b ∷ c ∷ d ∷ [],
-        fields_from line
-            h,
-      ) ≡ read_slots (k ∷ l ∷ m ∷ n ∷ []) (fields_from line at)
+-- ---- one after the other, each from where the one before left off
+abbrev Read : Type 0
+Read = List ℕ × List (List ℕ)
+
+module _ (k : ℕ) (ks : List ℕ) (fs : List (List ℕ)) where
+  pub slots_bad : none ≡ read_slot k fs → none ≡ read_slots (k ∷ ks) fs
   unfolding read_slots
-  four_slots true true true true a b c d i j g h e f u v = simp (← e, ← f, ← u, ← v)
-  four_slots true true true false a b c d i j g h e f u v = simp (← e, ← f, ← u, ← v)
-  four_slots true true false s a b c d i j g h e f u v = simp (← e, ← f, ← u)
-  four_slots true false r s a b c d i j g h e f u v = simp (← e, ← f)
-  four_slots false q r s a b c d i j g h e f u v = simp (← e)
+  slots_bad e = simp (← e)
 
-all_ok : (p q r s t u w : Bool) → t ≡ (p && q) → u ≡ (r && s) → w ≡ (t && u) → w ≡ ((p && q) && (r && s))
-all_ok p q r s t u w e f g = g ∙ ap (λ (x : Bool). x && u) e ∙ ap (λ (x : Bool). (p && q) && x) f
+  module _ (v : ℕ) (gs : List (List ℕ)) (e : some (v, gs) ≡ read_slot k fs) where
+    slots_on : read_slots (k ∷ ks) fs ≡ chain (read_slots ks gs) (λ q. some (v ∷ q.0, q.1))
+    unfolding read_slots
+    slots_on = simp (← e)
 
-pub slots_are : (line : List ℕ) (at : ℕ) (ks : List ℕ) (k l m n : ℕ) (x y z w : Slot) (t u v : Bool) → ks ≡ k ∷ l ∷ m ∷ n ∷ []
-    → slot_of line x ≡ read_slot k (fields_from line at) → slot_of line y ≡ read_slot l (fields_from line (x.next + 1))
-    → slot_of line z ≡ read_slot m (fields_from line (y.next + 1)) → slot_of line w ≡ read_slot n (fields_from line (z.next + 1))
-    → t ≡ (x.ok && y.ok) → u ≡ (z.ok && w.ok) → v ≡ (t && u) → guarded v (
-      x.value ∷ y.value ∷ z.value ∷ w.value ∷ [],
-      fields_from line
-          (w.next + 1),
-    ) ≡ read_slots ks (fields_from line at)
-slots_are line at ks k l m n x y z w t u v is a b c d e f g =
-    ap (λ (o : Bool). guarded o (x.value ∷ y.value ∷ z.value ∷ w.value ∷ [], fields_from line (w.next + 1))) (all_ok x.ok y.ok z.ok w.ok t u v e f g)
-    ∙ four_slots line at k l m n x.ok y.ok z.ok w.ok x.value y.value z.value w.value (x.next + 1) (y.next + 1) (z.next + 1) (w.next + 1) a b c d
-    ∙ ap (λ (l : List ℕ). read_slots l (fields_from line at)) (sym is)
+    pub slots_none : none ≡ read_slots ks gs → none ≡ read_slots (k ∷ ks) fs
+    slots_none h = sym (slots_on ∙ ap (λ (o : Option Read). chain {B = Read} o (λ q. some (v ∷ q.0, q.1))) (sym h))
 
--- a form with no third and no fourth field
-and_true : (t : Bool) → t ≡ (t && true)
-and_true true = refl
-and_true false = refl
+    pub slots_some : (vs : List ℕ) (hs : List (List ℕ)) → some (vs, hs) ≡ read_slots ks gs → some (v ∷ vs, hs) ≡ read_slots (k ∷ ks) fs
+    slots_some vs hs h = sym (slots_on ∙ ap (λ (o : Option Read). chain {B = Read} o (λ q. some (v ∷ q.0, q.1))) (sym h))
 
-pub two_slots : (line : List ℕ) (at k l m n : ℕ) (x y : Slot) (t : Bool) → slot_of line x ≡ read_slot k (fields_from line at)
-    → slot_of line y ≡ read_slot l (fields_from line (x.next + 1)) → t ≡ (x.ok && y.ok) → m ≡ 0 → n ≡ 0
-    → guarded t (x.value ∷ y.value ∷ 0 ∷ 0 ∷ [], fields_from line (y.next + 1)) ≡ read_slots (k ∷ l ∷ m ∷ n ∷ []) (fields_from line at)
-two_slots line at k l m n x y t a b e p q =
-    let z : Slot = record { ok = true; value = 0; next = y.next } in
-    slots_are line at (k ∷ l ∷ m ∷ n ∷ []) k l m n x y z z t true t refl a b (slot_zero line (y.next + 1) m p) (slot_zero line (y.next + 1) n q) e refl (and_true t)
+pub slots_end : (fs : List (List ℕ)) → some ([], fs) ≡ read_slots [] fs
+unfolding read_slots
+slots_end fs = refl
 
 -- a form that was read
 pub form_slots : (code : ℕ) (f : Form) (fs : List (List ℕ)) → f ≡ form_of code → read_slots (f.a ∷ f.b ∷ f.c ∷ f.d ∷ []) fs ≡ read_slots (kinds_of code) fs

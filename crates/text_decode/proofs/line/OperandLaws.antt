@@ -12,16 +12,18 @@ use lib.ListN.{length, get_or, take, drop, set, length-set, length-take}
 use lib.Seq.{sets, take-set-le, get_or-set_same, length-sets}
 use borrow.Author.Tests.{leb-true}
 use Rattle.syntax.specs.Partial.{chain, guarded}
-use Rattle.syntax.specs.Syntax.{Base, reg, lit, lab, Operand, plain, inst, pack}
+use Rattle.syntax.specs.Syntax as S
+use Rattle.syntax.specs.Syntax.{reg, lit, lab, Operand, plain, inst, pack}
+use Rattle.std.specs.Prelude.{Some, None}
 use Rattle.text.specs.Bytes.{part, split, is_decimal, number}
 use Rattle.text.specs.Grammar.{each, row_number, carrier, or_literal, carried, packed, before, from_parts, operand}
 use Rattle.tables.specs.Tables.{cell, span, base_of, operand_of, operand_from, OperandTable, operand_at, operands_at}
 use Rattle.tables.proofs.Spans.{same_less, same_at, same_sets, span_same, span_sets, span_at, sets_at, operands_snoc}
 use Rattle.text_lines.specs.Parts.{first_part, line_in}
-use Rattle.text_fields.specs.plain_operands.Answers.{answer_of, args_of, OperandIs}
+use Rattle.text_fields.specs.plain_operands.Answers.{read_of, answer_of, args_of, OperandIs}
 use Rattle.text_fields.specs.declared.plain_operands.OperandRead.{OperandRead}
 use Rattle.text_decode.specs.line.Fields.{fields_from}
-use Rattle.text_decode.specs.line.Answers.{SameOperands, operand_table, with_operand, OperandRoom, OperandsRead, Carried}
+use Rattle.text_decode.specs.line.Answers.{SameOperands, operand_table, kind_number, base_number, with_operand, OperandRoom, OperandsRead, Carried}
 use Rattle.text_decode.proofs.line.FormLaws.{each_length}
 use Rattle.text_decode.proofs.line.Walk.{Walked, walk_start, walk_on, walk_bad, walk_many, walk_end, fields_past, fields_next}
 
@@ -73,7 +75,7 @@ unfolding carried Neat size
 carried_neat [] f k l o h = absurd (none-ne-some o h)
 carried_neat (b ∷ ts) f k l o h = go (carrier b) (each row_number ts) refl (row_number f) h
   where
-    go : (c : Option Base) (rs : Option (List ℕ)) → each row_number ts ≡ rs → (t : Option ℕ) → chain c (λ c. chain rs (λ rs. chain t (λ r. guarded (leb 1 (length ts) && leb (length ts) 8) (inst c rs r)))) ≡ some o → Neat k o
+    go : (c : Option S.Base) (rs : Option (List ℕ)) → each row_number ts ≡ rs → (t : Option ℕ) → chain c (λ c. chain rs (λ rs. chain t (λ r. guarded (leb 1 (length ts) && leb (length ts) 8) (inst c rs r)))) ≡ some o → Neat k o
     go none rs w t e = absurd (none-ne-some o e)
     go (some c) none w t e = absurd (none-ne-some o e)
     go (some c) (some rs) w none e = absurd (none-ne-some o e)
@@ -91,7 +93,7 @@ packed_neat [] f k l o h = absurd (none-ne-some o h)
 packed_neat (a ∷ []) f k l o h = absurd (none-ne-some o h)
 packed_neat (a ∷ b ∷ []) f k l o h = go (row_number a) (or_literal (carrier b) b) (row_number f) h
   where
-    go : (u : Option ℕ) (c : Option Base) (t : Option ℕ) → chain u (λ u. chain c (λ c. chain t (λ t. some (pack u c t)))) ≡ some o → Neat k o
+    go : (u : Option ℕ) (c : Option S.Base) (t : Option ℕ) → chain u (λ u. chain c (λ c. chain t (λ t. some (pack u c t)))) ≡ some o → Neat k o
     go none c t e = absurd (none-ne-some o e)
     go (some u) none t e = absurd (none-ne-some o e)
     go (some u) (some c) none e = absurd (none-ne-some o e)
@@ -112,7 +114,7 @@ unfolding Neat size
 parts_neat [] k d o h = absurd (none-ne-some o h)
 parts_neat (b ∷ []) k d o h = go (or_literal (carrier b) b) h
   where
-    go : (c : Option Base) → chain c (λ c. some (plain c)) ≡ some o → Neat k o
+    go : (c : Option S.Base) → chain c (λ c. some (plain c)) ≡ some o → Neat k o
     go none e = absurd (none-ne-some o e)
     go (some c) e = rw (← (some-injective (plain c) o e)) tt
 parts_neat (l ∷ t ∷ []) k d o h = before_neat l t k (omega arith) o h
@@ -139,7 +141,7 @@ module _ (ω ρ : OperandTable) where
   }
 
 -- ---- one operand stored
-rebuilt : (o : Operand) (k a : ℕ) → Neat k o → (0 < length (args_of (some o)) → a ≡ get_or (args_of (some o)) 0 0) → operand_from (answer_of (some o)).kind (answer_of (some o)).number (args_of (some o)) a (answer_of (some o)).row ≡ o
+rebuilt : (o : Operand) (k a : ℕ) → Neat k o → (0 < length (args_of (some o)) → a ≡ get_or (args_of (some o)) 0 0) → operand_from (kind_number (read_of o)) (base_number (read_of o).base) (args_of (some o)) a (read_of o).row ≡ o
 unfolding Neat answer_of args_of operand_from operand_of base_of
 rebuilt (plain (reg n)) k a h e = refl
 rebuilt (plain (lit n)) k a h e = refl
@@ -152,7 +154,7 @@ rebuilt (pack x (reg n) t) k a h e = ap (λ (y : ℕ). pack y (reg n) t) (e (lit
 rebuilt (pack x (lit n) t) k a h e = ap (λ (y : ℕ). pack y (lit n) t) (e (lit< tt))
 rebuilt (pack x (lab n) t) k a h e = ap (λ (y : ℕ). pack y (lab n) t) (e (lit< tt))
 
-count_is : (o : Operand) → (answer_of (some o)).count ≡ length (args_of (some o))
+count_is : (o : Operand) → (read_of o).count ≡ length (args_of (some o))
 unfolding answer_of args_of
 count_is (plain b) = refl
 count_is (inst b ts t) = refl
@@ -167,26 +169,26 @@ args_few (pack a b t) k h = (omega arith, omega arith)
 module _ (operands numbers args : List ℕ) (w k : ℕ) (o : Operand) where
   -- the tables with operand w stored, its arguments from k on
   abbrev pub stored : OperandTable
-  stored = operand_table (with_operand operands w (answer_of (some o)) k) (set numbers w (answer_of (some o)).number) (sets args k (args_of (some o)))
+  stored = operand_table (with_operand operands w (read_of o) k) (set numbers w (base_number (read_of o).base)) (sets args k (args_of (some o)))
 
   pub stored_kept : SameOperands w k stored (operand_table operands numbers args)
   stored_kept = record {
-    kinds = same_sets (4 * w) operands (4 * w) ((answer_of (some o)).kind ∷ (answer_of (some o)).count ∷ (answer_of (some o)).row ∷ k ∷ []) (le_refl (4 * w));
-    numbers = take-set-le w numbers w (answer_of (some o)).number (le_refl w);
+    kinds = same_sets (4 * w) operands (4 * w) (kind_number (read_of o) ∷ (read_of o).count ∷ (read_of o).row ∷ k ∷ []) (le_refl (4 * w));
+    numbers = take-set-le w numbers w (base_number (read_of o).base) (le_refl w);
     args = same_sets k args k (args_of (some o)) (le_refl k);
   }
 
   module _ (j : ℕ) (n : Neat j o) (p : 4 * w + 4 ≤ length operands) (q : w < length numbers) (r : k + 8 ≤ length args) where
-    stored_there : (ρ : OperandTable) → SameOperands (w + 1) (k + (answer_of (some o)).count) ρ stored → operand_at ρ w ≡ o
+    stored_there : (ρ : OperandTable) → SameOperands (w + 1) (k + (read_of o).count) ρ stored → operand_at ρ w ≡ o
     unfolding operand_at
     stored_there ρ s =
-        let vs : List ℕ = (answer_of (some o)).kind ∷ (answer_of (some o)).count ∷ (answer_of (some o)).row ∷ k ∷ [] in
+        let vs : List ℕ = kind_number (read_of o) ∷ (read_of o).count ∷ (read_of o).row ∷ k ∷ [] in
         let at : (i : ℕ) → i < 4 → cell 4 ρ.operands w i ≡ get_or vs i 0 = λ i l. same_at (4 * (w + 1)) ρ.operands stored.operands (4 * w + i) (omega arith) s.kinds ∙ sets_at operands (4 * w) vs i p l in
-        let number : get_or ρ.numbers w 0 ≡ (answer_of (some o)).number = same_at (w + 1) ρ.numbers stored.numbers w (omega arith) s.numbers ∙ get_or-set_same numbers w (answer_of (some o)).number 0 q in
+        let number : get_or ρ.numbers w 0 ≡ base_number (read_of o).base = same_at (w + 1) ρ.numbers stored.numbers w (omega arith) s.numbers ∙ get_or-set_same numbers w (base_number (read_of o).base) 0 q in
         let few = (args_few o j n).0 in
         let c = count_is o in
-        let args' : span ρ.args k (answer_of (some o)).count ≡ args_of (some o) = ap (span ρ.args k) (count_is o) ∙ span_same (k + (answer_of (some o)).count) ρ.args stored.args k (length (args_of (some o))) (omega arith) s.args ∙ span_sets args k (args_of (some o)) (omega arith) in
-        let first : 0 < length (args_of (some o)) → get_or ρ.args k 0 ≡ get_or (args_of (some o)) 0 0 = λ l. sym (span_at ρ.args k (answer_of (some o)).count 0 (omega arith) ∙ ap (λ (i : ℕ). get_or ρ.args i 0) (add-zero k)) ∙ ap (λ (xs : List ℕ). get_or xs 0 0) args' in
+        let args' : span ρ.args k (read_of o).count ≡ args_of (some o) = ap (span ρ.args k) (count_is o) ∙ span_same (k + (read_of o).count) ρ.args stored.args k (length (args_of (some o))) (omega arith) s.args ∙ span_sets args k (args_of (some o)) (omega arith) in
+        let first : 0 < length (args_of (some o)) → get_or ρ.args k 0 ≡ get_or (args_of (some o)) 0 0 = λ l. sym (span_at ρ.args k (read_of o).count 0 (omega arith) ∙ ap (λ (i : ℕ). get_or ρ.args i 0) (add-zero k)) ∙ ap (λ (xs : List ℕ). get_or xs 0 0) args' in
         simp (at 0 (lit< tt), at 1 (lit< tt), at 2 (lit< tt), at 3 (lit< tt), number, args') (rebuilt o j (get_or ρ.args k 0) n first)
 
 -- ---- the loop
@@ -207,22 +209,16 @@ pub record OperandsGo (rest : List ℕ) (at most v a : ℕ) (before ω : Operand
 pub carried_by : (rest : List ℕ) (at : ℕ) {most v a i n m : ℕ} {before ω : OperandTable} → OperandsGo (line_in rest) (at + 1) most v a before ω i n m → i ≤ length (line_in rest) + 1 → most ≤ 16 → Carried rest m
 carried_by rest at g h k = let s = g.short in let f = g.few_args in let w = g.few in (omega arith, omega arith)
 
--- an answer's kind says whether it is one
-is_operand : (o : Option Operand) → ((answer_of o).kind ≡ 3 → ⊥) → (x : Operand) × (o ≡ some x)
-unfolding answer_of
-is_operand none h = absurd (h refl)
-is_operand (some x) h = (x, refl)
-
-no_operand : (o : Option Operand) → (answer_of o).kind ≡ 3 → o ≡ none
+-- what an answer tells of the operand
+no_operand : (o : Option Operand) → None ≡ answer_of o → o ≡ none
 unfolding answer_of
 no_operand none h = refl
-no_operand (some (plain (reg n))) h = absurd (omega arith)
-no_operand (some (plain (lit n))) h = absurd (omega arith)
-no_operand (some (plain (lab n))) h = absurd (omega arith)
-no_operand (some (inst (reg n) ts t)) h = absurd (omega arith)
-no_operand (some (inst (lit n) ts t)) h = absurd (omega arith)
-no_operand (some (inst (lab n) ts t)) h = absurd (omega arith)
-no_operand (some (pack a b t)) h = absurd (omega arith)
+no_operand (some x) h = absurd (cc)
+
+is_operand : (o : Option Operand) (r : OperandRead) → Some r ≡ answer_of o → (x : Operand) × (o ≡ some x) × (r ≡ read_of x)
+unfolding answer_of
+is_operand none r h = absurd (cc)
+is_operand (some x) r h = (x, refl, cc)
 
 nothing : (l : List ℕ) (i : ℕ) → sets l i (args_of none) ≡ l
 unfolding args_of
@@ -245,11 +241,10 @@ module _ (rest : List ℕ) (at most v a : ℕ) (before : OperandTable) where
   }
 
   module _ (ω : OperandTable) (i n m : ℕ) (g : OperandsGo rest at most v a before ω i n m) where
-    pub operands_end : length rest < i → (z : ℕ) → OperandsRead (fields_from rest at) most v a before ω (record { ok = true; count = n; args = m; next = z })
+    pub operands_end : length rest < i → (z : ℕ) → OperandsRead (fields_from rest at) most v a before ω (Some (record { count = n; args = m; next = z }))
     operands_end h z = record {
       kept = g.kept;
-      few = g.few;
-      says = λ ρ s. ap some (g.stands ρ s) ∙ walk_end operand (fields_from rest at) n g.xs most (rw (← (fields_past rest i h)) g.walked) g.few;
+      read = record { few = g.few; says = λ ρ s. ap some (g.stands ρ s) ∙ walk_end operand (fields_from rest at) n g.xs most (rw (← (fields_past rest i h)) g.walked) g.few };
     }
 
     module _ (l : i ≤ length rest) (e : ℕ) (is : e ≡ i + length (first_part 44 (drop i rest))) where
@@ -257,22 +252,19 @@ module _ (rest : List ℕ) (at most v a : ℕ) (before : OperandTable) where
       next = rw (fields_next rest i e is l) at g.walked
 
       -- the field is no operand: only arguments may have been written, and there are none
-      pub operands_bad : (r : OperandRead) (args' : List ℕ) → OperandIs (operand (take (e - i) (drop i rest))) ω.args (a + m) r args'
-          → r.kind ≡ 3 → (z : ℕ) → OperandsRead (fields_from rest at) most v a before (operand_table ω.operands ω.numbers args')
-          (record { ok = false; count = n; args = m; next = z })
-      operands_bad r args' is' k z =
-          let k' : (answer_of (operand (take (e - i) (drop i rest)))).kind ≡ 3 = rw is'.answer at k in
-          let w : operand (take (e - i) (drop i rest)) ≡ none = no_operand (operand (take (e - i) (drop i rest))) k' in
+      pub operands_bad : (args' : List ℕ) → OperandIs (operand (take (e - i) (drop i rest))) ω.args (a + m) None args'
+          → OperandsRead (fields_from rest at) most v a before (operand_table ω.operands ω.numbers args') None
+      operands_bad args' is' =
+          let w : operand (take (e - i) (drop i rest)) ≡ none = no_operand (operand (take (e - i) (drop i rest))) is'.answer in
           let q : args' ≡ ω.args = is'.stored ∙ ap (λ (o : Option Operand). sets ω.args (a + m) (args_of o)) w ∙ nothing ω.args (a + m) in
           rw q (record {
             kept = g.kept;
-            few = g.few;
-            says = λ ρ s. walk_bad operand (fields_from rest at) (fields_from rest (e + 1)) n g.xs most (take (e - i) (drop i rest)) next w;
+            read = walk_bad operand (fields_from rest at) (fields_from rest (e + 1)) n g.xs most (take (e - i) (drop i rest)) next w;
           })
 
       on_stored : n < most → OperandRoom (v + most) (a + 8 * most) (length before.operands) (length before.numbers)
           (length before.args) → (x : Operand) → operand (take (e - i) (drop i rest)) ≡ some x → OperandsGo rest at most v a before
-          (stored ω.operands ω.numbers ω.args (v + n) (a + m) x) (e + 1) (n + 1) (m + (answer_of (some x)).count)
+          (stored ω.operands ω.numbers ω.args (v + n) (a + m) x) (e + 1) (n + 1) (m + (read_of x).count)
       on_stored l' room x w =
           let σ : OperandTable = stored ω.operands ω.numbers ω.args (v + n) (a + m) x in
           let k : SameOperands (v + n) (a + m) σ ω = stored_kept ω.operands ω.numbers ω.args (v + n) (a + m) x in
@@ -289,53 +281,51 @@ module _ (rest : List ℕ) (at most v a : ℕ) (before : OperandTable) where
             few = omega arith;
             few_args = omega arith;
             short = omega arith;
-            long_kinds = length-sets ω.operands (4 * (v + n)) ((answer_of (some x)).kind ∷ (answer_of (some x)).count ∷ (answer_of (some x)).row ∷ (a + m) ∷ []) ∙ g.long_kinds;
-            long_numbers = length-set ω.numbers (v + n) (answer_of (some x)).number ∙ g.long_numbers;
+            long_kinds = length-sets ω.operands (4 * (v + n)) (kind_number (read_of x) ∷ (read_of x).count ∷ (read_of x).row ∷ (a + m) ∷ []) ∙ g.long_kinds;
+            long_numbers = length-set ω.numbers (v + n) (base_number (read_of x).base) ∙ g.long_numbers;
             long_args = length-sets ω.args (a + m) (args_of (some x)) ∙ g.long_args;
             kept = same_on σ ω before v a (same_fewer σ ω v (v + n) a (a + m) (le-add_right v n) (le-add_right a m) k) g.kept;
             xs = g.xs ++ (x ∷ []);
             stands =
                 λ ρ s. operands_snoc ρ v n ∙ ap₂ (λ (ys : List Operand) (y : Operand). ys ++ (y ∷ []))
                 (g.stands ρ (same_on ρ σ ω (v + n) (a + m) (same_fewer ρ σ (v + n) (v + (n + 1)) (a + m)
-                (a + (m + (answer_of (some x)).count)) (omega arith) (omega arith) s) k)) (stored_there ω.operands ω.numbers ω.args
+                (a + (m + (read_of x).count)) (omega arith) (omega arith) s) k)) (stored_there ω.operands ω.numbers ω.args
                 (v + n) (a + m) x (length f) neat (omega (arith, room.kinds, g.long_kinds))
                 (omega (arith, room.bases, g.long_numbers)) (omega (arith, room.rows, g.long_args)) ρ (same_fewer ρ σ (v + n + 1)
-                (v + (n + 1)) (a + m + (answer_of (some x)).count) (a + (m + (answer_of (some x)).count)) (omega arith) (omega arith) s));
+                (v + (n + 1)) (a + m + (read_of x).count) (a + (m + (read_of x).count)) (omega arith) (omega arith) s));
             walked = walk_on operand (fields_from rest at) (fields_from rest (e + 1)) n g.xs f x next w;
           }
 
       pub operands_on : n < most → OperandRoom (v + most) (a + 8 * most) (length before.operands) (length before.numbers)
           (length before.args) → (r : OperandRead) (operands' numbers' args' : List ℕ)
-          → OperandIs (operand (take (e - i) (drop i rest))) ω.args (a + m) r args' → (r.kind ≡ 3 → ⊥) → operands' ≡ with_operand
-          ω.operands (v + n) r (a + m) → numbers' ≡ set ω.numbers (v + n) r.number → OperandsGo rest at most v a before
+          → OperandIs (operand (take (e - i) (drop i rest))) ω.args (a + m) (Some r) args' → operands' ≡ with_operand
+          ω.operands (v + n) r (a + m) → numbers' ≡ set ω.numbers (v + n) (base_number r.base) → OperandsGo rest at most v a before
           (operand_table operands' numbers' args') (e + 1) (n + 1) (m + r.count)
-      operands_on l' room r operands' numbers' args' is' k b₁ b₂ =
+      operands_on l' room r operands' numbers' args' is' b₁ b₂ =
           let f : List ℕ = take (e - i) (drop i rest) in
-          let k' : (answer_of (operand f)).kind ≡ 3 → ⊥ = rw is'.answer at k in
-          let x : Operand = (is_operand (operand f) k').0 in
-          let w : operand f ≡ some x = (is_operand (operand f) k').1 in
-          let z : r ≡ answer_of (some x) = is'.answer ∙ ap answer_of w in
+          let there = is_operand (operand f) r is'.answer in
+          let x : Operand = there.0 in
+          let w : operand f ≡ some x = there.1 in
+          let z : r ≡ read_of x = there.2 in
           let c : args' ≡ sets ω.args (a + m) (args_of (some x)) = is'.stored ∙ ap (λ (o : Option Operand). sets ω.args (a + m) (args_of o)) w in
-          let d : operands' ≡ with_operand ω.operands (v + n) (answer_of (some x)) (a + m) = b₁ ∙ ap (λ (y : OperandRead). with_operand ω.operands (v + n) y (a + m)) z in
-          let h : numbers' ≡ set ω.numbers (v + n) (answer_of (some x)).number = b₂ ∙ ap (λ (y : OperandRead). set ω.numbers (v + n) y.number) z in
-          let t : m + r.count ≡ m + (answer_of (some x)).count = ap (λ (y : OperandRead). m + y.count) z in
+          let d : operands' ≡ with_operand ω.operands (v + n) (read_of x) (a + m) = b₁ ∙ ap (λ (y : OperandRead). with_operand ω.operands (v + n) y (a + m)) z in
+          let h : numbers' ≡ set ω.numbers (v + n) (base_number (read_of x).base) = b₂ ∙ ap (λ (y : OperandRead). set ω.numbers (v + n) (base_number y.base)) z in
+          let t : m + r.count ≡ m + (read_of x).count = ap (λ (y : OperandRead). m + y.count) z in
           rw (c, d, h, t) (on_stored l' room x w)
 
       -- how many arguments it has
-      pub operand_few : (r : OperandRead) (args' : List ℕ) → OperandIs (operand (take (e - i) (drop i rest))) ω.args (a + m) r args' → (r.kind ≡ 3 → ⊥) → r.count ≤ 8
-      operand_few r args' is' k =
+      pub operand_few : (r : OperandRead) (args' : List ℕ) → OperandIs (operand (take (e - i) (drop i rest))) ω.args (a + m) (Some r) args' → r.count ≤ 8
+      operand_few r args' is' =
           let f : List ℕ = take (e - i) (drop i rest) in
-          let k' : (answer_of (operand f)).kind ≡ 3 → ⊥ = rw is'.answer at k in
-          let x : Operand = (is_operand (operand f) k').0 in
-          let w : operand f ≡ some x = (is_operand (operand f) k').1 in
-          let z : r.count ≡ (answer_of (some x)).count = ap (λ (y : OperandRead). y.count) (is'.answer ∙ ap answer_of w) in
+          let there = is_operand (operand f) r is'.answer in
+          let x : Operand = there.0 in
+          let z : r.count ≡ (read_of x).count = ap (λ (y : OperandRead). y.count) there.2 in
           let c = count_is x in
-          let q = (args_few x (length f) (operand_neat f x w)).0 in
+          let q = (args_few x (length f) (operand_neat f x there.1)).0 in
           omega arith
 
-    pub operands_many : i ≤ length rest → n ≡ most → (z : ℕ) → OperandsRead (fields_from rest at) most v a before ω (record { ok = false; count = n; args = m; next = z })
-    operands_many l e z = record {
+    pub operands_many : i ≤ length rest → n ≡ most → OperandsRead (fields_from rest at) most v a before ω None
+    operands_many l e = record {
       kept = g.kept;
-      few = g.few;
-      says = λ ρ s. walk_many operand (fields_from rest at) (fields_from rest (i + length (first_part 44 (drop i rest)) + 1)) n g.xs most (take (i + length (first_part 44 (drop i rest)) - i) (drop i rest)) (next l (i + length (first_part 44 (drop i rest))) refl) (omega arith);
+      read = walk_many operand (fields_from rest at) (fields_from rest (i + length (first_part 44 (drop i rest)) + 1)) n g.xs most (take (i + length (first_part 44 (drop i rest)) - i) (drop i rest)) (next l (i + length (first_part 44 (drop i rest))) refl) (omega arith);
     }

@@ -1,8 +1,9 @@
 -- Laws of the loop that reads a line's fields as rows or registers into a table.
 -- Assumes nothing.
 use mathlib.Core.Path.{◌≡◌, refl, ap₂, ◌∙◌}
-use mathlib.Core.Bool.{Bool, true, false}
+use mathlib.Core.Bool.{Bool}
 use mathlib.Core.List.{List, [], ◌∷◌, ◌++◌}
+use Rattle.std.specs.Prelude.{Some, None}
 use mathlib.Core.Option.{none, some}
 use Prim.Native.Nat.{ℕ, ◌+◌, ◌-◌, ◌<◌, ◌≤◌, zero-le}
 use native.Mathlib.Omega.{arith}
@@ -29,22 +30,20 @@ module _ (rest : List ℕ) (at : ℕ) (known : Bool) (most : ℕ) (before : List
   parts_start = record { few = zero-le; as_long = refl; kept = refl; walked = walk_start (part_number known) (fields_from rest at) }
 
   module _ (parts : List ℕ) (i n : ℕ) (g : PartsGo rest at known most before p parts i n) where
-    pub parts_end : length rest < i → (z : ℕ) → PartsRead (fields_from rest at) known most p before parts (record { ok = true; count = n; args = 0; next = z })
+    pub parts_end : length rest < i → (z : ℕ) → PartsRead (fields_from rest at) known most p before parts (Some (record { count = n; args = 0; next = z }))
     parts_end h z = record {
       kept = g.kept;
-      few = g.few;
-      says = walk_end (part_number known) (fields_from rest at) n (span parts p n) most (rw (← (fields_past rest i h)) g.walked) g.few;
+      read = record { few = g.few; says = walk_end (part_number known) (fields_from rest at) n (span parts p n) most (rw (← (fields_past rest i h)) g.walked) g.few };
     }
 
     module _ (l : i ≤ length rest) (e : ℕ) (is : e ≡ i + length (first_part 44 (drop i rest))) where
       next : Walked (part_number known) (fields_from rest at) (take (e - i) (drop i rest) ∷ fields_from rest (e + 1)) n (span parts p n)
       next = rw (fields_next rest i e is l) at g.walked
 
-      pub parts_bad : part_number known (take (e - i) (drop i rest)) ≡ none → (z : ℕ) → PartsRead (fields_from rest at) known most p before parts (record { ok = false; count = n; args = 0; next = z })
-      parts_bad b z = record {
+      pub parts_bad : part_number known (take (e - i) (drop i rest)) ≡ none → PartsRead (fields_from rest at) known most p before parts None
+      parts_bad b = record {
         kept = g.kept;
-        few = g.few;
-        says = walk_bad (part_number known) (fields_from rest at) (fields_from rest (e + 1)) n (span parts p n) most (take (e - i) (drop i rest)) next b;
+        read = walk_bad (part_number known) (fields_from rest at) (fields_from rest (e + 1)) n (span parts p n) most (take (e - i) (drop i rest)) next b;
       }
 
       pub parts_on : (v : ℕ) → part_number known (take (e - i) (drop i rest)) ≡ some v → n < most → p + n < length parts → PartsGo rest at known most before p (set parts (p + n) v) (e + 1) (n + 1)
@@ -59,9 +58,8 @@ module _ (rest : List ℕ) (at : ℕ) (known : Bool) (most : ℕ) (before : List
             walked = rw here (walk_on (part_number known) (fields_from rest at) (fields_from rest (e + 1)) n (span parts p n) (take (e - i) (drop i rest)) v next b);
           }
 
-    pub parts_many : i ≤ length rest → n ≡ most → (z : ℕ) → PartsRead (fields_from rest at) known most p before parts (record { ok = false; count = n; args = 0; next = z })
-    parts_many l m z = record {
+    pub parts_many : i ≤ length rest → n ≡ most → PartsRead (fields_from rest at) known most p before parts None
+    parts_many l m = record {
       kept = g.kept;
-      few = g.few;
-      says = walk_many (part_number known) (fields_from rest at) (fields_from rest (i + length (first_part 44 (drop i rest)) + 1)) n (span parts p n) most (take (i + length (first_part 44 (drop i rest)) - i) (drop i rest)) (next l (i + length (first_part 44 (drop i rest))) refl) (omega arith);
+      read = walk_many (part_number known) (fields_from rest at) (fields_from rest (i + length (first_part 44 (drop i rest)) + 1)) n (span parts p n) most (take (i + length (first_part 44 (drop i rest)) - i) (drop i rest)) (next l (i + length (first_part 44 (drop i rest))) refl) (omega arith);
     }

@@ -1,7 +1,8 @@
 -- Laws of fields read from one stop of a line to the next, each in one walk.
 -- Assumes nothing.
-use mathlib.Core.Path.{◌≡◌, refl, ap, sym, ◌∙◌}
-use mathlib.Core.Bool.{Bool, true, false, cond, false≢true}
+use mathlib.Core.Path.{◌≡◌, refl, ap, sym, subst, ◌∙◌}
+use Rattle.std.specs.Prelude.{Option as Maybe}
+use mathlib.Core.Bool.{Bool, true, false, cond}
 use mathlib.Core.List.{List, [], ◌∷◌}
 use mathlib.Core.Option.{Option, none, some}
 use Prim.Native.Nat.{ℕ, suc, ◌+◌, ◌-◌, ◌<◌, ◌≤◌, zero-le}
@@ -10,24 +11,20 @@ use native.Mathlib.Numerals.{add-one}
 use lib.Dec.{eqb}
 use lib.ListN.{length, get_or, take, drop}
 use borrow.Author.Tests.{eq-eqb, ne_eqb}
-use Rattle.syntax.specs.Partial.{chain, guarded}
+use Rattle.syntax.specs.Partial.{chain}
 use Rattle.text.specs.Bytes.{bytes, same_bytes, is_digit, all_digits, is_decimal, number}
 use Rattle.text.specs.Grammar.{row_number, index, amount, register, known, operand}
 use Rattle.text_lines.specs.Parts.{line_in, field_in, InLine, StopAt}
 use Rattle.text_lines.proofs.Parts.{part_is}
 use Rattle.text_lines.proofs.InLine.{next_place, field_on, field_first, stop_on, stop_last, stop_behind, field_part}
-use Rattle.text_fields.specs.numbers.Numbers.{ScanIs}
+use Rattle.text_fields.specs.numbers.Numbers.{ScanRead, ScanIs}
 use Rattle.text_fields.specs.declared.numbers.Scan.{Scan}
-use Rattle.text_fields.specs.declared.numbers.Number.TheVariants.{Value, Bad}
 use Rattle.text_fields.proofs.numbers.Laws.{number_bounds}
-use Rattle.text_fields.proofs.numbers.Scans.{scan_some}
 use Rattle.text_fields.specs.plain_operands.Answers.{OperandIs}
 use Rattle.text_fields.specs.declared.plain_operands.OperandRead.{OperandRead}
-use Rattle.text_decode.specs.line.Fields.{plain_field, most_of, kept_as, part_number}
-use Rattle.text_decode.specs.line.Answers.{Carried, no_slot, SlotIs, AtEnd, no_entry}
-use Rattle.text_decode.specs.declared.line.Slot.{Slot}
-use Rattle.text_decode.specs.declared.line.Said.{Said}
-use Rattle.text_decode.proofs.line.FieldLaws.{plain_small, slot_zero, slot_past, slot_bad, slot_is}
+use Rattle.text_decode.specs.line.Fields.{fields_from, plain_field, read_slot, most_of, kept_as, part_number}
+use Rattle.text_decode.specs.line.Answers.{Carried, SlotRead}
+use Rattle.text_decode.proofs.line.FieldLaws.{slot_zero, slot_past, slot_bad, slot_is}
 
 -- ---- by the field's kind
 module _ (kind : ℕ) where
@@ -58,15 +55,11 @@ module _ (kind : ℕ) where
         go false false = refl
 
 -- ---- a number read
-module _ (s : List ℕ) (at : ℕ) (o : Option ℕ) (x : Scan) (g : ScanIs s at o x) where
-  pub scan_to : (r : Option ℕ) → o ≡ r → ScanIs s at r x
-  scan_to r e = record { says = g.says ∙ e; ends = g.ends }
+pub scan_to : (s : List ℕ) (at : ℕ) (o : Option ℕ) (r : Maybe Scan) → ScanIs s at o r → (o' : Option ℕ) → o ≡ o' → ScanIs s at o' r
+scan_to s at o r g o' e = subst (λ (z : Option ℕ). ScanIs s at z r) e g
 
-  pub scan_value : x.ok ≡ true → o ≡ some x.value
-  scan_value t = sym g.says ∙ ap (λ (b : Bool). guarded b x.value) t
-
-  pub scan_lacks : x.ok ≡ false → o ≡ none
-  scan_lacks t = sym g.says ∙ ap (λ (b : Bool). guarded b x.value) t
+pub read_to : (s : List ℕ) (at : ℕ) (o : Option ℕ) (x : Scan) → ScanRead s at o x → (o' : Option ℕ) → o ≡ o' → ScanRead s at o' x
+read_to s at o x g o' e = record { says = sym e ∙ g.says; ends = g.ends }
 
 -- a field as the walk over a line has it
 pub field_here : (s : List ℕ) (at e : ℕ) → e ≡ at + length (field_in s at) → take (e - at) (drop at (line_in s)) ≡ field_in s at
@@ -80,34 +73,27 @@ line_over s at p h = let q = stop_last s at p h in omega arith
 
 -- ---- one plain field
 module _ (s : List ℕ) (at kind : ℕ) (p : StopAt s at) where
-  pub slot_none : kind ≡ 0 → SlotIs s at kind (record { ok = true; value = 0; next = at })
+  pub slot_none : kind ≡ 0 → SlotRead s at kind (record { value = 0; next = at })
   slot_none e = record { says = slot_zero (line_in s) (at + 1) kind e; stop = p }
 
-  module _ (h : kind ≡ 0 → ⊥) (r : Slot) where
-    pub slot_lacks : (get_or s at 0 ≡ 44 → ⊥) → r ≡ no_slot at → SlotIs s at kind r
-    slot_lacks n e = rw e (record { says = slot_past (line_in s) (at + 1) kind h (line_over s at p n); stop = p })
+  module _ (h : kind ≡ 0 → ⊥) where
+    pub slot_lacks : (get_or s at 0 ≡ 44 → ⊥) → none ≡ read_slot kind (fields_from (line_in s) (at + 1))
+    slot_lacks n = slot_past (line_in s) (at + 1) kind h (line_over s at p n)
 
-    module _ (c : get_or s at 0 ≡ 44) (x : Scan) (g : ScanIs s (at + 1) (plain_field kind (field_in s (at + 1))) x) where
+    module _ (c : get_or s at 0 ≡ 44) where
       inside : at + 1 ≤ length (line_in s)
       inside = (stop_on s at p c).within
 
-      pub slot_wrong : x.ok ≡ false → r ≡ no_slot at → SlotIs s at kind r
-      slot_wrong t e =
+      pub slot_wrong : plain_field kind (field_in s (at + 1)) ≡ none → none ≡ read_slot kind (fields_from (line_in s) (at + 1))
+      slot_wrong t =
           let d : ℕ = at + 1 + length (field_in s (at + 1)) in
-          let w : none ≡ plain_field kind (take (d - (at + 1)) (drop (at + 1) (line_in s))) = sym (scan_lacks s (at + 1) (plain_field kind (field_in s (at + 1))) x g t) ∙ ap (plain_field kind) (sym (field_here s (at + 1) d refl)) in
-          rw e (record { says = slot_bad (line_in s) (at + 1) kind d refl h inside Bad refl w; stop = p })
+          slot_bad (line_in s) (at + 1) kind d refl h inside (ap (plain_field kind) (field_here s (at + 1) d refl) ∙ t)
 
-      module _ (t : x.ok ≡ true) where
-        pub slot_small : x.value < 600
-        slot_small = plain_small kind (field_in s (at + 1)) x.value (scan_value s (at + 1) (plain_field kind (field_in s (at + 1))) x g t)
-
-        pub slot_there : SlotIs s at kind (record { ok = true; value = x.value; next = x.next })
-        slot_there =
-            let w : some x.value ≡ plain_field kind (take (x.next - (at + 1)) (drop (at + 1) (line_in s))) = sym (scan_value s (at + 1) (plain_field kind (field_in s (at + 1))) x g t) ∙ ap (plain_field kind) (sym (field_here s (at + 1) x.next (g.ends t))) in
-            record {
-              says = slot_is (line_in s) (at + 1) kind x.next (g.ends t) h inside (Value x.value) x.value refl w;
-              stop = stop_behind s (at + 1) x.next (stop_on s at p c) (g.ends t);
-            }
+      pub slot_there : (x : Scan) → ScanRead s (at + 1) (plain_field kind (field_in s (at + 1))) x → SlotRead s at kind (record { value = x.value; next = x.next })
+      slot_there x g = record {
+        says = slot_is (line_in s) (at + 1) kind x.next g.ends h inside x.value (ap (plain_field kind) (field_here s (at + 1) x.next g.ends) ∙ g.says);
+        stop = stop_behind s (at + 1) x.next (stop_on s at p c) g.ends;
+      }
 
 -- ---- a register's row or `-`
 not_dash : (f : List ℕ) → ((length f ≡ 0 → ⊥) → get_or f 0 0 ≡ 45 → ⊥) → same_bytes f (bytes "-") ≡ false
@@ -146,10 +132,10 @@ module _ (s : List ℕ) (at : ℕ) (p : InLine s at) where
     dash_field : field_in s at ≡ 45 ∷ field_in s (at + 1)
     dash_field = field_on s at p (λ q. omega arith) (λ q. omega arith) ∙ ap (λ (b : ℕ). b ∷ field_in s (at + 1)) e
 
-    pub dash_is : field_in s (at + 1) ≡ [] → ScanIs s at (part_number true (field_in s at)) (record { ok = true; value = 0; next = at + 1 })
+    pub dash_is : field_in s (at + 1) ≡ [] → ScanRead s at (part_number true (field_in s at)) (record { value = 0; next = at + 1 })
     dash_is h =
         let f : field_in s at ≡ 45 ∷ [] = dash_field ∙ ap (λ (l : List ℕ). 45 ∷ l) h in
-        scan_some s at (part_number true (field_in s at)) 0 (at + 1) (ap (part_number true) f ∙ dash_alone) (let q = ap length f in omega arith)
+        record { says = ap (part_number true) f ∙ dash_alone; ends = let q = ap length f in omega arith }
 
     pub dash_bad : (get_or s (at + 1) 0 ≡ 44 → ⊥) → (get_or s (at + 1) 0 ≡ 10 → ⊥) → part_number true (field_in s at) ≡ none
     dash_bad c l =
@@ -160,33 +146,22 @@ module _ (s : List ℕ) (at : ℕ) (p : InLine s at) where
     known_number : part_number true (field_in s at) ≡ chain (number 0 511 (field_in s at)) (λ r. some (suc r))
     known_number = known_row (field_in s at) (not_dash (field_in s at) (λ m q. n (sym (field_first s at p m) ∙ q)))
 
-    module _ (x : Scan) (g : ScanIs s at (number 0 511 (field_in s at)) x) where
-      pub known_bad : x.ok ≡ false → part_number true (field_in s at) ≡ none
-      known_bad t = known_number ∙ ap (λ (o : Option ℕ). chain o (λ r. some (suc r))) (scan_lacks s at (number 0 511 (field_in s at)) x g t)
+    pub known_bad : number 0 511 (field_in s at) ≡ none → part_number true (field_in s at) ≡ none
+    known_bad t = known_number ∙ ap (λ (o : Option ℕ). chain o (λ r. some (suc r))) t
 
-      pub known_small : x.ok ≡ true → x.value ≤ 511
-      known_small t = (number_bounds 0 511 (field_in s at) x.value (scan_value s at (number 0 511 (field_in s at)) x g t)).1
+    module _ (x : Scan) (g : ScanRead s at (number 0 511 (field_in s at)) x) where
+      pub known_small : x.value ≤ 511
+      known_small = (number_bounds 0 511 (field_in s at) x.value g.says).1
 
-      pub known_is : x.ok ≡ true → ScanIs s at (part_number true (field_in s at)) (record { ok = true; value = x.value + 1; next = x.next })
-      known_is t =
-          scan_some s at (part_number true (field_in s at)) (x.value + 1) x.next
-          (known_number ∙ ap (λ (o : Option ℕ). chain o (λ r. some (suc r))) (scan_value s at (number 0 511 (field_in s at)) x g t) ∙ ap some (sym (add-one x.value)))
-          (g.ends t)
-
--- ---- an answer that ends nowhere
-pub no_end : (s : List ℕ) (n : ℕ) → AtEnd s false n
-no_end s n e = absurd (false≢true e)
-
-pub entry_end : (s : List ℕ) (r : Said) → r ≡ no_entry → AtEnd s r.ok r.next
-entry_end s r e = rw e (no_end s 0)
-
--- and carries no arguments
-pub entry_carried : (s : List ℕ) (r : Said) → r ≡ no_entry → Carried s r.args
-entry_carried s r e = rw e (zero-le, zero-le)
+      pub known_is : ScanRead s at (part_number true (field_in s at)) (record { value = x.value + 1; next = x.next })
+      known_is = record {
+        says = known_number ∙ ap (λ (o : Option ℕ). chain o (λ r. some (suc r))) g.says ∙ ap {B = Option ℕ} some (sym (add-one x.value));
+        ends = g.ends;
+      }
 
 pub none_carried : (s : List ℕ) (m : ℕ) → m ≡ 0 → Carried s m
 none_carried s m e = rw e (zero-le, zero-le)
 
 -- an operand as the walk over a line has it
-pub operand_here : (s : List ℕ) (at e : ℕ) → e ≡ at + length (field_in s at) → (l : List ℕ) (to : ℕ) (r : OperandRead) (after : List ℕ) → OperandIs (operand (field_in s at)) l to r after → OperandIs (operand (take (e - at) (drop at (line_in s)))) l to r after
+pub operand_here : (s : List ℕ) (at e : ℕ) → e ≡ at + length (field_in s at) → (l : List ℕ) (to : ℕ) (r : Maybe OperandRead) (after : List ℕ) → OperandIs (operand (field_in s at)) l to r after → OperandIs (operand (take (e - at) (drop at (line_in s)))) l to r after
 operand_here s at e is l to r after g = rw (field_here s at e is) g

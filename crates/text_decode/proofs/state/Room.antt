@@ -1,9 +1,9 @@
 -- Room for one line more, by the places of the sections.
 -- Assumes nothing.
-use mathlib.Core.Path.{◌≡◌, refl, sym}
-use mathlib.Core.Bool.{Bool, true, false, true≢false}
+use mathlib.Core.Path.{◌≡◌, refl}
+use mathlib.Core.Bool.{Bool, true}
 use mathlib.Core.List.{List}
-use Prim.Native.Nat.{ℕ, ◌+◌, ◌-◌, ◌*◌, ◌≤◌, ◌<◌}
+use Prim.Native.Nat.{ℕ, ◌+◌, ◌-◌, ◌*◌, ◌≤◌}
 use native.Mathlib.Omega.{arith}
 use lib.Dec.{leb}
 use lib.ListN.{length}
@@ -14,7 +14,7 @@ use borrow.Author.Tests.{leb-true}
 use Rattle.text_decode.specs.store.Store.{store_in, RoomFor, Plenty, Few}
 use Rattle.text_decode.specs.declared.store.Used.{Used}
 use Rattle.text_decode.proofs.store.LineLaws.{room_for}
-use Rattle.text_decode.proofs.state.AnswerLaws.{refuted, decided}
+use Rattle.text_decode.proofs.state.AnswerLaws.{decided}
 
 -- the lengths of the sections
 pub record Lengths (p : Places) (l : List ℕ) : Type 0 where
@@ -41,23 +41,26 @@ module _ (p : Places) (n : ℕ) (u : Used) where
   Says b =
       (l ns : List ℕ) → Ordered p (length l) → length ns ≡ n → (b ≡ true → RoomFor u (store_in p l ns)) × (RoomFor u (store_in p l ns) → b ≡ true)
 
-  pub few_rows : p.blocks - p.rows < 4 * (u.rows + 1) → Says false
-  few_rows h l ns o e = let w = lengths p l o in refuted (λ r. let g = r.rows in omega (arith, w.rows))
+  -- what there is room for, by the places
+  pub record Holds : Type 0 where
+    pub rows : 4 * (u.rows + 1) ≤ p.blocks - p.rows
+    pub parts : 17 * (u.rows + 1) ≤ p.operands - p.parts
+    pub operands : 4 * (u.operands + 16) ≤ p.args - p.operands
+    pub numbers : u.operands + 16 ≤ n
+    pub args : u.args + 128 ≤ p.uses - p.args
+    pub instrs : 8 * (u.instrs + 1) ≤ p.parts - p.instrs
 
-  pub few_parts : p.operands - p.parts < 17 * (u.rows + 1) → Says false
-  few_parts h l ns o e = let w = lengths p l o in refuted (λ r. let g = r.parts in omega (arith, w.parts))
-
-  pub few_operands : p.args - p.operands < 4 * (u.operands + 16) → Says false
-  few_operands h l ns o e = let w = lengths p l o in refuted (λ r. let g = r.operands.kinds in omega (arith, w.operands))
-
-  pub few_numbers : n < u.operands + 16 → Says false
-  few_numbers h l ns o e = refuted (λ r. let g = r.operands.bases in omega (arith, e))
-
-  pub few_args : p.uses - p.args < u.args + 128 → Says false
-  few_args h l ns o e = let w = lengths p l o in refuted (λ r. let g = r.operands.rows in omega (arith, w.args))
-
-  pub few_instrs : p.parts - p.instrs < 8 * (u.instrs + 1) → Says false
-  few_instrs h l ns o e = let w = lengths p l o in refuted (λ r. let g = r.instrs in omega (arith, w.instrs))
+  pub holds : (l ns : List ℕ) → Ordered p (length l) → length ns ≡ n → RoomFor u (store_in p l ns) → Holds
+  holds l ns o e r =
+      let w = lengths p l o in
+      record {
+        rows = omega (arith, r.rows, w.rows);
+        parts = omega (arith, r.parts, w.parts);
+        operands = omega (arith, r.operands.kinds, w.operands);
+        numbers = omega (arith, r.operands.bases, e);
+        args = omega (arith, r.operands.rows, w.args);
+        instrs = omega (arith, r.instrs, w.instrs);
+      }
 
   pub by_blocks : 4 * (u.rows + 1) ≤ p.blocks - p.rows → 17 * (u.rows + 1) ≤ p.operands - p.parts
       → 4 * (u.operands + 16) ≤ p.args - p.operands → u.operands + 16 ≤ n → u.args + 128 ≤ p.uses - p.args
@@ -80,9 +83,6 @@ module _ (p : Places) (n : ℕ) (u : Used) where
 
 -- ---- room for every text
 module _ (p : Places) (n : ℕ) where
-  pub no_plenty : false ≡ true → Plenty p n
-  no_plenty e = absurd (true≢false (sym e))
-
   pub all_room : 2052 ≤ p.blocks - p.rows → 8721 ≤ p.operands - p.parts → 65600 ≤ p.args - p.operands → 16400 ≤ n → 32896 ≤ p.uses - p.args → 8200 ≤ p.parts - p.instrs → leb 130 (p.instrs - p.blocks) ≡ true → Plenty p n
   all_room h1 h2 h3 h4 h5 h6 h7 l ns o e =
       let w = lengths p l o in

@@ -2,7 +2,6 @@
 -- Assumes nothing.
 use mathlib.Core.Path.{◌≡◌}
 use mathlib.Core.List.{List}
-use mathlib.Core.Bool.{true, false}
 use Prim.Native.Nat.{ℕ, ◌*◌, ◌<◌, ◌≤◌}
 use native.Mathlib.Omega.{arith}
 use native.Mathlib.Nat.{le_refl}
@@ -12,13 +11,13 @@ use Rattle.image.specs.Sections.{Ordered, Outside, row_section, block_section, i
 use Rattle.text.specs.Bytes.{fields_of}
 use Rattle.text.specs.Grammar.{entry_of, forms}
 use Rattle.text_fields.specs.names.Names.{form_at}
+use Rattle.std.specs.Prelude.{Some, None}
 use Rattle.text_decode.specs.line.Answers.{operands_in, FormIs}
 use Rattle.text_decode.specs.declared.line.Said.{Said}
 use Rattle.text_decode.specs.store.Store.{store_in, RoomFor}
-use Rattle.text_decode.specs.store.Lines.{LineIs, Stored}
+use Rattle.text_decode.specs.store.Lines.{LineIs, NoForm, Stored}
 use Rattle.text_decode.specs.declared.store.Used.{Used}
 use Rattle.text_decode.specs.declared.store.Line.{Line}
-use Rattle.text_decode.specs.declared.store.Line.TheVariants.{NoForm}
 use Rattle.text_decode.proofs.store.LineLaws.{line_bad, line_good}
 use Rattle.image.proofs.Laws.{before, behind, wider, then}
 
@@ -52,16 +51,16 @@ module _ (p : Places) (l l' : List ℕ) (o : Ordered p (length l)) (w : Outside 
 
 -- ---- a line, read into an image
 module _ (line : List ℕ) (u : Used) (p : Places) (l ns : List ℕ) (o : Ordered p (length l)) (code : ℕ) (fs : List (List ℕ)) (is : entry_of (fields_of line) ≡ form_at forms code fs) where
-  module _ (l₁ ns₁ : List ℕ) (w : Outside p.parts p.uses l l₁) (s : Said) (form : FormIs code fs (17 * u.rows) u.operands u.args (part_section p l) (part_section p l₁) (operands_in p l ns) (operands_in p l₁ ns₁) s) where
-    pub bad_in : s.ok ≡ false → LineIs line u (store_in p l ns) (store_in p l₁ ns₁) NoForm
-    bad_in e =
-        rw (rows_kept p l l₁ o w, instrs_kept p l l₁ o w, blocks_kept p l l₁ o w) (line_bad line u (store_in p l ns) code fs is (part_section p l₁) (operand_section p l₁) ns₁ (arg_section p l₁) s form e)
+  module _ (l₁ ns₁ : List ℕ) (w : Outside p.parts p.uses l l₁) where
+    pub bad_in : FormIs code fs (17 * u.rows) u.operands u.args (part_section p l) (part_section p l₁) (operands_in p l ns) (operands_in p l₁ ns₁) None → NoForm line u (store_in p l ns) (store_in p l₁ ns₁)
+    bad_in form =
+        rw (rows_kept p l l₁ o w, instrs_kept p l l₁ o w, blocks_kept p l l₁ o w) (line_bad line u (store_in p l ns) code fs is (part_section p l₁) (operand_section p l₁) ns₁ (arg_section p l₁) form)
 
     module _ (o₁ : Ordered p (length l₁)) (l₂ : List ℕ) (w₂ : Outside p.rows p.parts l₁ l₂) (r : Line) where
-      pub good_in : s.ok ≡ true → 2 * s.args ≤ length line → RoomFor u (store_in p l ns) → code < 36 → Stored code s u (row_section p l₁) (instr_section p l₁) (block_section p l₁) (row_section p l₂) (instr_section p l₂) (block_section p l₂) r → LineIs line u (store_in p l ns) (store_in p l₂ ns₁) r
-      good_in ok two room k t =
+      pub good_in : (s : Said) → FormIs code fs (17 * u.rows) u.operands u.args (part_section p l) (part_section p l₁) (operands_in p l ns) (operands_in p l₁ ns₁) (Some s) → 2 * s.args ≤ length line → RoomFor u (store_in p l ns) → code < 36 → Stored code s u (row_section p l₁) (instr_section p l₁) (block_section p l₁) (row_section p l₂) (instr_section p l₂) (block_section p l₂) r → LineIs line u (store_in p l ns) (store_in p l₂ ns₁) r
+      good_in s form two room k t =
           let t' : Stored code s u (row_section p l) (instr_section p l) (block_section p l) (row_section p l₂) (instr_section p l₂) (block_section p l₂) r = rw (rows_kept p l l₁ o w, instrs_kept p l l₁ o w, blocks_kept p l l₁ o w) at t in
-          rw (parts_kept p l₁ l₂ o₁ w₂, operands_kept p l₁ l₂ o₁ w₂, args_kept p l₁ l₂ o₁ w₂) (line_good line u (store_in p l ns) code fs is (part_section p l₁) (operand_section p l₁) ns₁ (arg_section p l₁) s form ok two room (row_section p l₂) (instr_section p l₂) (block_section p l₂) r k t')
+          rw (parts_kept p l₁ l₂ o₁ w₂, operands_kept p l₁ l₂ o₁ w₂, args_kept p l₁ l₂ o₁ w₂) (line_good line u (store_in p l ns) code fs is (part_section p l₁) (operand_section p l₁) ns₁ (arg_section p l₁) s form two room (row_section p l₂) (instr_section p l₂) (block_section p l₂) r k t')
 
       pub good_outside : Outside p.rows p.uses l l₂
       good_outside = then (fields_outside p l l₁ o w) (line_outside p l₁ l₂ o₁ w₂)

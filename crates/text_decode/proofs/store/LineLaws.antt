@@ -20,13 +20,14 @@ use Rattle.tables.proofs.Spans.{same_less, same_at, same_sets, sets_at}
 use Rattle.text_fields.specs.names.Names.{form_at}
 use Rattle.text_decode.specs.line.Forms.{form_cell, fewest, instr_with, entry_with}
 use Rattle.text_decode.specs.line.Answers.{SameOperands, operand_table, FormIs}
+use Rattle.std.specs.Prelude.{Some, None}
 use Rattle.text_decode.specs.declared.line.Said.{Said}
 use Rattle.text_decode.proofs.line.OperandLaws.{same_fewer}
 use Rattle.text_decode.specs.store.Store.{Store, store, row_table, operands_of, RoomFor, Room, Few, Same}
-use Rattle.text_decode.specs.store.Lines.{used_after, ends_block, Listed, LineIs, Stored}
+use Rattle.text_decode.specs.store.Lines.{used_after, ends_block, Listed, LineIs, NoForm, Stored}
 use Rattle.text_decode.specs.declared.store.Used.{Used}
 use Rattle.text_decode.specs.declared.store.Line.{Line}
-use Rattle.text_decode.specs.declared.store.Line.TheVariants.{NoForm, Row, Block, Instruction, Last}
+use Rattle.text_decode.specs.declared.store.Line.TheVariants.{Row, Block, Instruction, Last}
 use Rattle.text_decode.proofs.store.EntryLaws.{unnamed, last_is, instr_is}
 
 pub same_refl : (u : Used) (σ : Store) → Same u σ σ
@@ -64,7 +65,6 @@ grown_instr u n m σ π s = record {
 }
 
 pub grown : (u : Used) (l : Line) (σ π : Store) → Same (used_after u l) σ π → Same u σ π
-grown u NoForm σ π s = s
 grown u Row σ π s = record {
   rows = same_less (4 * u.rows) (4 * (u.rows + 1)) σ.rows π.rows (omega arith) s.rows;
   parts = same_less (17 * u.rows) (17 * (u.rows + 1)) σ.parts π.parts (omega arith) s.parts;
@@ -102,38 +102,28 @@ module _ (code a b c d : ℕ) (ps : List ℕ) (vs : List Operand) where
 -- ---- a line of no form
 module _ (line : List ℕ) (u : Used) (σ : Store) (code : ℕ) (fs : List (List ℕ)) (is : entry_of (fields_of line) ≡ form_at forms code fs) where
   -- whatever was written past what is in use
-  pub line_none : (π : Store) → Same u π σ → form_at forms code fs ≡ none → LineIs line u σ π NoForm
-  line_none π k e =
-      let q : entry_of (fields_of line) ≡ none = is ∙ e in
-      record {
-        kept = k;
-        few = zero-le;
-        carried = zero-le;
-        said = λ ρ s. sym q;
-        last = sym (ap ends_block q);
-        starts = λ w. let z : ◌≡◌ {A = ℕ} 0 1 = cc in absurd (omega arith);
-        listed = tt;
-      }
+  pub line_none : (π : Store) → Same u π σ → form_at forms code fs ≡ none → NoForm line u σ π
+  line_none π k e = record { kept = k; said = sym (is ∙ e) }
 
-  pub line_unnamed : 36 ≤ code → LineIs line u σ σ NoForm
+  pub line_unnamed : 36 ≤ code → NoForm line u σ σ
   line_unnamed h = line_none σ (same_refl u σ) (unnamed code fs h)
 
-  module _ (parts' operands' numbers' args' : List ℕ) (s : Said) (form : FormIs code fs (17 * u.rows) u.operands u.args σ.parts parts' (operands_of σ) (operand_table operands' numbers' args') s) where
-    same_operands : SameOperands (u.operands + s.count) (u.args + s.args) (operand_table operands' numbers' args') (operand_table operands' numbers' args')
-    same_operands = record { kinds = refl; numbers = refl; args = refl }
-
-    pub line_bad : s.ok ≡ false → LineIs line u σ (store σ.rows parts' operands' numbers' args' σ.instrs σ.blocks) NoForm
-    line_bad e =
+  module _ (parts' operands' numbers' args' : List ℕ) where
+    pub line_bad : FormIs code fs (17 * u.rows) u.operands u.args σ.parts parts' (operands_of σ) (operand_table operands' numbers' args') None → NoForm line u σ (store σ.rows parts' operands' numbers' args' σ.instrs σ.blocks)
+    line_bad form =
         line_none (store σ.rows parts' operands' numbers' args' σ.instrs σ.blocks)
         (record { rows = refl; parts = form.kept_parts; operands = form.kept_operands; instrs = refl; blocks = refl })
-        (sym (form.says parts' (operand_table operands' numbers' args') refl same_operands) ∙ simp e)
+        (sym form.read)
 
-    module _ (ok : s.ok ≡ true) (two : 2 * s.args ≤ length line) (room : RoomFor u σ) where
+    module _ (s : Said) (form : FormIs code fs (17 * u.rows) u.operands u.args σ.parts parts' (operands_of σ) (operand_table operands' numbers' args') (Some s)) (two : 2 * s.args ≤ length line) (room : RoomFor u σ) where
+      same_operands : SameOperands (u.operands + s.count) (u.args + s.args) (operand_table operands' numbers' args') (operand_table operands' numbers' args')
+      same_operands = record { kinds = refl; numbers = refl; args = refl }
+
       -- the entry, whatever the parts and operands past those in use
       entry_by_lem : (ps : List ℕ) (ω : OperandTable) → take (17 * u.rows + 17) ps ≡ take (17 * u.rows + 17) parts' → SameOperands
           (u.operands + s.count) (u.args + s.args) ω (operand_table operands' numbers' args') → some (entry_with code s.a s.b
           s.c s.d ps (operands_at ω u.operands s.count)) ≡ entry_of (fields_of line)
-      entry_by_lem ps ω p o = simp ok at (form.says ps ω p o) ∙ sym is
+      entry_by_lem ps ω p o = form.read.says ps ω p o ∙ sym is
 
       good_row : code < 11 → LineIs line u σ (store (sets σ.rows (4 * u.rows) (code ∷ s.a ∷ s.b ∷ [])) parts' operands' numbers' args' σ.instrs σ.blocks) Row
       unfolding row_at
@@ -209,7 +199,7 @@ module _ (line : List ℕ) (u : Used) (σ : Store) (code : ℕ) (fs : List (List
         unfolding instr_at
         instr_said ρ t =
             let back : (code - 12) + 12 ≡ code = omega arith in
-            let enough : fewest (form_cell ((code - 12) + 12) 4) ≤ s.count = omega (arith, form.enough ok, ap (λ (j : ℕ). fewest (form_cell j 4)) back) in
+            let enough : fewest (form_cell ((code - 12) + 12) 4) ≤ s.count = omega (arith, form.read.enough, ap (λ (j : ℕ). fewest (form_cell j 4)) back) in
             let at : (i : ℕ) → i < 7 → cell 8 ρ.instrs u.instrs i ≡ get_or ((code - 12) ∷ s.a ∷ s.b ∷ s.c ∷ s.d ∷ u.operands ∷ s.count ∷ []) i 0 = instr_cells ρ t in
             let is_instr : instr_at ρ.instrs (operands_of ρ) u.instrs ≡ instr_with (code - 12) s.a s.b s.c s.d
             (operands_at (operands_of ρ) u.operands s.count) = simp (
@@ -250,7 +240,7 @@ module _ (line : List ℕ) (u : Used) (σ : Store) (code : ℕ) (fs : List (List
         good_inside : (leb 21 (code - 12) && ltb (code - 12) 23) ≡ false → LineIs line u σ with_instr (Instruction s.count s.args)
         good_inside m = record {
           kept = instr_kept;
-          few = form.few;
+          few = form.read.few;
           carried = two;
           said = instr_said;
           last = sym (last_flag ∙ m);
@@ -261,7 +251,7 @@ module _ (line : List ℕ) (u : Used) (σ : Store) (code : ℕ) (fs : List (List
         good_last : (leb 21 (code - 12) && ltb (code - 12) 23) ≡ true → LineIs line u σ with_instr (Last s.count s.args)
         good_last m = record {
           kept = instr_kept;
-          few = form.few;
+          few = form.read.few;
           carried = two;
           said = instr_said;
           last = sym (last_flag ∙ m);

@@ -1,47 +1,60 @@
 -- The answers of decoding, the place behind a line, and the fault of a line.
-use Rattle.std.specs.Prelude.{ℕ, Bool, true, false, not, cond, eqb, leb}
+use Rattle.std.specs.Prelude.{ℕ, Bool, true, false, not, cond, leb, Option, Some, None, Result, Ok, Err}
+use Rattle.faults.specs.declared.Fault.{Fault}
+use Rattle.faults.specs.declared.Fault.TheVariants.{Misplaced, TooMany}
+use Rattle.image.specs.declared.Counts.{Counts}
 use Rattle.text_decode.specs.declared.store.Used.{Used}
 use Rattle.text_decode.specs.declared.store.Line.{Line}
-use Rattle.text_decode.specs.declared.store.Line.TheVariants.{NoForm, Row, Block, Instruction, Last}
-use Rattle.text_decode.specs.declared.state.Read.{Read}
+use Rattle.text_decode.specs.declared.store.Line.TheVariants.{Row, Block, Instruction, Last}
+use Rattle.text_decode.specs.declared.state.Unread.{Unread}
+use Rattle.text_decode.specs.declared.state.Unread.TheVariants.{Faulty}
+use Rattle.text_decode.specs.declared.state.Place.{Place}
+use Rattle.text_decode.specs.declared.state.Place.TheVariants.{TypeLines, InBlock, BehindBlock}
 
 -- before the first line
 abbrev pub none_used : Used
 none_used = record { rows = 0; blocks = 0; instrs = 0; operands = 0; args = 0 }
 
--- the answer where the text does not fit the image
-abbrev pub unfit_read : Read
-unfit_read = record { fits = false; fault = 0; line = 0; rows = 0; blocks = 0; instrs = 0 }
+-- the answer that names a fault on a line
+abbrev pub faulty : Fault → ℕ → Result Counts Unread
+faulty f line = Err (Faulty (record { fault = f; line = line }))
 
--- the answer that names fault n on a line
-abbrev pub faulty_read : ℕ → ℕ → Read
-faulty_read n line = record { fits = true; fault = n; line = line; rows = 0; blocks = 0; instrs = 0 }
+-- how much is counted of what is in use
+abbrev pub counts_in : Used → Counts
+counts_in u = record { rows = u.rows; blocks = u.blocks; instrs = u.instrs }
 
--- the answer that names none, with what is in use
-abbrev pub good_read : Used → Read
-good_read u = record { fits = true; fault = 0; line = 0; rows = u.rows; blocks = u.blocks; instrs = u.instrs }
+-- ---- the place of a line
+-- it stands among the type lines
+abbrev pub among_types : Place → Bool
+among_types TypeLines = true
+among_types InBlock = false
+among_types BehindBlock = false
+
+-- it stands in a block that has not ended
+abbrev pub inside_block : Place → Bool
+inside_block TypeLines = false
+inside_block InBlock = true
+inside_block BehindBlock = false
+
+-- the place behind a line
+abbrev pub place_behind : Line → Place
+place_behind Row = TypeLines
+place_behind Block = InBlock
+place_behind (Instruction n m) = InBlock
+place_behind (Last n m) = BehindBlock
 
 -- at the end of the text, at a place and with what is in use there
-abbrev pub last_read : ℕ → ℕ → Used → Read
-last_read place line u = cond (eqb place 1) (faulty_read 2 line) (good_read u)
+abbrev pub last_read : Place → ℕ → Used → Result Counts Unread
+last_read place line u = cond (inside_block place) (faulty Misplaced line) (Ok (counts_in u))
 
--- the place behind a line that stood at p
-abbrev pub place_behind : Line → ℕ → ℕ
-place_behind NoForm p = p
-place_behind Row p = 0
-place_behind Block p = 1
-place_behind (Instruction n m) p = 1
-place_behind (Last n m) p = 2
+-- ---- a line's fault
+-- out of order, or where no place is left
+abbrev pub fault_of : Bool → Bool → Option Fault
+fault_of in_order full = cond in_order (cond full (Some TooMany) None) (Some Misplaced)
 
--- ---- a line's fault, 0 for none
--- 2 out of order, 3 where no place is left
-abbrev pub fault_of : Bool → Bool → ℕ
-fault_of in_order full = cond in_order (cond full 3 0) 2
-
--- the fault of a line that stands at p, with what is in use before it
-abbrev pub line_fault : Line → ℕ → Used → ℕ
-line_fault NoForm p u = 1
-line_fault Row p u = fault_of (eqb p 0) (leb 512 u.rows)
-line_fault Block p u = fault_of (not (eqb p 1)) (leb 64 u.blocks)
-line_fault (Instruction n m) p u = fault_of (eqb p 1) (leb 1024 u.instrs)
-line_fault (Last n m) p u = fault_of (eqb p 1) (leb 1024 u.instrs)
+-- the fault of a line of some form that stands at p, with what is in use before it
+abbrev pub line_fault : Line → Place → Used → Option Fault
+line_fault Row p u = fault_of (among_types p) (leb 512 u.rows)
+line_fault Block p u = fault_of (not (inside_block p)) (leb 64 u.blocks)
+line_fault (Instruction n m) p u = fault_of (inside_block p) (leb 1024 u.instrs)
+line_fault (Last n m) p u = fault_of (inside_block p) (leb 1024 u.instrs)

@@ -1,6 +1,8 @@
 -- Laws of a code row's fields: its letters and its registers.
 -- Assumes nothing.
-use Rattle.std.proofs.Common.{◌≡◌, ℕ, suc, ◌+◌, ◌-◌, ◌<◌, ◌≤◌, Bool, true, false, cond, ◌&&◌, eqb, leb, List, [], ◌∷◌, map, reverse, length, get_or, take, drop, sym, refl, ap, ◌∙◌, ap₂, true≢false, pos_of_ne-zero, add-one, arith, drop_of_length-le, drop-cons, take-suc, eq-eqb, ne_eqb, le-leb}
+use Rattle.std.specs.List.{list_all}
+use mir.Val.{bool_byte}
+use Rattle.std.proofs.Common.{◌≡◌, ◌||◌, eqb-true, ℕ, suc, ◌-◌, ◌<◌, ◌≤◌, Bool, true, false, cond, ◌&&◌, eqb, leb, List, [], ◌∷◌, map, reverse, length, get_or, take, sym, refl, ap, ◌∙◌, ap₂, true≢false, pos_of_ne-zero, arith, take-suc, eq-eqb, ne_eqb, le-leb}
 use mathlib.Core.List.{reverse_aux, reverse-append}
 use mathlib.Core.Option.{Option, none, some, none-ne-some}
 use lib.ListN.{length-map}
@@ -10,7 +12,7 @@ use Rattle.syntax.specs.Syntax.{Kind, value, stack}
 use Rattle.text.specs.Bytes.{bytes, same_bytes}
 use Rattle.text.specs.Grammar.{letter, each_letter, letters}
 use Rattle.text_fields.specs.names.Letters.{count_of, kind_code, codes_of}
-use Rattle.text_fields.specs.names.Pieces.{letter_code, all_letters, word_count}
+use Rattle.text_fields.specs.names.Pieces.{is_letter, letter_code, word_count}
 
 and_true : (b : Bool) → (b && true) ≡ b
 and_true true = refl
@@ -21,11 +23,17 @@ and_false true = refl
 and_false false = refl
 
 -- ---- the dash
-pub dash_one : (f : List ℕ) → length f ≡ 1 → eqb (get_or f 0 0) 45 ≡ same_bytes f (bytes "-")
+pub dash_one : (f : List ℕ) → length f ≡ 1 → get_or f 0 0 ≡ 45 → true ≡ same_bytes f (bytes "-")
 unfolding same_bytes bytes
-dash_one [] e = absurd (omega arith)
-dash_one (b ∷ []) e = sym (and_true (eqb b 45))
-dash_one (b ∷ c ∷ f) e = absurd (omega arith)
+dash_one [] e h = absurd (omega arith)
+dash_one (b ∷ []) e h = sym (and_true (eqb b 45) ∙ eq-eqb b 45 h)
+dash_one (b ∷ c ∷ f) e h = absurd (omega arith)
+
+pub dash_not : (f : List ℕ) → length f ≡ 1 → (get_or f 0 0 ≡ 45 → ⊥) → false ≡ same_bytes f (bytes "-")
+unfolding same_bytes bytes
+dash_not [] e h = absurd (omega arith)
+dash_not (b ∷ []) e h = sym (and_true (eqb b 45) ∙ ne_eqb b 45 h)
+dash_not (b ∷ c ∷ f) e h = absurd (omega arith)
 
 pub dash_other : (f : List ℕ) → (length f ≡ 1 → ⊥) → false ≡ same_bytes f (bytes "-")
 unfolding same_bytes bytes
@@ -34,76 +42,61 @@ dash_other (b ∷ []) h = absurd (h refl)
 dash_other (b ∷ c ∷ f) h = sym (and_false (eqb b 45))
 
 -- ---- letters
-pub letter_value : (b : ℕ) → b ≡ 118 → 0 ≡ letter_code b
+pub letter_stack : (b : ℕ) → bool_byte (eqb b 115) ≡ letter_code b
 unfolding letter_code
-letter_value b e = simp (eq-eqb b 118 e)
-
-pub letter_stack : (b : ℕ) → b ≡ 115 → 1 ≡ letter_code b
-unfolding letter_code
-letter_stack b e = sym (ap letter_code e)
-
-pub letter_none : (b : ℕ) → (b ≡ 118 → ⊥) → (b ≡ 115 → ⊥) → 2 ≡ letter_code b
-unfolding letter_code
-letter_none b p q = simp (ne_eqb b 118 p, ne_eqb b 115 q)
+letter_stack b = go (eqb b 115)
+  where
+    go : (t : Bool) → bool_byte t ≡ cond t 1 0
+    go true = refl
+    go false = refl
 
 -- the letter of a byte that is one
 kind_of : ℕ → Kind
 kind_of b = cond (eqb b 118) value stack
 
 module _ (b : ℕ) where
-  is_letter : eqb (letter_code b) 2 ≡ false → (letter b ≡ some (kind_of b)) × (kind_code (kind_of b) ≡ letter_code b)
+  one_letter : is_letter b ≡ true → (letter b ≡ some (kind_of b)) × (kind_code (kind_of b) ≡ letter_code b)
   unfolding letter_code letter kind_of
-  is_letter h = go (eqb b 118) (eqb b 115) refl refl h
+  one_letter h = go (eqb b 118) (eqb b 115) refl refl h
     where
-      go : (t u : Bool) → eqb b 118 ≡ t → eqb b 115 ≡ u → eqb (cond t 0 (cond u 1 2)) 2 ≡ false → (letter b ≡ some (kind_of b)) × (kind_code (kind_of b) ≡ letter_code b)
-      go true u p q e = (simp p, simp p)
+      go : (t u : Bool) → eqb b 118 ≡ t → eqb b 115 ≡ u → (t || u) ≡ true → (letter b ≡ some (kind_of b)) × (kind_code (kind_of b) ≡ letter_code b)
+      go true u p q e =
+          let w : eqb b 115 ≡ false = ne_eqb b 115 (λ z. let y = eqb-true b 118 p in omega arith) in
+          (simp p, simp (p, w))
       go false true p q e = (simp (p, q), simp (p, q))
-      go false false p q e = absurd (true≢false e)
+      go false false p q e = absurd (true≢false (sym e))
 
-  no_letter : eqb (letter_code b) 2 ≡ true → letter b ≡ none
-  unfolding letter_code letter
+  no_letter : is_letter b ≡ false → letter b ≡ none
+  unfolding letter
   no_letter h = go (eqb b 118) (eqb b 115) refl refl h
     where
-      go : (t u : Bool) → eqb b 118 ≡ t → eqb b 115 ≡ u → eqb (cond t 0 (cond u 1 2)) 2 ≡ true → letter b ≡ none
-      go true u p q e = absurd (true≢false (sym e))
-      go false true p q e = absurd (true≢false (sym e))
+      go : (t u : Bool) → eqb b 118 ≡ t → eqb b 115 ≡ u → (t || u) ≡ false → letter b ≡ none
+      go true u p q e = absurd (true≢false e)
+      go false true p q e = absurd (true≢false e)
       go false false p q e = simp (p, q)
 
-all_good : (f : List ℕ) → all_letters f ≡ true → (each_letter f ≡ some (map kind_of f)) × (map kind_code (map kind_of f) ≡ map letter_code f)
-unfolding all_letters each_letter
+all_good : (f : List ℕ) → list_all is_letter f ≡ true → (each_letter f ≡ some (map kind_of f)) × (map kind_code (map kind_of f) ≡ map letter_code f)
+unfolding each_letter
 all_good [] h = (refl, refl)
-all_good (b ∷ f) h = go (eqb (letter_code b) 2) refl h (all_good f)
+all_good (b ∷ f) h = go (is_letter b) refl h (all_good f)
   where
-    go : (t : Bool) → eqb (letter_code b) 2 ≡ t → cond t false (all_letters f) ≡ true → (all_letters f ≡ true
+    go : (t : Bool) → is_letter b ≡ t → (t && list_all is_letter f) ≡ true → (list_all is_letter f ≡ true
         → (each_letter f ≡ some (map kind_of f)) × (map kind_code (map kind_of f) ≡ map letter_code f))
         → (each_letter (b ∷ f) ≡ some (map kind_of (b ∷ f))) × (map kind_code (map kind_of (b ∷ f)) ≡ map letter_code (b ∷ f))
-    go true p e r = absurd (true≢false (sym e))
-    go false p e r =
-        let w = is_letter b p in
+    go false p e r = absurd (true≢false (sym e))
+    go true p e r =
+        let w = one_letter b p in
         let v = r e in
         (simp (w.0, v.0), ap₂ (λ (x : ℕ) (xs : List ℕ). x ∷ xs) w.1 v.1)
 
-not_good : (f : List ℕ) → all_letters f ≡ false → each_letter f ≡ none
-unfolding all_letters each_letter
+not_good : (f : List ℕ) → list_all is_letter f ≡ false → each_letter f ≡ none
+unfolding each_letter
 not_good [] h = absurd (true≢false h)
-not_good (b ∷ f) h = go (eqb (letter_code b) 2) refl h (not_good f)
+not_good (b ∷ f) h = go (is_letter b) refl h (not_good f)
   where
-    go : (t : Bool) → eqb (letter_code b) 2 ≡ t → cond t false (all_letters f) ≡ false → (all_letters f ≡ false → each_letter f ≡ none) → each_letter (b ∷ f) ≡ none
-    go true p e r = simp (no_letter b p)
-    go false p e r = simp ((is_letter b p).0, r e)
-
-module _ (f : List ℕ) (i : ℕ) where
-  pub all_end : length f ≤ i → all_letters (drop i f) ≡ true
-  unfolding all_letters
-  all_end h = simp (drop_of_length-le f h)
-
-  pub all_not : i < length f → letter_code (get_or f i 0) ≡ 2 → all_letters (drop i f) ≡ false
-  unfolding all_letters
-  all_not h e = simp (drop-cons f i 0 h, eq-eqb (letter_code (get_or f i 0)) 2 e)
-
-  pub all_on : i < length f → (letter_code (get_or f i 0) ≡ 2 → ⊥) → all_letters (drop i f) ≡ all_letters (drop (i + 1) f)
-  unfolding all_letters
-  all_on h e = simp (drop-cons f i 0 h, ne_eqb (letter_code (get_or f i 0)) 2 e, add-one)
+    go : (t : Bool) → is_letter b ≡ t → (t && list_all is_letter f) ≡ false → (list_all is_letter f ≡ false → each_letter f ≡ none) → each_letter (b ∷ f) ≡ none
+    go false p e r = simp (no_letter b p)
+    go true p e r = simp ((one_letter b p).0, r e)
 
 -- the count of letters, on each way
 module _ (f : List ℕ) where
@@ -117,17 +110,17 @@ module _ (f : List ℕ) where
 
   pub word_long : 8 < length f → none ≡ word_count f
   unfolding word_count
-  word_long h = go (all_letters f) refl
+  word_long h = go (list_all is_letter f) refl
     where
-      go : (t : Bool) → all_letters f ≡ t → none ≡ word_count f
+      go : (t : Bool) → list_all is_letter f ≡ t → none ≡ word_count f
       go true e = simp ((all_good f e).0, length-map, lt-leb (length f) 8 h, and_false)
       go false e = simp (not_good f e)
 
-  pub word_bad : all_letters f ≡ false → none ≡ word_count f
+  pub word_bad : list_all is_letter f ≡ false → none ≡ word_count f
   unfolding word_count
   word_bad e = simp (not_good f e)
 
-  pub word_is_lem : (length f ≡ 0 → ⊥) → length f ≤ 8 → all_letters f ≡ true → some (length f) ≡ word_count f
+  pub word_is_lem : (length f ≡ 0 → ⊥) → length f ≤ 8 → list_all is_letter f ≡ true → some (length f) ≡ word_count f
   unfolding word_count
   word_is_lem p q e = simp ((all_good f e).0, length-map, le-leb 1 (length f) (pos_of_ne-zero p), le-leb (length f) 8 q)
 
@@ -194,9 +187,9 @@ module _ (f : List ℕ) where
     codes_bad e = sym (no_codes (letters f) (sym count_is ∙ e))
 
     pub codes_are : (n : ℕ) → word_count f ≡ some n → map letter_code (reverse f) ≡ codes_of (letters f)
-    codes_are n e = go (all_letters f) refl
+    codes_are n e = go (list_all is_letter f) refl
       where
-        go : (t : Bool) → all_letters f ≡ t → map letter_code (reverse f) ≡ codes_of (letters f)
+        go : (t : Bool) → list_all is_letter f ≡ t → map letter_code (reverse f) ≡ codes_of (letters f)
         go false p = absurd (none-ne-some n (word_bad f p ∙ e))
         go true p =
             let g = all_good f p in

@@ -1,16 +1,15 @@
 -- Laws of the numbers of a field.
 -- Assumes nothing.
-use Rattle.std.proofs.Common.{◌≡◌, ℕ, suc, ◌+◌, ◌-◌, ◌*◌, ◌<◌, ◌≤◌, Bool, true, false, ◌&&◌, eqb, ltb, leb, List, [], ◌∷◌, length, get_or, take, drop, sym, refl, ap, ◌∙◌, le_trans, le_refl, add-one, arith, length-drop, drop_of_length-le, take_all, drop-cons, le-ltb, eq-eqb, ne_eqb, le-leb, leb-false, leb-true}
+use Rattle.std.proofs.Common.{◌≡◌, ℕ, ◌+◌, ◌-◌, ◌*◌, ◌<◌, ◌≤◌, Bool, true, false, ◌&&◌, eqb, leb, List, [], ◌∷◌, length, get_or, take, drop, sym, refl, ap, ◌∙◌, le_trans, le_refl, add-one, arith, length-drop, take_all, drop-cons, ne_eqb, eqb-true, le-leb, leb-false, leb-true}
+use Rattle.std.specs.Char.{is_ascii_digit}
 use mathlib.Core.Bool.{false≢true}
 use mathlib.Core.Option.{Option, none, some, none-ne-some, some-injective}
-use borrow.Author.Tests.{lt-leb}
+use borrow.Author.Tests.{lt-leb, eqb-false}
 use Rattle.syntax.specs.Bits.{modulus, half}
 use Rattle.syntax.specs.Partial.{chain, guarded}
 use Rattle.text.specs.Bytes.{is_digit, all_digits, is_decimal, spelled, number, literal}
-use Rattle.text.specs.Grammar.{row_number, register}
-use Rattle.text_fields.specs.numbers.Numbers.{number_of, digit_of, up_to, zero_led}
-use Rattle.text_fields.specs.declared.numbers.Number.{Number}
-use Rattle.text_fields.specs.declared.numbers.Number.TheVariants.{Value, Bad}
+use Rattle.text.specs.Grammar.{register}
+use Rattle.text_fields.specs.numbers.Numbers.{with_digit, up_to, zero_led}
 
 and_true : (b : Bool) → (b && true) ≡ b
 and_true true = refl
@@ -21,84 +20,64 @@ and_false true = refl
 and_false false = refl
 
 -- ---- digits
-pub digit_low : (b : ℕ) → b < 48 → 10 ≡ digit_of b
-unfolding digit_of is_digit
-digit_low b h = simp (lt-leb 48 b h)
+module _ (high n b : ℕ) where
+  pub digit_none : is_ascii_digit b ≡ false → none ≡ with_digit high n b
+  unfolding with_digit is_digit
+  digit_none e = simp e
 
-pub digit_high : (b : ℕ) → 48 ≤ b → 57 < b → 10 ≡ digit_of b
-unfolding digit_of is_digit
-digit_high b k h = simp (le-leb 48 b k, lt-leb b 57 h)
+  pub digit_over : is_ascii_digit b ≡ true → high < n * 10 + (b - 48) → none ≡ with_digit high n b
+  unfolding with_digit is_digit
+  digit_over e h = simp (e, lt-leb (n * 10 + (b - 48)) high h)
 
-pub digit_is : (b : ℕ) → 48 ≤ b → b ≤ 57 → b - 48 ≡ digit_of b
-unfolding digit_of is_digit
-digit_is b k h = simp (le-leb 48 b k, le-leb b 57 h)
-
-pub past_low : (b : ℕ) → b < 48 → true ≡ ltb 9 (digit_of b)
-past_low b h = ap (ltb 9) (digit_low b h)
-
-pub past_high : (b : ℕ) → 48 ≤ b → 57 < b → true ≡ ltb 9 (digit_of b)
-past_high b k h = ap (ltb 9) (digit_high b k h)
-
-pub within : (b : ℕ) → 48 ≤ b → b ≤ 57 → false ≡ ltb 9 (digit_of b)
-within b k h = sym (le-ltb 9 (b - 48) (omega arith)) ∙ ap (ltb 9) (digit_is b k h)
-
--- a byte's value tells whether it is a digit
-pub no_digit : (b : ℕ) → 9 < digit_of b → is_digit b ≡ false
-unfolding digit_of is_digit
-no_digit b h = go (leb 48 b) (leb b 57) refl refl
-  where
-    go : (x y : Bool) → leb 48 b ≡ x → leb b 57 ≡ y → (x && y) ≡ false
-    go false y p q = refl
-    go true false p q = refl
-    go true true p q = let u : b ≤ 57 = leb-true b 57 q in let e = digit_is b (leb-true 48 b p) u in absurd (omega arith)
-
-pub a_digit : (b : ℕ) → digit_of b ≤ 9 → (is_digit b ≡ true) × (b - 48 ≡ digit_of b)
-unfolding digit_of
-a_digit b h = go (is_digit b) refl
-  where
-    go : (x : Bool) → is_digit b ≡ x → (is_digit b ≡ true) × (b - 48 ≡ digit_of b)
-    go true e = (e, simp e)
-    go false e = let q : digit_of b ≡ 10 = simp e in absurd (omega arith)
-
-pub digit_from : (b : ℕ) → digit_of b ≤ 9 → 48 ≤ b
-digit_from b h = go (leb 48 b) refl
-  where
-    go : (x : Bool) → leb 48 b ≡ x → 48 ≤ b
-    go true e = leb-true 48 b e
-    go false e = let k = digit_low b (leb-false 48 b e) in absurd (omega arith)
+  pub digit_some : is_ascii_digit b ≡ true → n * 10 + (b - 48) ≤ high → some (n * 10 + (b - 48)) ≡ with_digit high n b
+  unfolding with_digit is_digit
+  digit_some e h = simp (e, le-leb (n * 10 + (b - 48)) high h)
 
 spelled_grows : (s : List ℕ) (n : ℕ) → n ≤ spelled n s
 unfolding spelled
 spelled_grows [] n = le_refl n
 spelled_grows (b ∷ s) n = le_trans (omega arith) (spelled_grows s (n * 10 + (b - 48)))
 
-pub too_high : (high n : ℕ) (s : List ℕ) → high < n → up_to high n s ≡ none
+too_high : (high n : ℕ) (s : List ℕ) → high < n → up_to high n s ≡ none
 unfolding up_to
 too_high high n s h =
     let q : high < spelled n s = omega (arith, spelled_grows s n) in
     simp (lt-leb (spelled n s) high q, and_false)
 
-pub up_cons : (high n b : ℕ) (s : List ℕ) → digit_of b ≤ 9 → up_to high n (b ∷ s) ≡ up_to high (n * 10 + digit_of b) s
+pub digit_from : (high n b m : ℕ) → some m ≡ with_digit high n b → 48 ≤ b
+unfolding with_digit is_digit
+digit_from high n b m h = go (leb 48 b) refl h
+  where
+    go : (x : Bool) → leb 48 b ≡ x → some m ≡ guarded ((x && leb b 57) && leb (n * 10 + (b - 48)) high) (n * 10 + (b - 48)) → 48 ≤ b
+    go true p e = leb-true 48 b p
+    go false p e = absurd (none-ne-some m (sym e))
+
+-- what one byte more does
+module _ (high n b : ℕ) (s : List ℕ) where
+  pub up_none : none ≡ with_digit high n b → up_to high n (b ∷ s) ≡ none
+  unfolding with_digit up_to all_digits spelled
+  up_none h = go (is_digit b) (leb (n * 10 + (b - 48)) high) refl refl h
+    where
+      go : (x y : Bool) → is_digit b ≡ x → leb (n * 10 + (b - 48)) high ≡ y → none ≡ guarded (x && y) (n * 10 + (b - 48)) → up_to high n (b ∷ s) ≡ none
+      go false y p q e = simp p
+      go true false p q e = simp p (too_high high (n * 10 + (b - 48)) s (leb-false (n * 10 + (b - 48)) high q))
+      go true true p q e = absurd (none-ne-some (n * 10 + (b - 48)) e)
+
+  pub up_some : (m : ℕ) → some m ≡ with_digit high n b → (m ≤ high) × (up_to high n (b ∷ s) ≡ up_to high m s)
+  unfolding with_digit up_to all_digits spelled
+  up_some m h = go (is_digit b) (leb (n * 10 + (b - 48)) high) refl refl h
+    where
+      go : (x y : Bool) → is_digit b ≡ x → leb (n * 10 + (b - 48)) high ≡ y → some m ≡ guarded (x && y) (n * 10 + (b - 48)) → (m ≤ high) × (up_to high n (b ∷ s) ≡ up_to high m s)
+      go false y p q e = absurd (none-ne-some m (sym e))
+      go true false p q e = absurd (none-ne-some m (sym e))
+      go true true p q e =
+          let w : m ≡ n * 10 + (b - 48) = some-injective m (n * 10 + (b - 48)) e in
+          let l : m ≤ high = (let u = leb-true (n * 10 + (b - 48)) high q in omega arith) in
+          (l, simp p (ap (λ (k : ℕ). up_to high k s) (sym w)))
+
+pub up_end : (high n : ℕ) → n ≤ high → up_to high n [] ≡ some n
 unfolding up_to all_digits spelled
-up_cons high n b s k =
-    let d = a_digit b k in
-    let q : up_to high n (b ∷ s) ≡ up_to high (n * 10 + (b - 48)) s = simp d.0 in
-    q ∙ ap (λ (x : ℕ). up_to high (n * 10 + x) s) d.1
-
-module _ (high n : ℕ) (s : List ℕ) (i : ℕ) where
-  pub up_end : length s ≤ i → n ≤ high → up_to high n (drop i s) ≡ some n
-  unfolding up_to all_digits spelled
-  up_end h k = simp (drop_of_length-le s h, le-leb n high k)
-
-  pub up_bad : i < length s → 9 < digit_of (get_or s i 0) → up_to high n (drop i s) ≡ none
-  unfolding up_to all_digits spelled
-  up_bad h k = simp (drop-cons s i 0 h, no_digit (get_or s i 0) k)
-
-  pub up_more : i < length s → digit_of (get_or s i 0) ≤ 9 → up_to high n (drop i s) ≡ up_to high (n * 10 + digit_of (get_or s i 0)) (drop (i + 1) s)
-  up_more h k =
-      ap (up_to high n) (drop-cons s i 0 h)
-      ∙ up_cons high n (get_or s i 0) (drop (suc i) s) k
-      ∙ ap (λ (j : ℕ). up_to high (n * 10 + digit_of (get_or s i 0)) (drop j s)) (sym (add-one i))
+up_end high n h = simp (le-leb n high h)
 
 -- ---- a number
 -- its digits, with the bounds taken one after the other
@@ -142,6 +121,25 @@ module _ (low high : ℕ) where
           let u = leb-true (spelled 0 s) high q in
           (omega arith, omega arith)
 
+module _ (low high : ℕ) (f : List ℕ) where
+  pub number_bad : up_to high 0 f ≡ none → number low high f ≡ none
+  number_bad h = go (eqb (length f) 0) (zero_led f) refl refl
+    where
+      go : (a b : Bool) → eqb (length f) 0 ≡ a → zero_led f ≡ b → number low high f ≡ none
+      go true b p q = sym (number_none low high f (eqb-true (length f) 0 p))
+      go false true p q = sym (number_led low high f q)
+      go false false p q = sym (number_is low high f (eqb-false (length f) 0 p) q) ∙ ap (λ (o : Option ℕ). chain o (λ v. guarded (leb low v) v)) h
+
+  module _ (v : ℕ) (h : up_to high 0 f ≡ some v) (n : length f ≡ 0 → ⊥) (z : zero_led f ≡ false) where
+    whole : guarded (leb low v) v ≡ number low high f
+    whole = sym (ap (λ (o : Option ℕ). chain o (λ v. guarded (leb low v) v)) h) ∙ number_is low high f n z
+
+    pub number_here : low ≤ v → number low high f ≡ some v
+    number_here k = sym whole ∙ ap (λ (t : Bool). guarded t v) (le-leb low v k)
+
+    pub number_low : v < low → number low high f ≡ none
+    number_low k = sym whole ∙ ap (λ (t : Bool). guarded t v) (lt-leb low v k)
+
 pub led_short : (s : List ℕ) → length s ≤ 1 → false ≡ zero_led s
 unfolding zero_led
 led_short [] h = refl
@@ -154,76 +152,55 @@ led_first [] h = absurd (omega arith)
 led_first (b ∷ []) h = absurd (omega arith)
 led_first (b ∷ c ∷ s) h = refl
 
+-- ---- lists by their first bytes
+pub drop_more : (s : List ℕ) (i : ℕ) → i < length s → drop i s ≡ get_or s i 0 ∷ drop (i + 1) s
+drop_more s i h = drop-cons s i 0 h ∙ ap (λ (j : ℕ). get_or s i 0 ∷ drop j s) (sym (add-one i))
+
+-- a list by its first byte
+pub first_off : (s : List ℕ) (b : ℕ) → 1 ≤ length s → get_or s 0 0 ≡ b → s ≡ b ∷ drop 1 s
+first_off [] b h e = absurd (omega arith)
+first_off (c ∷ s) b h e = ap (λ (x : ℕ). x ∷ s) e
+
+pub no_first : (s : List ℕ) → length s < 1 → get_or s 0 0 ≡ 0
+no_first [] h = refl
+no_first (b ∷ s) h = absurd (omega arith)
+
 -- ---- literals and registers, by their first byte
-pub literal_none : (s : List ℕ) → length s ≡ 0 → none ≡ literal s
-unfolding literal
-literal_none [] e = refl
-literal_none (b ∷ s) e = absurd (omega arith)
-
 -- a number from 1 on has a sign to change
-changes : (s : List ℕ) (o : Option ℕ) → number 1 half s ≡ o → chain o (λ v. guarded (leb 1 v) (modulus - v)) ≡ chain o (λ n. some (modulus - n))
-changes s none e = refl
-changes s (some v) e = simp (le-leb 1 v (number_bounds 1 half s v e).0)
-
-pub literal_minus : (s : List ℕ) → (length s ≡ 0 → ⊥) → get_or s 0 0 ≡ 45 → chain (number 1 half (drop 1 s)) (λ v. guarded (leb 1 v) (modulus - v)) ≡ literal s
+literal_sign : (s : List ℕ) → literal (45 ∷ s) ≡ chain (number 1 half s) (λ n. some (modulus - n))
 unfolding literal
-literal_minus [] h e = absurd (h refl)
-literal_minus (b ∷ s) h e = changes s (number 1 half s) refl ∙ simp (eq-eqb b 45 e)
+literal_sign s = refl
 
-pub literal_plus : (s : List ℕ) → (length s ≡ 0 → ⊥) → (get_or s 0 0 ≡ 45 → ⊥) → number 0 (half - 1) s ≡ literal s
-unfolding literal
-literal_plus [] h e = absurd (h refl)
-literal_plus (b ∷ s) h e = simp (ne_eqb b 45 e)
+pub literal_minus : (s : List ℕ) → 1 ≤ length s → get_or s 0 0 ≡ 45 → literal s ≡ chain (number 1 half (drop 1 s)) (λ n. some (modulus - n))
+literal_minus s h e = ap literal (first_off s 45 h e) ∙ literal_sign (drop 1 s)
 
-pub register_none : (s : List ℕ) → length s ≡ 0 → none ≡ register s
+pub literal_plus : (s : List ℕ) → (get_or s 0 0 ≡ 45 → ⊥) → number 0 (half - 1) s ≡ literal s
+unfolding literal number is_decimal
+literal_plus [] e = refl
+literal_plus (b ∷ s) e = simp (ne_eqb b 45 e)
+
+pub register_none : register [] ≡ none
 unfolding register
-register_none [] e = refl
-register_none (b ∷ s) e = absurd (omega arith)
+register_none = refl
 
-pub register_is : (s : List ℕ) → (length s ≡ 0 → ⊥) → get_or s 0 0 ≡ 114 → chain (number 1 8 (drop 1 s)) (λ v. some (v - 1)) ≡ register s
+pub register_is : (s : List ℕ) → register (114 ∷ s) ≡ chain (number 1 8 s) (λ v. some (v - 1))
 unfolding register
-register_is [] h e = absurd (h refl)
-register_is (b ∷ s) h e = simp (eq-eqb b 114 e)
+register_is s = refl
 
-pub register_other : (s : List ℕ) → (length s ≡ 0 → ⊥) → (get_or s 0 0 ≡ 114 → ⊥) → none ≡ register s
+pub register_first : (s : List ℕ) → 1 ≤ length s → get_or s 0 0 ≡ 114 → register s ≡ chain (number 1 8 (drop 1 s)) (λ v. some (v - 1))
+register_first s h e = ap register (first_off s 114 h e) ∙ register_is (drop 1 s)
+
+pub register_other : (s : List ℕ) → (get_or s 0 0 ≡ 114 → ⊥) → register s ≡ none
 unfolding register
-register_other [] h e = absurd (h refl)
-register_other (b ∷ s) h e = simp (ne_eqb b 114 e)
+register_other [] e = refl
+register_other (b ∷ s) e = simp (ne_eqb b 114 e)
+
+pub empty_list : (s : List ℕ) → length s ≡ 0 → s ≡ []
+empty_list [] e = refl
+empty_list (b ∷ s) e = absurd (omega arith)
 
 -- a part `&s[a..]` of a slice is the list from a on
 pub part_from : (s : List ℕ) (a : ℕ) → take (length s - a) (drop a s) ≡ drop a s
 part_from s a =
     let q : length (drop a s) ≤ length s - a = omega (arith, length-drop a s) in
     take_all (length s - a) (drop a s) q
-
--- ---- an answer that is known at its variant
-pub with_value : (f : ℕ → Option ℕ) (n : Number) (v : ℕ) (o : Option ℕ) → n ≡ Value v → o ≡ f v → o ≡ chain (number_of n) f
-with_value f n v o e h = h ∙ ap (λ (m : Number). chain (number_of m) f) (sym e)
-
--- for callers: what a match on an answer tells of the field
-pub value_is : {n : Number} {v : ℕ} {o : Option ℕ} → number_of n ≡ o → n ≡ Value v → o ≡ some v
-value_is h e = sym h ∙ ap number_of e
-
-pub bad_is : {n : Number} {o : Option ℕ} → number_of n ≡ o → n ≡ Bad → o ≡ none
-bad_is h e = sym h ∙ ap number_of e
-
--- for callers: the bounds of what the thin readers give
-pub row_small : (s : List ℕ) (n : ℕ) → row_number s ≡ some n → n ≤ 511
-unfolding row_number
-row_small s n e = (number_bounds 0 511 s n e).1
-
-pub register_small : (s : List ℕ) (n : ℕ) → register s ≡ some n → n ≤ 7
-unfolding register
-register_small [] n e = absurd (none-ne-some n e)
-register_small (b ∷ s) n e = go (eqb b 114) e
-  where
-    last : (o : Option ℕ) → number 1 8 s ≡ o → chain o (λ v. some (v - 1)) ≡ some n → n ≤ 7
-    last none q h = absurd (none-ne-some n h)
-    last (some v) q h =
-        let u = (number_bounds 1 8 s v q).1 in
-        let w = some-injective (v - 1) n h in
-        omega arith
-
-    go : (t : Bool) → chain (guarded t s) (λ x. chain (number 1 8 x) (λ v. some (v - 1))) ≡ some n → n ≤ 7
-    go true h = last (number 1 8 s) refl h
-    go false h = absurd (none-ne-some n h)

@@ -1,4 +1,4 @@
-use Rattle.std.proofs.Common.{ℕ, ◌+◌, ◌-◌, drop, set, sym, ap, ◌∙◌, arith, length-set}
+use Rattle.std.proofs.Common.{ℕ, ◌+◌, drop, set, sym, ap, ◌∙◌, arith, length-set}
 use lib.Seq.{sets}
 use Rattle.text.specs.Bytes.{split}
 use Rattle.text.specs.Grammar.{row_number}
@@ -25,4 +25,4 @@ loop-to-preserved c =
     (omega arith, simp length-set (search), ap (λ (v : ℕ). sets (set c.loop-to.out c.loop-to.to v) (c.loop-to.to + 1) vs) c.row_of.ensures ∙ sets_one c.loop-to.out c.loop-to.to (or_zero (row_number _)) vs ∙ sym (ap (sets _ _) (ap rows_in p ∙ rows_cons _ _)) ∙ c.loop-to.invariant.2)
 
 pub returns : goal.returns
-returns c = sym (sets_out _ _ (rows_in _) c.loop-to-test.false) ∙ c.loop-to.invariant.2
+returns c = sym (sets_out _ _ (rows_in _) (omega arith)) ∙ c.loop-to.invariant.2

@@ -1,5 +1,5 @@
 -- What the private functions of this crate give: the pieces that the readers are made of.
-use Rattle.std.specs.Prelude.{ℕ, suc, ◌+◌, ◌*◌, Bool, true, false, cond, ◌&&◌, List, [], ◌∷◌, length, ◌==◌, nat_le}
+use Rattle.std.specs.Prelude.{ℕ, suc, ◌+◌, ◌*◌, Bool, cond, ◌&&◌, ◌||◌, List, [], ◌∷◌, length, ◌==◌, nat_le}
 use Prim.Native.Char.{code}
 use Rattle.std.proofs.Math.Option.{Option}
 use Rattle.syntax.specs.Partial.{chain, guarded}
@@ -23,14 +23,13 @@ key_place [] k = 0
 key_place (x ∷ xs) k = cond (x == k) 0 (suc (key_place xs k))
 
 -- ---- letters
--- a byte's letter, as a number; 2 where it is none
-unfoldable pub letter_code : ℕ → ℕ
-letter_code b = cond (b == (code "v")) 0 (cond (b == (code "s")) 1 2)
+-- the byte is a letter
+abbrev pub is_letter : ℕ → Bool
+is_letter b = (b == (code "v")) || (b == (code "s"))
 
--- each byte is a letter
-unfoldable pub all_letters : List ℕ → Bool
-all_letters [] = true
-all_letters (b ∷ s) = cond (letter_code b == 2) false (all_letters s)
+-- a letter, as a number
+unfoldable pub letter_code : ℕ → ℕ
+letter_code b = cond (b == (code "s")) 1 0
 
 -- the number of letters of a field that is not `-`
 unfoldable pub word_count : List ℕ → Option ℕ

@@ -1,23 +1,21 @@
 -- What an answer of this crate stands for, and the pieces that the readers are made of.
-use Rattle.std.specs.Prelude.{◌≡◌, ℕ, ◌+◌, ◌-◌, ◌<◌, ◌≤◌, Bool, true, false, cond, ◌&&◌, List, [], ◌∷◌, length, ◌==◌, nat_le}
+use Rattle.std.specs.Prelude.{◌≡◌, ℕ, ◌+◌, ◌*◌, ◌-◌, Bool, false, ◌&&◌, List, [], ◌∷◌, length, ◌==◌, nat_le, Option as Maybe, Some, None}
 use Prim.Native.Char.{code}
 use Rattle.std.proofs.Math.Option.{Option, none, some}
 use Rattle.syntax.specs.Partial.{guarded}
 use Rattle.text.specs.Bytes.{is_digit, all_digits, spelled}
 use Rattle.text_lines.specs.Parts.{field_in}
 use Rattle.text_fields.specs.declared.numbers.Scan.{Scan}
-use Rattle.text_fields.specs.declared.numbers.Number.{Number}
-use Rattle.text_fields.specs.declared.numbers.Number.TheVariants.{Value, Bad}
 
 -- what every contract of this crate says of an answer
-abbrev pub number_of : Number → Option ℕ
-number_of (Value n) = some n
-number_of Bad = none
+abbrev pub number_of : Maybe ℕ → Option ℕ
+number_of (Some n) = some n
+number_of None = none
 
 -- ---- the pieces
--- a digit's value; 10 for any other byte
-unfoldable pub digit_of : ℕ → ℕ
-digit_of b = cond (is_digit b) (b - code "0") 10
+-- the number that the digits of n and then b spell, if b is a digit and the number is at most high
+unfoldable pub with_digit : ℕ → ℕ → ℕ → Option ℕ
+with_digit high n b = guarded (is_digit b && nat_le (n * 10 + (b - code "0")) high) (n * 10 + (b - code "0"))
 
 -- the number that digits spell after those that spell n, if it is at most high
 unfoldable pub up_to : ℕ → ℕ → List ℕ → Option ℕ
@@ -29,17 +27,13 @@ zero_led [] = false
 zero_led (b ∷ []) = false
 zero_led (b ∷ c ∷ s) = b == (code "0")
 
--- what a byte less `0`, modulo 256, is of it
-pub record DigitIs (b r : ℕ) : Type 0 where
-  pub small : r ≤ 9 → r ≡ digit_of b
-  pub large : 9 < r → 9 < digit_of b
-
 -- ---- a number read from a place of a line on
--- there is none
-abbrev pub no_scan : ℕ → Scan
-no_scan at = record { ok = false; value = 0; next = at }
+-- x is the number o, and where the field at `at` ends
+pub record ScanRead (s : List ℕ) (at : ℕ) (o : Option ℕ) (x : Scan) : Type 0 where
+  pub says : o ≡ some x.value
+  pub ends : x.next ≡ at + length (field_in s at)
 
 -- r says o, and where the field at `at` ends if o is a number
-pub record ScanIs (s : List ℕ) (at : ℕ) (o : Option ℕ) (r : Scan) : Type 0 where
-  pub says : guarded r.ok r.value ≡ o
-  pub ends : r.ok ≡ true → r.next ≡ at + length (field_in s at)
+abbrev pub ScanIs : List ℕ → ℕ → Option ℕ → Maybe Scan → Type 0
+ScanIs s at o None = o ≡ none
+ScanIs s at o (Some x) = ScanRead s at o x

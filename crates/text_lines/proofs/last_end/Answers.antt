@@ -1,19 +1,13 @@
-use mathlib.Core.Path.{ap}
-use Prim.Native.Nat.{◌-◌}
-use native.Mathlib.Omega.{arith}
+use Rattle.std.proofs.Common.{length, ap, arith}
 use native.Mathlib.Nat.{le_refl}
-use lib.ListN.{length}
 use Rattle.text_lines.proofs.Parts.{first_end}
-use Rattle.text_lines.proofs.InLine.{last_none, last_back}
+use Rattle.text_lines.proofs.InLine.{last_back}
 use Rattle.text_lines.proofs.last_end.Goals as goal
 
 pub loop-i-init : goal.loop-i-init
 loop-i-init c =
     let q = ap length (first_end 10 c.args.text.now (length c.args.text.now) (le_refl (length c.args.text.now))) in
-    (le_refl (length c.args.text.now), omega arith)
+    omega arith
 
 pub loop-i-preserved : goal.loop-i-preserved
-loop-i-preserved c = (omega arith, last_back _ _ (search) (search) (search) (search))
-
-pub returns : goal.returns
-returns c = last_none _ _ c.loop-i-test.false (search)
+loop-i-preserved c = last_back _ _ c.loop-i-test.true c.loop-i.auto.i c.if-text-i-eq10.false c.loop-i.invariant

@@ -29,8 +29,8 @@ loop-r-preserved c =
     let a = ap (λ (r : Reader). r.at) c.next-line.ensures.1 ∙ ap (λ (s : List ℕ). next_from s at) i.0 in
     let one = one_read text before c.loop-r.out at n i.1 c.next-line.result t e in (
       ap (λ (r : Reader). r.text.now) c.next-line.ensures.1 ∙ i.0,
-      subst (λ (p : ℕ). ReadTo text before c.keep.new.out p (n + 1)) (sym a)
-          (subst (λ (out : Parts). ReadTo text before out (next_from text at) (n + 1)) (sym c.keep.ensures) one),
+      subst (λ (p : ℕ). ReadTo text before c.put.new.s p (n + 1)) (sym a)
+          (subst (λ (out : Parts). ReadTo text before out (next_from text at) (n + 1)) (sym c.put.ensures) one),
     )
 
 pub returns : goal.returns

@@ -1,18 +1,15 @@
-use mathlib.Core.Path.{sym}
 use Rattle.types_rows.specs.Read.{tab}
 use Rattle.types_equal.proofs.Items.{spare_kept, length_first}
-use Rattle.types_equal.proofs.Plain.{link_few, tabled_plain, spare_plain, stacks_are}
+use Rattle.types_equal.proofs.Plain.{plain_context, link_few, tabled_plain, spare_plain, stacks_are}
 use borrow.Author.Rules.{rules}
 use Rattle.types_equal.proofs.equal_stacks.Goals as goal
-
-pub slice_bounds-eq_stack-end-3 : goal.slice_bounds-eq_stack-end-3
-slice_bounds-eq_stack-end-3 c = sym (length_first 1543 c.args.pending.now c.requires.1)
 
 pub eq_stack-requires : goal.eq_stack-requires
 eq_stack-requires c =
     let fw = c.requires.0 in
     let a = link_few (tab c.args.rows.now c.args.parts.now) c.args.rows.now c.args.n c.link_of-x.result c.args.l c.link_of-x.ensures in
-    let b = link_few (tab c.args.rows.now c.args.parts.now) c.args.rows.now c.args.n c.link_of-y.result c.args.r c.link_of-y.ensures in (
+    let b = link_few (tab c.args.rows.now c.args.parts.now) c.args.rows.now c.args.n c.link_of-y.result c.args.r c.link_of-y.ensures in
+    rw (plain_context _ c.default.ensures) (
       tabled_plain (tab c.args.rows.now c.args.parts.now) c.args.rows.now c.args.n c.link_of-x.result
           c.link_of-y.result c.args.l c.args.r fw c.link_of-x.ensures c.link_of-y.ensures,
       search rules,
@@ -23,4 +20,4 @@ eq_stack-requires c =
     )
 
 pub returns : goal.returns
-returns c = stacks_are _ _ _ _ _ _ _ c.link_of-x.ensures c.link_of-y.ensures c.eq_stack.ensures
+returns c = stacks_are _ _ _ _ _ _ _ c.link_of-x.ensures c.link_of-y.ensures (rw (plain_context _ c.default.ensures) at c.eq_stack.ensures)

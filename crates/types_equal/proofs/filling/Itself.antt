@@ -5,16 +5,14 @@ use mathlib.Core.Option.{some}
 use mathlib.Core.List.{List, [], ◌∷◌, ◌++◌, append-nil}
 use Prim.Native.Nat.{ℕ, zero, suc, ◌+◌, ◌-◌, ◌<◌, ◌≤◌}
 use native.Mathlib.Omega.{arith}
-use lib.Dec.{eqb}
 use lib.ListN.{length, get_or, get_elem?}
-use borrow.Author.Count.{below_more}
-use borrow.Author.Tests.{lt-ltb, eqb-true, not-false}
+use borrow.Author.Tests.{lt-ltb}
 use Rattle.syntax.specs.Syntax.{Kind, value, stack}
 use Rattle.types.specs.Types.{Ty, int, junk, var, tuple, pointer, hidden, code, nil, push, svar, gap, join, variable, below, walk, raise, Arg, fits_kind, meets, Use, a_stack, a_tuple, a_file, Wf}
 use Rattle.types.specs.Equal.{same}
 use Rattle.types.proofs.Equal.{same_refl}
 use Rattle.types.proofs.Filling.{raise_variable, Side, lo, hi, side, below_lt, below_ge, get_lt, get_high}
-use Rattle.tables.specs.Tables.{RowTable, cell, span, letter_of, letters_at}
+use Rattle.tables.specs.Tables.{RowTable, span, letter_of, letters_at}
 use Rattle.types_rows.specs.Read.{value_with, stack_with, is_stack_at, mean_v, mean_s, mean, placed, acting, lift, stack_under, code_of, args_of}
 use Rattle.types_rows.proofs.Laws.{value_is, stack_is, placed_is}
 use Rattle.types_equal.proofs.pending.Meets.{length_args, arg_type, fits_stack, fits_value}
@@ -67,21 +65,6 @@ module _ (A : List Arg) (ρ : ℕ → ℕ) where
   kept Γ u d h (gap a) w = let i = kept Γ u d h a w.1 in (ap gap i.0, i.1)
 
 -- ---- what the code finds
-pub kind_value : (x : ℕ) → x ≡ 0 → 2 ≡ variable_kind x
-unfolding variable_kind
-kind_value x e = rw e refl
-
-pub kind_stack : (x : ℕ) → (x ≡ 0 → ⊥) → 8 ≡ variable_kind x
-unfolding variable_kind
-kind_stack zero h = absurd (h refl)
-kind_stack (suc x) h = refl
-
-pub itself_is : (rows : List ℕ) (x a j : ℕ) {k v w : ℕ} → k ≡ cell 4 rows a 0 → v ≡ variable_kind x → k ≡ v → w ≡ cell 4 rows a 1 → eqb w j ≡ true → Itself rows x a j
-itself_is rows x a j {k} {v} {w} p q r s t = record { kind = sym p ∙ r ∙ q; number = sym s ∙ eqb-true w j t }
-
-pub themselves_next : (rows ps args : List ℕ) (p j : ℕ) {x a : ℕ} {b : Bool} → Themselves rows ps p args j → x ≡ get_or ps (p + j) 0 → a ≡ get_or args j 0 → (b ≡ true → Itself rows x a j) → not b ≡ false → Themselves rows ps p args (j + 1)
-themselves_next rows ps args p j {x} {a} {b} h e f g n = below_more _ _ h (rw (← e, ← f) (g (not-false b n)))
-
 -- ---- rows
 module _ (τ : RowTable) (a j : ℕ) where
   value_itself : Itself τ.rows 0 a j → (mean_v τ (suc a) ≡ var j) × (is_stack_at τ.rows a ≡ false)

@@ -1,12 +1,15 @@
 -- Laws of tables of names in the place of environments.
 use mathlib.Core.Path.{◌≡◌, refl, ap, ◌∙◌}
+use mathlib.Core.Bool.{Bool, true, false}
 use mathlib.Core.List.{List}
-use Prim.Native.Nat.{ℕ, ◌+◌, ◌-◌, ◌*◌, ◌/◌, ◌%◌, ◌<◌, ◌≤◌}
+use Rattle.std.specs.Prelude.{Option, IfSome}
+use Rattle.std.specs.Bool.{then_some}
+use Prim.Native.Nat.{ℕ, ◌+◌, ◌-◌, ◌*◌, ◌/◌, ◌%◌, ◌≤◌}
 use native.Mathlib.Omega.{arith}
-use lib.ListN.{length, get_or}
+use lib.ListN.{length}
 use Rattle.types_rows.specs.Environments.{var_in, name_at}
 use Rattle.types_rows.proofs.Environments.{var_even, name_even, name_listed, names_kept}
-use Rattle.types_equal.specs.names.Names.{Stands, Both}
+use Rattle.types_equal.specs.names.Names.{Stands}
 
 -- an even environment: what stands for variable 0 says it all
 pub stands_even : (E N : List ℕ) (e n v : ℕ) → e % 2 ≡ 0 → v ≡ var_in E e 0 → v ≤ length N → Stands E e N n (2 * (length N - v))
@@ -25,9 +28,10 @@ stands_odd E N e f h M _ k j =
     let q : (65537 + 2 * f) / 2 - 32768 ≡ f = omega arith in
     name_listed M (65537 + 2 * f) j (λ z. omega arith) (omega arith) ∙ ap (λ z. name_at M z j) q ∙ names_kept N M f j k ∙ h j
 
-pub both_one : (E N : List ℕ) (e f n a : ℕ) → e ≡ f → Stands E e N n a → Both E e f N a a
-both_one E N e f n a q s = let h = s N refl (λ i _. refl) in record { left = h; right = λ j. h j ∙ ap (λ z. var_in E z j) q }
-
--- two tables, the second written behind the first
-pub both_two : (E N M : List ℕ) (e f n m a b : ℕ) → length M ≡ length N → ((i : ℕ) → i < n → get_or M i 0 ≡ get_or N i 0) → Stands E e N n a → Stands E f M m b → Both E e f M a b
-both_two E N M e f n m a b q k s t = record { left = s M q k; right = t M refl (λ i _. refl) }
+-- a table, if it is written
+pub if_written : (P : ℕ → Type 0) (b : Bool) {o : Option ℕ} {x : ℕ} → o ≡ then_some b x → (b ≡ true → P x) → IfSome o P
+if_written P b {o} {x} e h = rw e (go b h)
+  where
+    go : (b : Bool) → (b ≡ true → P x) → IfSome (then_some b x) P
+    go true h = h refl
+    go false h = tt

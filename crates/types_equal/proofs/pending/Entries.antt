@@ -15,9 +15,11 @@ use Rattle.types_rows.specs.declared.Stk.TheVariants.{Nil, StkVar, StkFill, Push
 use Rattle.types_rows.specs.Read.{is_stack_at, stack_at, mean_v, mean_s, acting, lift, value_under, stack_under, args_of, place_s, OkS}
 use Rattle.types_rows.proofs.Laws.{no_arg, type_s, stack_read}
 use Rattle.types_equal.specs.declared.pending.Form.{Form}
-use Rattle.types_equal.specs.declared.pending.Form.TheVariants.{One, Misfit}
+use Rattle.types_equal.specs.declared.pending.Form.TheVariants.{One}
 use Rattle.types_equal.specs.pending.Pending.{entry_type, entry_meets, Low, Givens, weight, arg_form, own_form, given_form, Lower, FormOf}
-use Rattle.types_equal.proofs.pending.Meets.{raised, length_args, arg_type, fits_stack, meets_s, stack_meets}
+use Rattle.std.specs.Prelude.{Option, Some, None}
+use Rattle.std.specs.Bool.{then_some}
+use Rattle.types_equal.proofs.pending.Meets.{some_if, raised, length_args, arg_type, fits_stack, meets_s, stack_meets}
 
 -- ---- entries of the two sorts
 module _ (τ : RowTable) (A : List Arg) (ρ : ℕ → ℕ) (d : ℕ) where
@@ -72,7 +74,7 @@ module _ (τ : RowTable) (args : List ℕ) (m : ℕ) (ρ : ℕ → ℕ) (d e : �
   own_args = args_of τ args m
 
   arg_is : (j : ℕ) (b : Bool) → j < m → b ≡ is_stack_at τ.rows (get_or args j 0)
-      → stack_under τ own_args ρ d e ≡ raise d (of_kind stack (get_or own_args j no_arg)) → meets own_args d (mean_s τ e) ≡ fits_kind stack own_args j → FormOf τ own_args ρ d m e (cond b (One (32769 + get_or args j 0)) Misfit)
+      → stack_under τ own_args ρ d e ≡ raise d (of_kind stack (get_or own_args j no_arg)) → meets own_args d (mean_s τ e) ≡ fits_kind stack own_args j → FormOf τ own_args ρ d m e (cond b (Some (One (32769 + get_or args j 0))) None)
   unfolding stack_under
   arg_is j true l f s t =
       let a : ℕ = get_or args j 0 in
@@ -116,16 +118,16 @@ module _ (τ : RowTable) (args : List ℕ) (m : ℕ) (ρ : ℕ → ℕ) (d e : �
   own_form_lem s k f ok q =
       own_is k (subst (λ (z : Stk). OkS m e z) q ok) (stack_read τ own_args ρ d m e (length_args τ args m) f q) (stack_meets τ own_args ρ d m e (length_args τ args m) f q)
 
-  pub own_arg : (s : Stk) (j a : ℕ) {o : Form} → s ≡ stack_at τ.rows (place_s m ρ d) e → OkS m e s → s ≡ StkFill j → a ≡ get_or args j 0 → o ≡ arg_form τ.rows a → FormOf τ own_args ρ d m e o
+  pub own_arg : (s : Stk) (j a : ℕ) {o : Option Form} → s ≡ stack_at τ.rows (place_s m ρ d) e → OkS m e s → s ≡ StkFill j → a ≡ get_or args j 0 → o ≡ arg_form τ.rows a → FormOf τ own_args ρ d m e o
   own_arg s j a {o} f ok q b i =
-      subst (λ (z : Form). FormOf τ own_args ρ d m e z) (sym (i ∙ ap (arg_form τ.rows) b)) (own_form_lem s (StkFill j) f ok q)
+      subst (λ (z : Option Form). FormOf τ own_args ρ d m e z) (sym (i ∙ ap (arg_form τ.rows) b)) (own_form_lem s (StkFill j) f ok q)
 
 -- ---- a row of an argument
 module _ (τ : RowTable) (args : List ℕ) (m : ℕ) (ρ : ℕ → ℕ) (d h : ℕ) (b : h ≤ 514) where
   abbrev given_args : List Arg
   given_args = args_of τ args m
 
-  given_is : (s : Stk) → OkS 0 h s → stack_under τ [] (lift d) 0 h ≡ type_s τ [] (lift d) 0 s → FormOf τ given_args ρ d m (32768 + h) (given_form s)
+  given_is : (s : Stk) → OkS 0 h s → stack_under τ [] (lift d) 0 h ≡ type_s τ [] (lift d) 0 s → FormOf τ given_args ρ d m (32768 + h) (Some (given_form s))
   given_is Nil ok f = (given_type τ given_args ρ d h ∙ f, given_meets τ given_args d h)
   given_is (StkVar i) ok f = (given_type τ given_args ρ d h ∙ f, given_meets τ given_args d h)
   given_is (StkFill j) ok f = absurd (not-suc-le-zero ok)
@@ -146,22 +148,19 @@ module _ (τ : RowTable) (args : List ℕ) (m : ℕ) (ρ : ℕ → ℕ) (d h : �
         w,
       )
 
-  pub given_form_lem : (s k : Stk) → s ≡ stack_at τ.rows (place_s 0 (lift d) 0) h → OkS 0 h s → s ≡ k → FormOf τ given_args ρ d m (32768 + h) (given_form k)
+  pub given_form_lem : (s k : Stk) → s ≡ stack_at τ.rows (place_s 0 (lift d) 0) h → OkS 0 h s → s ≡ k → FormOf τ given_args ρ d m (32768 + h) (Some (given_form k))
   given_form_lem s k f ok q = given_is k (subst (λ (z : Stk). OkS 0 h z) q ok) (stack_read τ [] (lift d) 0 0 h refl f q)
 
 -- ---- an entry of either sort
-pub entry_given : (τ : RowTable) (A : List Arg) (ρ : ℕ → ℕ) (d m e : ℕ) (o : Form) → 32768 ≤ e → FormOf τ A ρ d m (32768 + (e - 32768)) o → FormOf τ A ρ d m e o
+pub entry_given : (τ : RowTable) (A : List Arg) (ρ : ℕ → ℕ) (d m e : ℕ) (o : Option Form) → 32768 ≤ e → FormOf τ A ρ d m (32768 + (e - 32768)) o → FormOf τ A ρ d m e o
 entry_given τ A ρ d m e o h f = let q : 32768 + (e - 32768) ≡ e = omega arith in subst (λ z. FormOf τ A ρ d m z o) q f
 
-pub form_at_lem : (τ : RowTable) (A : List Arg) (ρ : ℕ → ℕ) (d m e e₂ : ℕ) (f k : Form) → e ≡ e₂ → FormOf τ A ρ d m e f → f ≡ k → FormOf τ A ρ d m e₂ k
-form_at_lem τ A ρ d m e e₂ f k p h q = subst (λ z. FormOf τ A ρ d m z k) p (subst (λ (z : Form). FormOf τ A ρ d m e z) q h)
+pub form_at_lem : (τ : RowTable) (A : List Arg) (ρ : ℕ → ℕ) (d m e e₂ : ℕ) (f k : Option Form) → e ≡ e₂ → FormOf τ A ρ d m e f → f ≡ k → FormOf τ A ρ d m e₂ k
+form_at_lem τ A ρ d m e e₂ f k p h q = subst (λ z. FormOf τ A ρ d m z k) p (subst (λ (z : Option Form). FormOf τ A ρ d m e z) q h)
 
 -- ---- what the readers need
-pub arg_row : (rows : List ℕ) (a : ℕ) {b : Bool} → b ≡ is_stack_at rows a → b ≡ true → One (32769 + a) ≡ arg_form rows a
-arg_row rows a e f = rw (sym e ∙ f) refl
-
-pub arg_other : (rows : List ℕ) (a : ℕ) {b : Bool} → b ≡ is_stack_at rows a → b ≡ false → Misfit ≡ arg_form rows a
-arg_other rows a e f = rw (sym e ∙ f) refl
+pub arg_row : (rows : List ℕ) (a : ℕ) {b : Bool} {o : Option Form} → b ≡ is_stack_at rows a → o ≡ then_some b (One (32769 + a)) → o ≡ arg_form rows a
+arg_row rows a {b} e f = f ∙ rw (← e) (some_if b (One (32769 + a)))
 
 pub ok_push : (m h t x : ℕ) {s : Stk} → OkS m h s → s ≡ Push t x → (t < h) × (x < h)
 ok_push m h t x ok q = subst (λ (z : Stk). OkS m h z) q ok

@@ -1,7 +1,7 @@
 -- Laws of what is pending.
 use mathlib.Core.Path.{◌≡◌, refl, ap, ap₂, sym, ◌∙◌, subst}
 use mathlib.Core.Bool.{Bool, true, false, ◌&&◌}
-use mathlib.Core.List.{List, []}
+use mathlib.Core.List.{List}
 use Prim.Native.Nat.{ℕ, zero, suc, ◌+◌, ◌*◌, ◌<◌, ◌≤◌}
 use native.Mathlib.Omega.{arith}
 use native.Mathlib.Nat.{not-suc-le-zero}
@@ -10,13 +10,14 @@ use lib.ListN.{length, get_or, set, length-set}
 use lib.Seq.{get_or-set_same, get_or-set_other}
 use borrow.Author.Tests.{eqb-true, eqb-false, ltb-true, ltb-false}
 use Rattle.syntax.specs.Syntax.{stack}
-use Rattle.types.specs.Types.{Ty, push, join, Arg, meets}
+use Rattle.types.specs.Types.{Ty, push, join, Arg}
 use Rattle.types.proofs.Filling.{join_assoc}
 use Rattle.tables.specs.Tables.{RowTable}
-use Rattle.types_rows.specs.Read.{mean_v, lift, value_under}
-use Rattle.types_equal.specs.declared.pending.Form.TheVariants.{Skip, One, Two, OwnTop, GivenTop, VarTop, Misfit}
-use Rattle.types_equal.specs.declared.pending.Next.TheVariants.{End, OwnNext, GivenNext, VarNext, Wrong}
-use Rattle.types_equal.specs.pending.Pending.{entry_type, pending_type, entry_meets, pending_meets, Low, Pends, room, weight, power, mass, Lower, FormOf, Rest, NextIs}
+use Rattle.std.specs.Prelude.{Some, None}
+use Rattle.types_equal.specs.declared.pending.Form.TheVariants.{Skip, One, Two, Top, Var as VarTop}
+use Rattle.types_equal.specs.declared.pending.Next.TheVariants.{End, Row, Var as VarNext}
+use Rattle.types_equal.specs.declared.pending.Source.{Source}
+use Rattle.types_equal.specs.pending.Pending.{entry_type, pending_type, entry_meets, pending_meets, Low, Pends, room, weight, power, mass, Lower, row_type, row_meets, RowLow, FormOf, Rest, NextIs}
 use Rattle.types_equal.proofs.pending.Meets.{and_assoc}
 
 -- ---- what falls
@@ -205,7 +206,7 @@ module _ (τ : RowTable) (A : List Arg) (ρ : ℕ → ℕ) (d : ℕ) (m : ℕ) (
   unfolding pending_meets
   top_meets = sym g.fits ∙ ap (pending_meets τ A d out) e
 
-  pub means_skip : FormOf τ A ρ d m entry Skip → Means τ A ρ d ws top out i
+  pub means_skip : FormOf τ A ρ d m entry (Some Skip) → Means τ A ρ d ws top out i
   unfolding join
   means_skip f =
       record {
@@ -213,14 +214,14 @@ module _ (τ : RowTable) (A : List Arg) (ρ : ℕ → ℕ) (d : ℕ) (m : ℕ) (
         fits = sym (top_meets ∙ ap (λ z. z && pending_meets τ A d out i) f.1);
       }
 
-  pub means_one : (x : ℕ) → i < length out → FormOf τ A ρ d m entry (One x) → Means τ A ρ d ws top (set out i x) n
+  pub means_one : (x : ℕ) → i < length out → FormOf τ A ρ d m entry (Some (One x)) → Means τ A ρ d ws top (set out i x) n
   means_one x b f =
       record {
         type = ap (pending_type τ A ρ d (set out i x)) e ∙ put_type τ A ρ d out i x b ∙ sym (top_type ∙ ap (λ z. join z (pending_type τ A ρ d out i)) f.0);
         fits = ap (pending_meets τ A d (set out i x)) e ∙ put_meets τ A ρ d out i x b ∙ sym (top_meets ∙ ap (λ z. z && pending_meets τ A d out i) f.1);
       }
 
-  pub means_two : (x y : ℕ) → n < length out → FormOf τ A ρ d m entry (Two x y) → Means τ A ρ d ws top (set (set out i y) n x) (n + 1)
+  pub means_two : (x y : ℕ) → n < length out → FormOf τ A ρ d m entry (Some (Two x y)) → Means τ A ρ d ws top (set (set out i y) n x) (n + 1)
   means_two x y b f =
       let q : n + 1 ≡ suc n = omega arith in
       let h = length-set out i y in
@@ -237,35 +238,28 @@ module _ (τ : RowTable) (A : List Arg) (ρ : ℕ → ℕ) (d : ℕ) (m : ℕ) (
 
   -- ---- an item is found
   module _ (k : Kept m ws top out n) where
-    pub next_own : (t x : ℕ) → i < length out → FormOf τ A ρ d m entry (OwnTop t x) → NextIs τ A ρ d m ws top (set out i x) (OwnNext t n)
+    row_low : (s : Source) (t l : ℕ) → RowLow m s l (suc i) t → (0 < n) × RowLow m s l n t
+    row_low s t l h = (omega arith, subst (λ z. RowLow m s l z t) (sym e) h)
+
+    pub next_row : (s : Source) (t x : ℕ) → i < length out → FormOf τ A ρ d m entry (Some (Top s t x)) → NextIs τ A ρ d m ws top (set out i x) (Some (Row s t n))
     unfolding join
-    next_own t x b f =
+    next_row s t x b f =
         let w = f.3 in (
-          top_type ∙ ap (λ z. join z (pending_type τ A ρ d out i)) f.0 ∙ ap (push (value_under τ A ρ d t)) (sym (ap (pending_type τ A ρ d (set out i x)) e ∙ put_type τ A ρ d out i x b)),
-          top_meets ∙ ap (λ z. z && pending_meets τ A d out i) f.1 ∙ sym (and_assoc (meets A d (mean_v τ t)) (entry_meets τ A d x) (pending_meets τ A d out i)) ∙ ap (λ z. meets A d (mean_v τ t) && z) (sym (ap (pending_meets τ A d (set out i x)) e ∙ put_meets τ A ρ d out i x b)),
+          top_type ∙ ap (λ z. join z (pending_type τ A ρ d out i)) f.0 ∙ ap (push (row_type τ A ρ d s t)) (sym (ap (pending_type τ A ρ d (set out i x)) e ∙ put_type τ A ρ d out i x b)),
+          top_meets ∙ ap (λ z. z && pending_meets τ A d out i) f.1 ∙ sym (and_assoc (row_meets τ A ρ d s t) (entry_meets τ A d x) (pending_meets τ A d out i)) ∙ ap (λ z. row_meets τ A ρ d s t && z) (sym (ap (pending_meets τ A d (set out i x)) e ∙ put_meets τ A ρ d out i x b)),
           rest_one m ws top out n i e k x b w.0 (λ l j z. low_down m l j x (w.1 l j z)),
-          (λ l p. let u = f.2 l i (last_low m ws top out n i e k l p) in (omega arith, omega arith)),
+          (λ l p. row_low s t l (f.2 l i (last_low m ws top out n i e k l p))),
         )
 
-    pub next_given : (t x : ℕ) → i < length out → FormOf τ A ρ d m entry (GivenTop t x) → NextIs τ A ρ d m ws top (set out i x) (GivenNext t n)
-    unfolding join
-    next_given t x b f =
-        let w = f.3 in (
-          top_type ∙ ap (λ z. join z (pending_type τ A ρ d out i)) f.0 ∙ ap (push (value_under τ [] (lift d) 0 t)) (sym (ap (pending_type τ A ρ d (set out i x)) e ∙ put_type τ A ρ d out i x b)),
-          top_meets ∙ ap (λ z. z && pending_meets τ A d out i) f.1 ∙ sym (ap (pending_meets τ A d (set out i x)) e ∙ put_meets τ A ρ d out i x b),
-          rest_one m ws top out n i e k x b w.0 (λ l j z. low_down m l j x (w.1 l j z)),
-          (λ l p. let u = f.2 l i (last_low m ws top out n i e k l p) in let v = u.2 in (u.0, u.1, omega arith)),
-        )
-
-    pub next_var : (a : ℕ) → FormOf τ A ρ d m entry (VarTop a) → NextIs τ A ρ d m ws top out (VarNext a i)
+    pub next_var : (a : ℕ) → FormOf τ A ρ d m entry (Some (VarTop a)) → NextIs τ A ρ d m ws top out (Some (VarNext a i))
     unfolding join
     next_var a f =
         (top_type ∙ ap (λ z. join z (pending_type τ A ρ d out i)) f.0, top_meets ∙ ap (λ z. z && pending_meets τ A d out i) f.1, rest_skip m ws top out n i e k)
 
-    pub next_wrong : FormOf τ A ρ d m entry Misfit → NextIs τ A ρ d m ws top out Wrong
+    pub next_wrong : FormOf τ A ρ d m entry None → NextIs τ A ρ d m ws top out None
     next_wrong f = (top_meets ∙ ap (λ z. z && pending_meets τ A d out i) f.0, f.1)
 
-pub next_end : (τ : RowTable) (A : List Arg) (ρ : ℕ → ℕ) (d m : ℕ) (ws : List ℕ) (top : ℕ) (out : List ℕ) (n : ℕ) → n ≡ 0 → Means τ A ρ d ws top out n → NextIs τ A ρ d m ws top out End
+pub next_end : (τ : RowTable) (A : List Arg) (ρ : ℕ → ℕ) (d m : ℕ) (ws : List ℕ) (top : ℕ) (out : List ℕ) (n : ℕ) → n ≡ 0 → Means τ A ρ d ws top out n → NextIs τ A ρ d m ws top out (Some End)
 unfolding pending_type pending_meets
 next_end τ A ρ d m ws top out n e g = (sym g.type ∙ ap (pending_type τ A ρ d out) e, sym g.fits ∙ ap (pending_meets τ A d out) e)
 

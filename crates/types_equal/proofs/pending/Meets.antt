@@ -1,4 +1,6 @@
 -- Laws of arguments and their kinds.
+use Rattle.std.specs.Prelude.{Some, None}
+use Rattle.std.specs.Bool.{then_some}
 use mathlib.Core.Path.{◌≡◌, refl, ap, sym, ◌∙◌, fun_ext}
 use mathlib.Core.Bool.{Bool, true, false, ◌&&◌, not, cond}
 use mathlib.Core.List.{List, [], ◌∷◌, map}
@@ -21,6 +23,11 @@ use Rattle.types_rows.proofs.Laws.{no_arg, value_is, stack_is}
 use Rattle.types_rows.proofs.Bridge.{arg_is}
 
 -- ---- tests
+-- a value, if a test holds
+pub some_if : {A : Type 0} (b : Bool) (x : A) → then_some b x ≡ cond b (Some x) None
+some_if true x = refl
+some_if false x = refl
+
 pub and_false : (b : Bool) → b && false ≡ false
 and_false true = refl
 and_false false = refl

@@ -3,19 +3,20 @@ use Prim.Native.Nat.{ℕ, zero, suc, ◌+◌, ◌-◌, ◌≤◌, ◌<◌}
 use native.Mathlib.Omega.{arith}
 use mathlib.Core.Path.{◌≡◌, refl, sym, ap, ap₂, ◌∙◌}
 use mathlib.Core.Bool.{Bool, true, false, ◌&&◌, not, cond}
+use Rattle.std.specs.Prelude.{Option, Some, None}
 use mathlib.Core.List.{List, [], ◌∷◌, ◌++◌, map, append-nil}
 use lib.Dec.{eqb, ltb, lit≤}
 use lib.ListN.{get_or}
-use borrow.Author.Tests.{lt-ltb, le-ltb, eq-eqb, ne_eqb}
+use borrow.Author.Tests.{lt-ltb, le-ltb, ne_eqb}
 use Rattle.syntax.specs.Syntax.{Operand, plain, inst, pack, Instr}
 use Rattle.syntax.specs.Fault.{given}
 use Rattle.syntax.proofs.Least.{least, least_of, least_none, least_assoc, least_comm, least_swap, least_turn, least_given, numbered_given, least_append}
 use Rattle.tables.specs.Tables.{cell, span, rows_in, base_of, operand_of, operand_from, OperandTable, operand_at, operands_at, instr_at}
-use Rattle.tables.proofs.Cases.{◌&◌, each, instr_cases}
+use Rattle.tables.proofs.Cases.{◌&◌, instr_cases}
 use Rattle.tables.proofs.Steps.{operands_step}
 use Rattle.types.specs.Rows.{value_row, code_row, hidden_row, any_row, Ref, ref, operand_refs, operands_refs, names, base_labels, labels, all_below, refs_faults, instr_faults}
 use Rattle.types_rows.specs.Read.{tab}
-use Rattle.types_pass_two.specs.instr_refs.Instrs.{operand_table, label_least, operands_least, code_of, given_place, operand_count, count_of}
+use Rattle.types_pass_two.specs.instr_refs.Instrs.{operand_table, label_least, operands_least, given_place, count_of}
 use Rattle.types_pass_two.specs.row_refs.Least.{ref_least, refs_least, list_refs}
 use Rattle.types_pass_two.specs.declared.row_refs.Part.TheVariants.{Argument}
 use Rattle.types_pass_two.proofs.row_refs.References.{refs_least_lem, numbered_refs, one_ref, refs_append, arguments}
@@ -56,20 +57,7 @@ label_least_lem nb (suc (suc k)) l =
     let e : ltb (suc (suc k)) 2 ≡ false = le-ltb (suc (suc k)) 2 (omega arith) in
     rw e (and_true (ltb l nb))
 
-pub label_none : (nb k l : ℕ) → k < 2 → 0 ≡ label_least nb k l
-label_none nb zero l h = refl
-label_none nb (suc zero) l h = refl
-label_none nb (suc (suc k)) l h = absurd (omega arith)
-
--- l was read as m
-pub label_at : (nb k m l out : ℕ) → 2 ≤ k → out ≡ cond (ltb m nb) 0 4 → m ≡ l → out ≡ label_least nb k l
-label_at nb k m l out h o q = let e : ltb k 2 ≡ false = le-ltb k 2 h in rw (e, ← q) o
-
 -- ---- operands
--- what was read of a package: its argument a and its `H` row h
-pub package_read : (rs : List ℕ) (n a b h t f x y w out : ℕ) → a ≡ b → h ≡ t → x ≡ ref_least rs n any_row a → y ≡ ref_least rs n hidden_row h → w ≡ least x y → out ≡ least f w → out ≡ least f (least (ref_least rs n any_row b) (ref_least rs n hidden_row t))
-package_read rs n a b h t f x y w out ea eh ex ey ew o = rw (← ea, ← eh) (o ∙ ap (least f) (ew ∙ ap₂ least ex ey))
-
 module _ (rs : List ℕ) (n nb : ℕ) where
   labels_more : (v : Operand) (vs : List Operand) → cond (all_below nb (labels (v ∷ vs))) 0 4 ≡ least (cond (all_below nb (labels (v ∷ []))) 0 4) (cond (all_below nb (labels vs)) 0 4)
   labels_more v vs =
@@ -152,61 +140,39 @@ module _ (rs : List ℕ) (n nb : ℕ) (ω : OperandTable) (v m : ℕ) where
       sym (least_none f) ∙ (rw d at rest)
 
 -- ---- instructions
--- a code, read as k
-pub code_in : (k j : ℕ) → k ≡ j → k < 24 → k ≡ code_of j
-code_in k j e l = rw (← e, lt-ltb k 24 l) refl
+-- a code past the last
+not_code : (k i : ℕ) → 24 ≤ k → i < 24 → eqb k i ≡ false
+not_code k i l h = ne_eqb k i (λ e. absurd (omega arith))
 
-pub code_past : (k j : ℕ) → k ≡ j → 24 ≤ k → 22 ≡ code_of j
-code_past k j e l = rw (← e, le-ltb k 24 l) refl
+given_past : (k : ℕ) → 24 ≤ k → given_place k ≡ Some 1
+given_past k l = rw (not_code k 12 l (lit≤ tt), not_code k 13 l (lit≤ tt), not_code k 20 l (lit≤ tt), not_code k 22 l (lit≤ tt), le-ltb k 24 l) refl
 
--- of a code of the table
-pub place_small : (k : ℕ) → k < 24 → given_place k < 8
-place_small k h =
-    each (λ k. given_place k < 8) 24
-    (tt & lit≤ tt & lit≤ tt & lit≤ tt & lit≤ tt & lit≤ tt & lit≤ tt & lit≤ tt & lit≤ tt & lit≤ tt & lit≤ tt & lit≤ tt & lit≤ tt &
-    lit≤ tt & lit≤ tt & lit≤ tt & lit≤ tt & lit≤ tt & lit≤ tt & lit≤ tt & lit≤ tt & lit≤ tt & lit≤ tt & lit≤ tt & lit≤ tt) k h
-
-pub count_all : (k m h : ℕ) → h ≡ operand_count k → h ≡ 2 → m ≡ count_of k m
-count_all k m h e z = let q : eqb (operand_count k) 2 ≡ true = eq-eqb (operand_count k) 2 (sym e ∙ z) in rw q refl
-
-pub count_own : (k m h : ℕ) → k < 24 → h ≡ operand_count k → (h ≡ 2 → ⊥) → (h ≡ count_of k m) × (h ≤ 65535)
-count_own k m h l e z =
-    let q : eqb (operand_count k) 2 ≡ false = ne_eqb (operand_count k) 2 (λ w. z (e ∙ w)) in
-    let b : operand_count k ≤ 2 = each (λ k. operand_count k ≤ 2) 24
-    (tt & lit≤ tt & lit≤ tt & lit≤ tt & lit≤ tt & lit≤ tt & lit≤ tt & lit≤ tt & lit≤ tt & lit≤ tt & lit≤ tt & lit≤ tt & lit≤ tt &
-    lit≤ tt & lit≤ tt & lit≤ tt & lit≤ tt & lit≤ tt & lit≤ tt & lit≤ tt & lit≤ tt & lit≤ tt & lit≤ tt & lit≤ tt & lit≤ tt) k l in
-    (rw q e, omega arith)
+count_past : (k m : ℕ) → 24 ≤ k → count_of k m ≡ 0
+count_past k m l = rw (le-ltb k 10 (omega arith), not_code k 12 l (lit≤ tt), not_code k 21 l (lit≤ tt), not_code k 23 l (lit≤ tt)) refl
 
 -- what an instruction names, by the code k that the tables of codes have for it
 module _ (ι : List ℕ) (ω : OperandTable) (j : ℕ) where
-  given_at : (names (instr_at ι ω j)).value_rows ≡ cond (eqb (given_place (code_of (cell 8 ι j 0))) 0) [] (cell 8 ι j (given_place (code_of (cell 8 ι j 0))) ∷ [])
+  abbrev pub given_rows : Option ℕ → List ℕ
+  given_rows None = []
+  given_rows (Some g) = cell 8 ι j g ∷ []
+
+  given_at : (names (instr_at ι ω j)).value_rows ≡ given_rows (given_place (cell 8 ι j 0))
   unfolding instr_at names
   given_at =
-      instr_cases (λ k x. (names x).value_rows ≡ cond (eqb (given_place (code_of k)) 0) [] (cell 8 ι j (given_place (code_of k)) ∷ [])) ω (cell 8 ι j 1) (cell 8 ι j 2) (cell 8 ι j 3) (cell 8 ι j 4) (cell 8 ι j 5) (cell 8 ι j 6)
+      instr_cases (λ k x. (names x).value_rows ≡ given_rows (given_place k)) ω (cell 8 ι j 1) (cell 8 ι j 2) (cell 8 ι j 3) (cell 8 ι j 4) (cell 8 ι j 5) (cell 8 ι j 6)
       (tt & refl & refl & refl & refl & refl & refl & refl & refl & refl & refl & refl & refl & refl & refl & refl & refl & refl & refl & refl & refl & refl & refl & refl & refl)
-      (λ k l. rw (le-ltb k 24 l) refl)
+      (λ k l. rw (given_past k l) refl)
       (cell 8 ι j 0)
 
-  operands_at_lem : (names (instr_at ι ω j)).operands ≡ operands_at ω (cell 8 ι j 5) (count_of (code_of (cell 8 ι j 0)) (cell 8 ι j 6))
+  operands_at_lem : (names (instr_at ι ω j)).operands ≡ operands_at ω (cell 8 ι j 5) (count_of (cell 8 ι j 0) (cell 8 ι j 6))
   unfolding instr_at names operands_at
   operands_at_lem =
-      instr_cases (λ k x. (names x).operands ≡ operands_at ω (cell 8 ι j 5) (count_of (code_of k) (cell 8 ι j 6))) ω (cell 8 ι j 1) (cell 8 ι j 2) (cell 8 ι j 3) (cell 8 ι j 4) (cell 8 ι j 5) (cell 8 ι j 6)
+      instr_cases (λ k x. (names x).operands ≡ operands_at ω (cell 8 ι j 5) (count_of k (cell 8 ι j 6))) ω (cell 8 ι j 1) (cell 8 ι j 2) (cell 8 ι j 3) (cell 8 ι j 4) (cell 8 ι j 5) (cell 8 ι j 6)
       (tt & refl & refl & refl & refl & refl & refl & refl & refl & refl & refl & refl & refl & refl & refl & refl & refl & refl & refl & refl & refl & refl & refl & refl & refl)
-      (λ k l. rw (le-ltb k 24 l) refl)
+      (λ k l. rw (count_past k _ l) refl)
       (cell 8 ι j 0)
 
-  given_none : (k g : ℕ) → k ≡ code_of (cell 8 ι j 0) → g ≡ given_place k → g ≡ 0 → (names (instr_at ι ω j)).value_rows ≡ []
-  given_none k g ek eg z =
-      let q : eqb (given_place (code_of (cell 8 ι j 0))) 0 ≡ true = eq-eqb _ 0 (ap given_place (sym ek) ∙ (sym eg ∙ z)) in
-      given_at ∙ ap (λ (b : Bool). cond b [] (cell 8 ι j (given_place (code_of (cell 8 ι j 0))) ∷ [])) q
-
-  given_some : (k g t : ℕ) → k ≡ code_of (cell 8 ι j 0) → g ≡ given_place k → (g ≡ 0 → ⊥) → t ≡ cell 8 ι j g → (names (instr_at ι ω j)).value_rows ≡ t ∷ []
-  given_some k g t ek eg z et =
-      let e : g ≡ given_place (code_of (cell 8 ι j 0)) = eg ∙ ap given_place ek in
-      let q : eqb (given_place (code_of (cell 8 ι j 0))) 0 ≡ false = ne_eqb _ 0 (λ w. z (e ∙ w)) in
-      given_at ∙ (ap (λ (b : Bool). cond b [] (cell 8 ι j (given_place (code_of (cell 8 ι j 0))) ∷ [])) q ∙ ap (λ (x : ℕ). x ∷ []) (sym (et ∙ ap (cell 8 ι j) e)))
-
-  operands_by : (k c v m : ℕ) → k ≡ code_of (cell 8 ι j 0) → c ≡ cell 8 ι j 6 → v ≡ cell 8 ι j 5 → m ≡ count_of k c → operands_at ω v m ≡ (names (instr_at ι ω j)).operands
+  operands_by : (k c v m : ℕ) → k ≡ cell 8 ι j 0 → c ≡ cell 8 ι j 6 → v ≡ cell 8 ι j 5 → m ≡ count_of k c → operands_at ω v m ≡ (names (instr_at ι ω j)).operands
   operands_by k c v m ek ec ev em = ap₂ (operands_at ω) ev (em ∙ ap₂ count_of ek ec) ∙ sym operands_at_lem
 
 -- the least fault of an instruction is that of its row t and of its operands
@@ -229,18 +195,20 @@ module _ (rs ps : List ℕ) (n nb : ℕ) where
       turn a b c = sym (least_assoc a b c) ∙ (ap (λ (y : ℕ). least y c) (least_comm a b) ∙ least_assoc b a c)
 
   module _ (ι : List ℕ) (ω : OperandTable) (j : ℕ) where
-    pub instr_bare : (k c v m g f : ℕ) → k ≡ code_of (cell 8 ι j 0) → c ≡ cell 8 ι j 6 → v ≡ cell 8 ι j 5 → m ≡ count_of k c → g ≡ given_place k → g ≡ 0 → f ≡ operands_least rs n nb (operands_at ω v m) → f ≡ least_of (instr_faults (rows_in (tab rs ps) n) nb (instr_at ι ω j))
+    pub instr_bare : (k c v m f : ℕ) → k ≡ cell 8 ι j 0 → c ≡ cell 8 ι j 6 → v ≡ cell 8 ι j 5 → m ≡ count_of k c → None ≡ given_place k → f ≡ operands_least rs n nb (operands_at ω v m) → f ≡ least_of (instr_faults (rows_in (tab rs ps) n) nb (instr_at ι ω j))
     unfolding refs_least least
-    instr_bare k c v m g f ek ec ev em eg z ef =
+    instr_bare k c v m f ek ec ev em eg ef =
+        let none_given : (names (instr_at ι ω j)).value_rows ≡ [] = given_at ι ω j ∙ ap (given_rows ι ω j) (sym (eg ∙ ap given_place ek)) in
         ef ∙ (ap (operands_least rs n nb) (operands_by ι ω j k c v m ek ec ev em)
-        ∙ (ap (λ (l : List ℕ). least (refs_least rs n (map (ref value_row) l)) (operands_least rs n nb (names (instr_at ι ω j)).operands)) (sym (given_none ι ω j k g ek eg z))
+        ∙ (ap (λ (l : List ℕ). least (refs_least rs n (map (ref value_row) l)) (operands_least rs n nb (names (instr_at ι ω j)).operands)) (sym none_given)
         ∙ sym (instr_least (instr_at ι ω j))))
 
-    pub instr_given : (k c v m g f t y out : ℕ) → k ≡ code_of (cell 8 ι j 0) → c ≡ cell 8 ι j 6 → v ≡ cell 8 ι j 5 → m ≡ count_of k c
-        → g ≡ given_place k → (g ≡ 0 → ⊥) → f ≡ operands_least rs n nb (operands_at ω v m) → t ≡ cell 8 ι j g → y ≡ ref_least rs n value_row t
+    pub instr_given : (k c v m g f t y out : ℕ) → k ≡ cell 8 ι j 0 → c ≡ cell 8 ι j 6 → v ≡ cell 8 ι j 5 → m ≡ count_of k c
+        → Some g ≡ given_place k → f ≡ operands_least rs n nb (operands_at ω v m) → t ≡ cell 8 ι j g → y ≡ ref_least rs n value_row t
         → out ≡ least y f → out ≡ least_of (instr_faults (rows_in (tab rs ps) n) nb (instr_at ι ω j))
-    instr_given k c v m g f t y out ek ec ev em eg z ef et ey o =
+    instr_given k c v m g f t y out ek ec ev em eg ef et ey o =
+        let one_given : (names (instr_at ι ω j)).value_rows ≡ t ∷ [] = given_at ι ω j ∙ ap (given_rows ι ω j) (sym (eg ∙ ap given_place ek)) ∙ ap (λ (x : ℕ). x ∷ []) (sym et) in
         o ∙ (ap₂ least
-        (ey ∙ (sym (one_ref rs n value_row t) ∙ ap (λ (l : List ℕ). refs_least rs n (map (ref value_row) l)) (sym (given_some ι ω j k g t ek eg z et))))
+        (ey ∙ (sym (one_ref rs n value_row t) ∙ ap (λ (l : List ℕ). refs_least rs n (map (ref value_row) l)) (sym one_given)))
         (ef ∙ ap (operands_least rs n nb) (operands_by ι ω j k c v m ek ec ev em))
         ∙ sym (instr_least (instr_at ι ω j)))

@@ -4,10 +4,15 @@ use native.Mathlib.Omega.{arith}
 use mathlib.Core.Path.{◌≡◌, refl, sym, ap, ap₂, ◌∙◌}
 use mathlib.Core.Bool.{Bool, true, false, not}
 use mathlib.Core.Option.{Option, none, some}
+use Rattle.std.specs.Prelude.{Option as CodeOption, Some, None}
+use Rattle.std.specs.Option.{is_some}
+use Rattle.faults.specs.declared.Fault.{Fault as CodeFault}
+use Rattle.faults.specs.Numbers.{number}
+use Rattle.faults.proofs.Numbers.{number_above}
 use mathlib.Core.List.{List, [], ◌∷◌, ◌++◌, map}
-use lib.Dec.{eqb, ltb}
+use lib.Dec.{ltb}
 use lib.ListN.{length}
-use borrow.Author.Tests.{ltb-true, ltb-false, ne_eqb}
+use borrow.Author.Tests.{ltb-true, ltb-false}
 use Rattle.syntax.specs.Syntax.{Row, Instr, Entry, row, block, instr}
 use Rattle.syntax.specs.Fault.{Fault, given, Pass, Refusal, first_item, lowest_line, or_else}
 use Rattle.syntax.proofs.Least.{least_of, Numbered, numbered_given, numbered_append, item_given, no_item_append, refuse_plain, line_next, line_here, line_append}
@@ -16,8 +21,8 @@ use Rattle.text.specs.Entries.{blocks_entries, entries_in}
 use Rattle.tables.specs.Tables.{cell, RowTable, rows_in, OperandTable, instr_at, instrs_from, blocks_from}
 use Rattle.tables.proofs.Steps.{length_instrs, length_rows, instrs_step, end_of, end_inner, blocks_step}
 use Rattle.types.specs.Rows.{Ref, ref, value_row, code_row, operands_refs, labels, names, all_below, refs_faults, rows_faults, instr_faults, entries_faults, pass_two}
-use Rattle.types_pass_two.specs.refs.Refs.{found_of, refusal_of, Rising}
-use Rattle.types_pass_two.specs.declared.refs.Found.{Found}
+use Rattle.types_pass_two.specs.refs.Refs.{refusal_of, Rising}
+use Rattle.faults.specs.declared.LineFault.{LineFault}
 use Rattle.types_pass_two.proofs.row_refs.References.{numbered_refs, item_refs}
 
 -- ---- faults
@@ -47,13 +52,6 @@ plain_entries rows nb (row r ∷ es) = plain_entries rows nb es
 plain_entries rows nb (block c ∷ es) = (plain_refs rows _, plain_entries rows nb es)
 plain_entries rows nb (instr x ∷ es) = (plain_instr rows nb x, plain_entries rows nb es)
 
--- an answer with the number 0 says that there is no fault
-found_none : (n : ℕ) (p : Pass) → AllPlain p → (found_of (lowest_line n p)).number ≡ 0 → lowest_line n p ≡ none
-unfolding lowest_line found_of least_of
-found_none n [] h e = refl
-found_none n ([] ∷ p) h e = found_none (suc n) p h.1 e
-found_none n ((f ∷ fs) ∷ p) h e = let q : f ∷ fs ≡ [] = h.0.numbered e in let z : ◌≡◌ {A = ℕ} 0 1 = cc in absurd (omega arith)
-
 -- ---- entries
 entries_append : (rows : List Row) (nb : ℕ) (es fs : List Entry) → entries_faults rows nb (es ++ fs) ≡ entries_faults rows nb es ++ entries_faults rows nb fs
 unfolding entries_faults
@@ -74,43 +72,44 @@ instrs_length rows nb [] = refl
 instrs_length rows nb (x ∷ xs) = ap suc (instrs_length rows nb xs)
 
 -- ---- the loop over instructions
+-- no fault has the number 0
+pub number_is : (f : CodeFault) → number f ≡ 0 → ⊥
+number_is f e = let h = number_above f in omega (arith, h)
+
+-- the lowest line with a fault, where the line's least fault is f
+pub line_found : (f n line : ℕ) (fs : List Fault) (p : Pass) → Plain fs → f ≡ least_of fs → (f ≡ 0 → ⊥) → line ≡ n → some (record { number = f; line = line; item = none }) ≡ lowest_line n (fs ∷ p)
+line_found f n line fs p h e z q =
+    sym (line_here n fs p (λ w. z (e ∙ w)) ∙ ap some (refuse_plain (least_of fs) n fs h.no_item ∙ rw (q, e) refl))
+
 module _ (rows : List Row) (nb : ℕ) (ι : List ℕ) (ω : OperandTable) (e base : ℕ) where
-  abbrev pub instrs_left : ℕ → Found
-  instrs_left i = found_of (lowest_line (base + i) (entries_faults rows nb (map instr (instrs_from ι ω i (e - i)))))
+  abbrev pub instrs_left : ℕ → Option Refusal
+  instrs_left i = lowest_line (base + i) (entries_faults rows nb (map instr (instrs_from ι ω i (e - i))))
 
-  instrs_cons : (i : ℕ) → i < e → instrs_left i ≡ found_of (lowest_line (base + i) (instr_faults rows nb (instr_at ι ω i) ∷ entries_faults rows nb (map instr (instrs_from ι ω (i + 1) (e - (i + 1))))))
+  instrs_cons : (i : ℕ) → i < e → instrs_left i ≡ lowest_line (base + i) (instr_faults rows nb (instr_at ι ω i) ∷ entries_faults rows nb (map instr (instrs_from ι ω (i + 1) (e - (i + 1)))))
   unfolding entries_faults
-  instrs_cons i h = ap (λ (xs : List Instr). found_of (lowest_line (base + i) (entries_faults rows nb (map instr xs)))) (instrs_step ι ω i e h)
+  instrs_cons i h = ap (λ (xs : List Instr). lowest_line (base + i) (entries_faults rows nb (map instr xs))) (instrs_step ι ω i e h)
 
-  pub instrs_found : (i f : ℕ) → i < e → f ≡ least_of (instr_faults rows nb (instr_at ι ω i)) → (f ≡ 0 → ⊥) → instrs_left i ≡ record { number = f; line = base + i }
-  unfolding found_of
-  instrs_found i f h ef z =
-      instrs_cons i h ∙ (ap found_of (line_here (base + i) (instr_faults rows nb (instr_at ι ω i)) _ (λ q. z (ef ∙ q)))
-      ∙ ap (λ (k : ℕ). record { number = k; line = base + i }) (sym ef))
+  pub instrs_found : (i f : ℕ) → i < e → f ≡ least_of (instr_faults rows nb (instr_at ι ω i)) → (f ≡ 0 → ⊥) → some (record { number = f; line = base + i; item = none }) ≡ instrs_left i
+  instrs_found i f h ef z = line_found f (base + i) (base + i) (instr_faults rows nb (instr_at ι ω i)) _ (plain_instr rows nb (instr_at ι ω i)) ef z refl ∙ sym (instrs_cons i h)
 
-  pub instrs_next : (i f : ℕ) → i < e → f ≡ least_of (instr_faults rows nb (instr_at ι ω i)) → f ≡ 0 → instrs_left i ≡ instrs_left (i + 1)
+  pub instrs_next : (i f : ℕ) → i < e → f ≡ least_of (instr_faults rows nb (instr_at ι ω i)) → f ≡ 0 → instrs_left (i + 1) ≡ instrs_left i
   instrs_next i f h ef z =
       let q : suc (base + i) ≡ base + (i + 1) = omega arith in
       let p : Pass = entries_faults rows nb (map instr (instrs_from ι ω (i + 1) (e - (i + 1)))) in
-      instrs_cons i h
-      ∙ ap found_of (line_next (base + i) (instr_faults rows nb (instr_at ι ω i)) p ((plain_instr rows nb (instr_at ι ω i)).numbered (sym ef ∙ z)) ∙ ap (λ (l : ℕ). lowest_line l p) q)
+      sym (instrs_cons i h
+      ∙ (line_next (base + i) (instr_faults rows nb (instr_at ι ω i)) p ((plain_instr rows nb (instr_at ι ω i)).numbered (sym ef ∙ z)) ∙ ap (λ (l : ℕ). lowest_line l p) q))
 
-  pub instrs_end : (i : ℕ) → e ≤ i → instrs_left i ≡ record { number = 0; line = 0 }
-  unfolding instrs_from entries_faults lowest_line found_of
+  pub instrs_end : (i : ℕ) → e ≤ i → none ≡ instrs_left i
+  unfolding instrs_from entries_faults lowest_line
   instrs_end i h = let d : e - i ≡ 0 = omega arith in rw d refl
 
 -- ---- the loop over blocks
-or_found : (o p : Option Refusal) → ((found_of o).number ≡ 0 → ⊥) → found_of (or_else o p) ≡ found_of o
-unfolding found_of
-or_found none p h = absurd (h refl)
-or_found (some r) p h = refl
-
 module _ (rows : List Row) (nb : ℕ) (β ι : List ℕ) (ω : OperandTable) (ni n : ℕ) where
   abbrev pass_from : ℕ → Pass
   pass_from b = entries_faults rows nb (entries_in [] (blocks_from β ι ω ni b (nb - b)))
 
-  abbrev pub blocks_left : ℕ → Found
-  blocks_left b = found_of (lowest_line (n + b + cell 2 β b 1 + 1) (pass_from b))
+  abbrev pub blocks_left : ℕ → Option Refusal
+  blocks_left b = lowest_line (n + b + cell 2 β b 1 + 1) (pass_from b)
 
   abbrev pub body_pass : ℕ → ℕ → Pass
   body_pass s e = entries_faults rows nb (map instr (instrs_from ι ω s (e - s)))
@@ -128,10 +127,10 @@ module _ (rows : List Row) (nb : ℕ) (β ι : List ℕ) (ω : OperandTable) (ni
       go true e = ap (λ (m : ℕ). lowest_line m (pass_from b)) (h (ltb-true b nb e))
       go false e = rw (pass_none b (ltb-false b nb e)) refl
 
-  pub blocks_start : Rising β nb → blocks_left 0 ≡ found_of (lowest_line (n + 1) (entries_faults rows nb (entries_in [] (blocks_from β ι ω ni 0 nb))))
+  pub blocks_start : Rising β nb → blocks_left 0 ≡ lowest_line (n + 1) (entries_faults rows nb (entries_in [] (blocks_from β ι ω ni 0 nb)))
   blocks_start up =
       let d : nb - 0 ≡ nb = omega arith in
-      ap found_of (line_free 0 (n + 0 + cell 2 β 0 1 + 1) (n + 1) (λ h. omega (arith, up.first h))
+      (line_free 0 (n + 0 + cell 2 β 0 1 + 1) (n + 1) (λ h. omega (arith, up.first h))
       ∙ ap (λ (m : ℕ). lowest_line (n + 1) (entries_faults rows nb (entries_in [] (blocks_from β ι ω ni 0 m)))) d)
 
   -- block b, with its code row c and its instructions s to e - 1
@@ -142,12 +141,10 @@ module _ (rows : List Row) (nb : ℕ) (β ι : List ℕ) (ω : OperandTable) (ni
         ap (λ (bs : List Listing). entries_faults rows nb (entries_in [] bs)) (blocks_step β ι ω ni nb b h)
         ∙ rw (← ec, ← es, ← ee) (ap (◌∷◌ (refs_faults rows (ref code_row c ∷ []))) (entries_append rows nb (map instr (instrs_from ι ω s (e - s))) (blocks_entries (blocks_from β ι ω ni (b + 1) (nb - (b + 1))))))
 
-    pub block_found : (f : ℕ) → f ≡ least_of (refs_faults rows (ref code_row c ∷ [])) → (f ≡ 0 → ⊥) → blocks_left b ≡ record { number = f; line = n + b + s + 1 }
-    unfolding found_of
+    pub block_found : (f : ℕ) → f ≡ least_of (refs_faults rows (ref code_row c ∷ [])) → (f ≡ 0 → ⊥) → some (record { number = f; line = n + b + s + 1; item = none }) ≡ blocks_left b
     block_found f ef z =
-        ap (λ (p : Pass). found_of (lowest_line (n + b + cell 2 β b 1 + 1) p)) pass_cons
-        ∙ (ap found_of (line_here (n + b + cell 2 β b 1 + 1) (refs_faults rows (ref code_row c ∷ [])) _ (λ q. z (ef ∙ q)))
-        ∙ rw (es, ef) refl)
+        line_found f (n + b + cell 2 β b 1 + 1) (n + b + s + 1) (refs_faults rows (ref code_row c ∷ [])) _ (plain_refs rows (ref code_row c ∷ [])) ef z (omega arith)
+        ∙ ap (lowest_line (n + b + cell 2 β b 1 + 1)) (sym pass_cons)
 
     -- the block's line has no fault
     body : least_of (refs_faults rows (ref code_row c ∷ [])) ≡ 0 → lowest_line (n + b + cell 2 β b 1 + 1) (pass_from b) ≡ or_else (lowest_line (n + b + 2 + s) (body_pass s e)) (lowest_line (n + b + 2 + s + length (body_pass s e)) (pass_from (b + 1)))
@@ -157,18 +154,16 @@ module _ (rows : List Row) (nb : ℕ) (β ι : List ℕ) (ω : OperandTable) (ni
         ∙ (line_next (n + b + cell 2 β b 1 + 1) (refs_faults rows (ref code_row c ∷ [])) (body_pass s e ++ pass_from (b + 1)) ((plain_refs rows (ref code_row c ∷ [])).numbered z)
         ∙ (ap (λ (l : ℕ). lowest_line l (body_pass s e ++ pass_from (b + 1))) q ∙ line_append (n + b + 2 + s) (body_pass s e) (pass_from (b + 1))))
 
-    pub body_found : (f : ℕ) (g : Found) → f ≡ least_of (refs_faults rows (ref code_row c ∷ [])) → f ≡ 0 → g ≡ found_of (lowest_line (n + b + 2 + s) (body_pass s e)) → (g.number ≡ 0 → ⊥) → blocks_left b ≡ g
-    body_found f g ef z eg w =
-        ap found_of (body (sym ef ∙ z)) ∙ (or_found (lowest_line (n + b + 2 + s) (body_pass s e)) _ (λ q. w (ap (λ (x : Found). x.number) eg ∙ q)) ∙ sym eg)
+    pub body_found : (f : ℕ) (o : CodeOption LineFault) → f ≡ least_of (refs_faults rows (ref code_row c ∷ [])) → f ≡ 0 → refusal_of o ≡ lowest_line (n + b + 2 + s) (body_pass s e) → is_some o ≡ true → refusal_of o ≡ blocks_left b
+    body_found f None ef z eo w = cc
+    body_found f (Some x) ef z eo w =
+        sym (body (sym ef ∙ z) ∙ ap (λ (y : Option Refusal). or_else y (lowest_line (n + b + 2 + s + length (body_pass s e)) (pass_from (b + 1)))) (sym eo))
 
-    body_none : (g : Found) → g ≡ found_of (lowest_line (n + b + 2 + s) (body_pass s e)) → g.number ≡ 0 → lowest_line (n + b + 2 + s) (body_pass s e) ≡ none
-    body_none g eg w =
-        found_none (n + b + 2 + s) (body_pass s e) (plain_entries rows nb (map instr (instrs_from ι ω s (e - s)))) (ap (λ (x : Found). x.number) (sym eg) ∙ w)
-
-    pub block_next : Rising β nb → (f : ℕ) (g : Found) → f ≡ least_of (refs_faults rows (ref code_row c ∷ [])) → f ≡ 0 → g ≡ found_of (lowest_line (n + b + 2 + s) (body_pass s e)) → g.number ≡ 0 → blocks_left b ≡ blocks_left (b + 1)
-    block_next up f g ef z eg w =
+    pub block_next : Rising β nb → (f : ℕ) (o : CodeOption LineFault) → f ≡ least_of (refs_faults rows (ref code_row c ∷ [])) → f ≡ 0 → refusal_of o ≡ lowest_line (n + b + 2 + s) (body_pass s e) → is_some o ≡ false → blocks_left (b + 1) ≡ blocks_left b
+    block_next up f (Some x) ef z eo w = cc
+    block_next up f None ef z eo w =
         let len : length (body_pass s e) ≡ e - s = instrs_length rows nb (instrs_from ι ω s (e - s)) ∙ length_instrs ι ω s (e - s) in
-        ap found_of (body (sym ef ∙ z) ∙ (ap (λ (o : Option Refusal). or_else o (lowest_line (n + b + 2 + s + length (body_pass s e)) (pass_from (b + 1)))) (body_none g eg w)
+        sym (body (sym ef ∙ z) ∙ (ap (λ (x : Option Refusal). or_else x (lowest_line (n + b + 2 + s + length (body_pass s e)) (pass_from (b + 1)))) (sym eo)
         ∙ line_free (b + 1) (n + b + 2 + s + length (body_pass s e)) (n + (b + 1) + cell 2 β (b + 1) 1 + 1) (λ l. lines l len)))
       where
         lines : b + 1 < nb → length (body_pass s e) ≡ e - s → n + b + 2 + s + length (body_pass s e) ≡ n + (b + 1) + cell 2 β (b + 1) 1 + 1
@@ -178,27 +173,11 @@ module _ (rows : List Row) (nb : ℕ) (β ι : List ℕ) (ω : OperandTable) (ni
             let t : e ≡ cell 2 β (b + 1) 1 = ee ∙ sym (end_inner β ni nb b l) in
             omega arith
 
-  pub blocks_end : (b : ℕ) → nb ≤ b → blocks_left b ≡ record { number = 0; line = 0 }
-  unfolding lowest_line found_of
+  pub blocks_end : (b : ℕ) → nb ≤ b → none ≡ blocks_left b
+  unfolding lowest_line
   blocks_end b h = rw (pass_none b h) refl
 
 -- ---- the whole refusal
--- a number that is not 0, without an item
-refusal_plain : (m n : ℕ) → (m ≡ 0 → ⊥) → some (record { number = m; line = n; item = none }) ≡ refusal_of (record { number = m; line = n })
-unfolding refusal_of
-refusal_plain m n h = let z : eqb m 0 ≡ false = ne_eqb m 0 h in rw z
-
-refusal_found : (n : ℕ) (p : Pass) → AllPlain p → lowest_line n p ≡ refusal_of (found_of (lowest_line n p))
-unfolding lowest_line found_of refusal_of
-refusal_found n [] h = refl
-refusal_found n ([] ∷ p) h = refusal_found (suc n) p h.1
-refusal_found n ((f ∷ fs) ∷ p) h =
-    let e = line_here n (f ∷ fs) p (λ e. cons_nil (h.0.numbered e)) in
-    e ∙ ap some (refuse_plain (least_of (f ∷ fs)) n (f ∷ fs) h.0.no_item) ∙ refusal_plain (least_of (f ∷ fs)) n (λ e. cons_nil (h.0.numbered e)) ∙ ap (λ (o : Option Refusal). refusal_of (found_of o)) (sym e)
-  where
-    cons_nil : f ∷ fs ≡ [] → ⊥
-    cons_nil e = let z : ◌≡◌ {A = ℕ} 0 1 = cc in omega arith
-
 -- the lowest line of pass two: that of the type lines, or else that of the lines behind them
 pub pass_two_lem : (τ : RowTable) (n nb : ℕ) (bs : List Listing) → lowest_line 0 (pass_two (rows_in τ n) nb (entries_in (rows_in τ n) bs)) ≡ or_else (lowest_line 1 (rows_faults (rows_in τ n) 0 (rows_in τ n))) (lowest_line (n + 1) (entries_faults (rows_in τ n) nb (entries_in [] bs)))
 unfolding pass_two lowest_line rows_faults
@@ -210,7 +189,3 @@ pass_two_lem τ n nb bs =
     length_faults : (rows : List Row) (k : ℕ) (rs : List Row) → length (rows_faults rows k rs) ≡ length rs
     length_faults rows k [] = refl
     length_faults rows k (r ∷ rs) = ap suc (length_faults rows (suc k) rs)
-
--- a refusal by what `code_fault` answers
-pub whole_refusal : (n : ℕ) (rows : List Row) (nb : ℕ) (es : List Entry) → lowest_line n (entries_faults rows nb es) ≡ refusal_of (found_of (lowest_line n (entries_faults rows nb es)))
-whole_refusal n rows nb es = refusal_found n (entries_faults rows nb es) (plain_entries rows nb es)

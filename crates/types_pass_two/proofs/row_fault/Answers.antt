@@ -1,15 +1,20 @@
-use mathlib.Core.Path.{ap, sym, ◌∙◌}
+use mathlib.Core.Path.{◌≡◌, refl, ap, ◌∙◌}
 use mathlib.Core.Bool.{cond}
 use Rattle.types_pass_two.proofs.Laws.{row_refs_lem, row_size}
+use Rattle.types_pass_two.proofs.refs.Lines.{number_is}
+use Rattle.std.specs.Bool.{then_some}
+use Rattle.faults.specs.Numbers.{fault_number}
+use Rattle.faults.specs.declared.Fault.TheVariants.{TooLarge}
+use mathlib.Core.Bool.{Bool, true, false}
 use Rattle.types_pass_two.proofs.row_fault.Goals as goal
 
-pub returns-then-f-ne0 : goal.returns-then-f-ne0
-returns-then-f-ne0 c = (row_refs_lem _ _ _ (search) (search), search)
+size_number : (b : Bool) → fault_number (then_some b TooLarge) ≡ cond b 6 0
+size_number true = refl
+size_number false = refl
 
-pub returns-then-size_over : goal.returns-then-size_over
-returns-then-size_over c =
-    (ap (λ b. cond b 6 0) (sym c.if-size_over.true) ∙ row_size _ _ _ c.row_fault-f.ensures _ c.size_over.ensures.0 (search), search)
+pub returns-in-Some : goal.returns-in-Some
+returns-in-Some c = (row_refs_lem _ _ _ c.in-Some.ensures (number_is c.in-Some.f), search)
 
 pub returns : goal.returns
 returns c =
-    (ap (λ b. cond b 6 0) (sym c.if-size_over.false) ∙ row_size _ _ _ c.row_fault-f.ensures _ c.size_over.ensures.0 (search), search)
+    (ap fault_number c.then_some.ensures ∙ size_number c.size_over.result ∙ row_size _ _ _ c.in_default.ensures _ c.size_over.ensures.0 refl, search)

@@ -6,7 +6,7 @@ use mathlib.Core.Bool.{Bool, true, false, ◌&&◌, not, cond}
 use mathlib.Core.Option.{Option, none, some}
 use mathlib.Core.List.{List, [], ◌∷◌, ◌++◌, map}
 use lib.Dec.{eqb, ltb}
-use lib.ListN.{length, get_or, get_or-eq_default}
+use lib.ListN.{length, get_or}
 use borrow.Author.Tests.{le-ltb, ne_eqb}
 use Rattle.syntax.specs.Syntax.{Row}
 use Rattle.syntax.specs.Fault.{given, number_of, first_item, lowest}
@@ -248,28 +248,3 @@ module _ (τ : RowTable) (sizes : List ℕ) (r : ℕ) where
 -- ---- blocks
 pub block_least : (rs ps : List ℕ) (n c out : ℕ) → out ≡ ref_least rs n code_row c → out ≡ least_of (refs_faults (rows_in (tab rs ps) n) (ref code_row c ∷ []))
 block_least rs ps n c out o = o ∙ (sym (one_ref rs n code_row c) ∙ sym (refs_least_lem (tab rs ps) n (ref code_row c ∷ [])))
-
--- ---- numbers
--- past a table's end
-pub past : (s : List ℕ) (i : ℕ) → length s ≤ i → (0 ≡ get_or s i 0) × (0 ≤ 65535)
-past s i h = (sym (get_or-eq_default s 0 h), omega arith)
-
--- the four ways to the lower of two
-pub lower_first : (a b : ℕ) → (a ≡ 0 → ⊥) → a < b → a ≡ least a b
-unfolding least
-lower_first zero b h l = absurd (h refl)
-lower_first (suc a) zero h l = refl
-lower_first (suc a) (suc b) h l = omega arith
-
-pub lower_second : (a b : ℕ) → (b ≡ 0 → ⊥) → b ≤ a → b ≡ least a b
-unfolding least
-lower_second zero b h l = refl
-lower_second (suc a) zero h l = absurd (h refl)
-lower_second (suc a) (suc b) h l = omega arith
-
-pub lower_none : (a b : ℕ) → a ≡ 0 → b ≡ least a b
-unfolding least
-lower_none a b e = rw e refl
-
-pub lower_only : (a b : ℕ) → b ≡ 0 → a ≡ least a b
-lower_only a b e = rw e (sym (least_none a))

@@ -1,6 +1,4 @@
-use Prim.Native.Nat.{◌-◌}
 use mathlib.Core.Path.{◌≡◌}
-use lib.ListN.{length}
 use Rattle.syntax.specs.Fault.{lowest_line}
 use Rattle.types.specs.Rows.{rows_faults}
 use Rattle.tables.specs.Tables.{rows_in}
@@ -11,7 +9,4 @@ use Rattle.types_pass_two.proofs.rows_fault.Given as goal
 
 abbrev pub invariant-loop-r : goal.invariant-loop-r
 invariant-loop-r l =
-    (rows_left (tab l.rows l.parts) l.n l.r ≡ lowest_line 1 (rows_faults (rows_in (tab l.rows l.parts) l.n) 0 (rows_in (tab l.rows l.parts) l.n))) × Measured (tab l.rows l.parts) l.sizes × (length l.sizes ≡ length l.initial.sizes)
-
-abbrev pub decreases-loop-r : goal.decreases-loop-r
-decreases-loop-r l = l.n - l.r
+    (rows_left (tab l.rows l.parts) l.n l.r ≡ lowest_line 1 (rows_faults (rows_in (tab l.rows l.parts) l.n) 0 (rows_in (tab l.rows l.parts) l.n))) × Measured (tab l.rows l.parts) l.sizes

@@ -1,11 +1,12 @@
 -- What the public functions promise is said with these: the faults that stand on lines, the answer, where blocks start.
-use Rattle.std.specs.Prelude.{ℕ, suc, ◌≤◌, ◌<◌, ◌≡◌, cond, List, [], eqb}
+use Rattle.std.specs.Prelude.{ℕ, suc, ◌≤◌, ◌<◌, ◌≡◌, List, [], Option as CodeOption, Some, None}
 use Rattle.std.proofs.Math.Option.{Option, none, some}
 use Rattle.syntax.specs.Fault.{Pass, Refusal}
 use Rattle.text.specs.Entries.{entries_in}
 use Rattle.tables.specs.Tables.{cell, RowTable, rows_in, OperandTable, blocks_from}
 use Rattle.types.specs.Rows.{entries_faults}
-use Rattle.types_pass_two.specs.declared.refs.Found.{Found}
+use Rattle.faults.specs.declared.LineFault.{LineFault}
+use Rattle.faults.specs.Numbers.{number}
 
 -- ---- faults
 -- the faults of all lines behind n type lines: nb blocks and ni instructions
@@ -13,14 +14,10 @@ abbrev pub code_faults : RowTable → ℕ → List ℕ → ℕ → List ℕ → 
 code_faults τ n β nb ι ni ω = entries_faults (rows_in τ n) nb (entries_in [] (blocks_from β ι ω ni 0 nb))
 
 -- ---- the answer
--- a fault's number and line; 0 and 0 for none
-unfoldable pub found_of : Option Refusal → Found
-found_of none = record { number = 0; line = 0 }
-found_of (some r) = record { number = r.number; line = r.line }
-
--- the other way, for faults that name no items
-unfoldable pub refusal_of : Found → Option Refusal
-refusal_of f = cond (eqb f.number 0) none (some (record { number = f.number; line = f.line; item = none }))
+-- the refusal for a fault on a line; such faults name no items
+abbrev pub refusal_of : CodeOption LineFault → Option Refusal
+refusal_of None = none
+refusal_of (Some f) = some (record { number = number f.fault; line = f.line; item = none })
 
 -- ---- blocks
 -- the starts of nb blocks rise from 0

@@ -45,6 +45,14 @@ module _ (τ : RowTable) where
   pub count_join : {n : ℕ} (x y c d : ℕ) → c ≡ items_at τ.rows x → items_at τ.rows x ≡ items (mean_s τ x) → d ≡ items_at τ.rows y → items_at τ.rows y ≡ items (mean_s τ y) → items (join (mean_s τ x) (mean_s τ y)) ≡ n → c + d ≡ n
   count_join x y c d e f g h i = let s = items_join (mean_s τ x) (mean_s τ y) in omega arith
 
+  -- a form that is none of those
+  pub count_rest : (h : ℕ) (n : Stk) → n ≡ stack_at τ.rows (place_s 0 (lift 0) 0) h → ((k : ℕ) → n ≡ StkVar k → ⊥) → ((t x : ℕ) → n ≡ Push t x → ⊥) → ((x y : ℕ) → n ≡ Join x y → ⊥) → 0 ≡ items (mean_s τ h)
+  count_rest h Nil e v p j = count_nil (count_by h e refl)
+  count_rest h (StkVar k) e v p j = absurd (v k refl)
+  count_rest h (StkFill k) e v p j = count_nil (count_by h e refl)
+  count_rest h (Push t x) e v p j = absurd (p t x refl)
+  count_rest h (Join x y) e v p j = absurd (j x y refl)
+
   -- no stack has more items than its size
   items_build : (h : ℕ) (n : Stk) → LowS h n → ((x : ℕ) → x < h → items (mean_s τ x) ≤ size_at τ x) → items (build_s (mean_v τ) (mean_s τ) n) ≤ suc (under_s (size_at τ) n)
   unfolding items

@@ -11,11 +11,11 @@ stack_in-requires c =
     let l = c.narrow-w.ensures.row_low in
     (omega arith, record { few = search; small = let e = c.requires.0 in omega arith })
 
-pub returns-then-i-eq0 : goal.returns-then-i-eq0
-returns-then-i-eq0 c =
+pub returns-then-w-eq0 : goal.returns-then-w-eq0
+returns-then-w-eq0 c =
     let a = c.args in
     item_head _ _ _ _ _ _ _ c.narrow-w.ensures (c.stack_in.ensures.0 ∙ ap (λ (ρ : ℕ → ℕ). stack_at a.rows.now (place_s 0 ρ 0) c.narrow-w.result.row) (shifted_plain a.envs.now a.e c.requires.0))
     (search) (search) c.head.ensures
 
-pub returns : goal.returns
-returns c = item_none _ _ _ _ _ _ _ c.narrow-w.ensures (search)
+pub returns-else-w-eq0 : goal.returns-else-w-eq0
+returns-else-w-eq0 c = item_none _ _ _ _ _ _ _ c.narrow-w.ensures (search)

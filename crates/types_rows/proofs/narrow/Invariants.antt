@@ -2,8 +2,8 @@ use Rattle.types_rows.specs.Read.{tab}
 use Rattle.types_rows.proofs.Laws.{Found}
 use Rattle.types_rows.proofs.narrow.Given as goal
 
-abbrev pub invariant-loop-y : goal.invariant-loop-y
-invariant-loop-y l = Found (tab l.rows l.parts) l.r l.j l.n l.x l.i
+abbrev pub invariant-loop-lower : goal.invariant-loop-lower
+invariant-loop-lower l = Found (tab l.rows l.parts) l.r l.j l.n l.place.row l.place.at
 
-abbrev pub decreases-loop-y : goal.decreases-loop-y
-decreases-loop-y l = l.x
+abbrev pub decreases-loop-lower : goal.decreases-loop-lower
+decreases-loop-lower l = l.place.row

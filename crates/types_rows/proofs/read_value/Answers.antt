@@ -1,9 +1,11 @@
 use native.Mathlib.Omega.{arith}
-use Rattle.types_rows.specs.Read.{lift}
-use Rattle.types_rows.proofs.Laws.{value_of}
+use mathlib.Core.Path.{◌∙◌}
+use Rattle.types_rows.specs.Read.{lift, place_v}
+use Rattle.types_rows.proofs.Laws.{value_placed, value_variable}
 use Rattle.types_rows.proofs.read_value.Goals as goal
 
-pub returns : goal.returns
-returns c =
+pub returns-then-kind-eq2 : goal.returns-then-kind-eq2
+returns-then-kind-eq2 c =
     let z = c.if-h-eq0.false in
-    (value_of _ _ _ _ _ c.args.m (lift c.args.by) c.args.d (omega arith) c.entry.ensures.0 c.entry-2.ensures.0 c.entry-3.ensures.0 c.value_form.ensures.0, c.value_form.ensures.1)
+    let p = value_placed c.args.m c.args.h c.args.by c.args.d c.cell-a.result c.placed.ensures.bound c.placed.ensures.filled c.placed.ensures.free in
+    (p.0 ∙ value_variable c.args.rows.now (place_v c.args.m (lift c.args.by) c.args.d) c.args.h c.cell-kind.result c.cell-a.result (omega arith) c.cell-kind.ensures.0 c.if-kind-eq2.true c.cell-a.ensures.0, p.1)

@@ -12,17 +12,16 @@ use Rattle.types_rows.specs.declared.Val.{Val}
 use Rattle.types_rows.specs.declared.Val.TheVariants.{Int, Junk, ValVar, ValFill, Tuple, Pointer, Code, Hidden}
 use Rattle.types_rows.specs.declared.Stk.{Stk}
 use Rattle.types_rows.specs.declared.Stk.TheVariants.{Nil, StkVar, StkFill, Push, Join}
-use Rattle.types_rows.specs.declared.Slot.{Slot}
-use Rattle.types_rows.specs.declared.Slot.TheVariants.{Gap, Known}
-use Rattle.types_rows.specs.Read.{value_at, stack_at, is_stack_at, slot_at, place_v, place_s, lift, OkV, OkSlot}
-use Rattle.types_rows.proofs.Laws.{LowV, LowS, low_v_at, low_s_at, slot_low, plain_value, plain_stack}
-use Rattle.types_rows.specs.size.Size.{Measured, slot_size, slot_row, parts_size, under_v, under_s, size_to, size_at}
+use Rattle.std.specs.Prelude.{Option, Some, None}
+use Rattle.types_rows.specs.Read.{value_at, stack_at, is_stack_at, slot_at, OkSlot}
+use Rattle.types_rows.proofs.Laws.{LowV, LowS, low_v_at, low_s_at, slot_low}
+use Rattle.types_rows.specs.size.Size.{slot_size, parts_size, under_v, under_s, size_to, size_at}
 
 -- ---- sizes that agree below h agree at row h
 module _ (h : ℕ) (f g : ℕ → ℕ) (e : (x : ℕ) → x < h → f x ≡ g x) where
-  same_slot : (s : Slot) → OkSlot h s → slot_size f s ≡ slot_size g s
-  same_slot Gap l = refl
-  same_slot (Known t) l = e t l
+  same_slot : (s : Option ℕ) → OkSlot h s → slot_size f s ≡ slot_size g s
+  same_slot None l = refl
+  same_slot (Some t) l = e t l
 
   same_parts : (ps : List ℕ) (file : Bool) (p n : ℕ) → 0 < h → parts_size f ps file h p n ≡ parts_size g ps file h p n
   unfolding parts_size
@@ -71,16 +70,12 @@ module _ (τ : RowTable) where
   parts_end file h p zero e = refl
   parts_end file h p (suc n) e = absurd (omega arith)
 
-  slot_size_lem : (s : Slot) → slot_size (size_at τ) s ≡ size_at τ (slot_row s)
-  slot_size_lem Gap = sym size_none
-  slot_size_lem (Known t) = refl
-
-  parts_next : (file : Bool) (h p n : ℕ) {t : ℕ} → 0 < n → t ≡ slot_row (slot_at file h (get_or τ.parts p 0)) → parts_size (size_at τ) τ.parts file h p n ≡ size_at τ t + parts_size (size_at τ) τ.parts file h (p + 1) (n - 1)
+  parts_next : (file : Bool) (h p n : ℕ) → 0 < n → parts_size (size_at τ) τ.parts file h p n ≡ slot_size (size_at τ) (slot_at file h (get_or τ.parts p 0)) + parts_size (size_at τ) τ.parts file h (p + 1) (n - 1)
   unfolding parts_size
-  parts_next file h p zero z e = absurd (omega arith)
-  parts_next file h p (suc n) z e =
+  parts_next file h p zero z = absurd (omega arith)
+  parts_next file h p (suc n) z =
       let q : suc n - 1 ≡ n = omega arith in
-      rw (q, add-one p, e) (ap (λ x. x + parts_size (size_at τ) τ.parts file h (suc p) n) (slot_size_lem (slot_at file h (get_or τ.parts p 0))))
+      rw (q, add-one p) refl
 
   -- what is left after a row of either sort
   pub spent_stack : (h left : ℕ) {b : Bool} {o : ℕ} → (h ≡ 0 → ⊥) → (left ≡ 0 → ⊥) → b ≡ is_stack_at τ.rows (h - 1) → b ≡ true → o ≡ (left - 1) - under_s (size_at τ) (stack_at τ.rows StkVar h) → o ≡ left - size_at τ h
@@ -100,44 +95,18 @@ module _ (τ : RowTable) where
   pub spent_none : (h left : ℕ) → h ≡ 0 → left ≡ left - size_at τ h
   spent_none h left e = let q = size_none in let p : size_at τ h ≡ size_at τ 0 = ap (size_at τ) e in omega arith
 
-  pub spent_known : (sizes : List ℕ) (h left : ℕ) {s o : ℕ} → Measured τ sizes → s ≡ get_or sizes h 0 → (s ≡ 0 → ⊥) → o ≡ left - s → o ≡ left - size_at τ h
-  spent_known sizes h left m e z g = g ∙ ap (λ x. left - x) (e ∙ m h (λ q. z (e ∙ q)))
-
-  -- the forms that the readers answer
-  pub under_value : (h : ℕ) {n k : Val} → n ≡ value_at τ.rows (place_v 0 (lift 0) 0) h → n ≡ k → under_v (size_at τ) τ.parts h (value_at τ.rows ValVar h) ≡ under_v (size_at τ) τ.parts h k
-  under_value h e f = ap (under_v (size_at τ) τ.parts h) (sym (plain_value τ.rows h) ∙ sym e ∙ f)
-
-  pub under_stack : (h : ℕ) {n k : Stk} → n ≡ stack_at τ.rows (place_s 0 (lift 0) 0) h → n ≡ k → under_s (size_at τ) (stack_at τ.rows StkVar h) ≡ under_s (size_at τ) k
-  under_stack h e f = ap (under_s (size_at τ)) (sym (plain_stack τ.rows h) ∙ sym e ∙ f)
-
-  -- parts p + i to p + n are left, and `rest` of `left` then
+  -- parts i to p + n are left, and `rest` of `left` then
   abbrev pub Spending : Bool → ℕ → ℕ → ℕ → ℕ → ℕ → ℕ → Type 0
-  Spending file h p n left rest i = (i ≤ n) × (rest - parts_size (size_at τ) τ.parts file h (p + i) (n - i) ≡ left - parts_size (size_at τ) τ.parts file h p n)
+  Spending file h p n left rest i = rest - parts_size (size_at τ) τ.parts file h i (p + n - i) ≡ left - parts_size (size_at τ) τ.parts file h p n
 
-  pub spending_first : (file : Bool) (h p n left : ℕ) → Spending file h p n left left 0
-  spending_first file h p n left =
-      let a : p + 0 ≡ p = omega arith in
-      let b : n - 0 ≡ n = omega arith in
-      (omega arith, rw (a, b) refl)
+  pub spending_next : (file : Bool) (h p n left rest i : ℕ) {s : Option ℕ} {o : ℕ} → Spending file h p n left rest i → i < p + n → s ≡ slot_at file h (get_or τ.parts i 0) → o ≡ rest - slot_size (size_at τ) s → Spending file h p n left o (i + 1)
+  spending_next file h p n left rest i {s} {o} v l e g =
+      let q = parts_next file h i (p + n - i) (omega arith) in
+      let d : slot_size (size_at τ) s ≡ slot_size (size_at τ) (slot_at file h (get_or τ.parts i 0)) = ap (slot_size (size_at τ)) e in
+      let b : p + n - (i + 1) ≡ p + n - i - 1 = omega arith in
+      rw b (omega arith)
 
-  pub spending_next : (file : Bool) (h p n left rest i : ℕ) {s : Slot} {t o : ℕ} → Spending file h p n left rest i → i < n → s ≡ slot_at file h (get_or τ.parts (p + i) 0) → t ≡ slot_row s → o ≡ rest - size_at τ t → Spending file h p n left o (i + 1)
-  spending_next file h p n left rest i {s} {t} {o} v l e f g =
-      let q = parts_next file h (p + i) (n - i) (omega arith) (f ∙ ap slot_row e) in
-      let a : p + (i + 1) ≡ p + i + 1 = omega arith in
-      let b : n - (i + 1) ≡ n - i - 1 = omega arith in
-      let w = v.1 in
-      let x : o - parts_size (size_at τ) τ.parts file h (p + i + 1) (n - i - 1) ≡ left - parts_size (size_at τ) τ.parts file h p n = omega arith in
-      (omega arith, rw (a, b) x)
-
-  pub spending_last : (file : Bool) (h p n left rest i : ℕ) → Spending file h p n left rest i → n ≤ i → rest ≡ left - parts_size (size_at τ) τ.parts file h p n
+  pub spending_last : (file : Bool) (h p n left rest i : ℕ) → Spending file h p n left rest i → p + n ≤ i → rest ≡ left - parts_size (size_at τ) τ.parts file h p n
   spending_last file h p n left rest i v l =
-      let q = parts_end file h (p + i) (n - i) (omega arith) in
-      let w = v.1 in
+      let q = parts_end file h i (p + n - i) (omega arith) in
       omega arith
-
-pub ok_v : (m h : ℕ) {n k : Val} → OkV m h n → n ≡ k → OkV m h k
-ok_v m h o e = rw e at o
-
-pub row_low : (h : ℕ) (s : Slot) {t : ℕ} → 0 < h → OkSlot h s → t ≡ slot_row s → t < h
-row_low h Gap z o e = omega arith
-row_low h (Known x) z o e = omega arith

@@ -6,18 +6,12 @@ use Rattle.types_rows.specs.declared.Val.{Val}
 use Rattle.types_rows.specs.declared.Val.TheVariants.{Int, Junk, ValVar, ValFill, Tuple, Pointer, Code, Hidden}
 use Rattle.types_rows.specs.declared.Stk.{Stk}
 use Rattle.types_rows.specs.declared.Stk.TheVariants.{Nil, StkVar, StkFill, Push, Join}
-use Rattle.types_rows.specs.declared.Slot.{Slot}
-use Rattle.types_rows.specs.declared.Slot.TheVariants.{Gap, Known}
+use Rattle.std.specs.Prelude.{Option, Some, None}
 
 -- s being the sizes of lower rows
-abbrev pub slot_size : (ℕ → ℕ) → Slot → ℕ
-slot_size s Gap = 0
-slot_size s (Known t) = s t
-
--- the row that a part names, 0 for none
-abbrev pub slot_row : Slot → ℕ
-slot_row Gap = 0
-slot_row (Known t) = t
+abbrev pub slot_size : (ℕ → ℕ) → Option ℕ → ℕ
+slot_size s None = 0
+slot_size s (Some t) = s t
 
 -- the sizes of the n parts from p on, added up
 unfoldable pub parts_size : (ℕ → ℕ) → List ℕ → Bool → ℕ → ℕ → ℕ → ℕ

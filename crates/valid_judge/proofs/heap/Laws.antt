@@ -1,8 +1,10 @@
 -- A link past the rows reads as the junk type.
 use Prim.Native.Nat.{ℕ, zero, suc, ◌+◌, ◌*◌, ◌<◌}
 use native.Mathlib.Omega.{arith}
-use mathlib.Core.Path.{◌≡◌, ap, sym, ◌∙◌}
-use mathlib.Core.Bool.{Bool, cond}
+use mathlib.Core.Path.{◌≡◌, refl, ap, sym, ◌∙◌}
+use mathlib.Core.Bool.{Bool, not, cond}
+use lib.Dec.{eqb}
+use lib.Dec.{eqb-suc-zero}
 use mathlib.Core.Option.{some}
 use mathlib.Core.List.{List, []}
 use lib.ListN.{length, get_or, get_or-eq_default}
@@ -21,7 +23,10 @@ use Rattle.types_rows.specs.Environments.{read_in}
 use Rattle.types_rows.proofs.Environments.{read_now}
 use Rattle.types_rows.proofs.Bridge.{length_types}
 use Rattle.valid_context.specs.Context.{linked}
-use Rattle.valid_context.specs.Told.{told_of, answer}
+use Rattle.valid_context.specs.Told.{Told, lacks, told_of, answer}
+use Rattle.valid_context.proofs.Results.{answer_fault}
+use Rattle.faults.specs.declared.Fault.{Fault}
+use Rattle.faults.specs.Numbers.{number}
 use Rattle.valid_typing.specs.Typing.{types_in, held_in, Ready, given_row}
 use Rattle.valid_typing.proofs.Judging.{if_none, assign_told}
 use Rattle.valid_typing.proofs.Args.{given_past, past_arg, given_typed, given_is}
@@ -40,9 +45,23 @@ past_link rows parts n e (suc t) E r h =
     let o : suc (n + 1) ≡ n + 2 = omega arith in
     link_same rows parts E n e t (n + 1) (p ∙ sym q) ∙ ap (linked (held_in rows parts n E) e) o
 
--- the least of a fault and of a link's
-pub least_known : (f k u : ℕ) {g h : ℕ} → g ≡ if_none k u → h ≡ least f g → h ≡ least f (if_none k u)
-least_known f k u e q = q ∙ ap (least f) e
+-- a fault by its number
+pub renumber : {A : Type 0} (f : Fault) (x : A) {n : ℕ} → number f ≡ n → answer n x ≡ lacks (number f)
+renumber f x e = ap (λ (k : ℕ). answer k x) (sym e) ∙ answer_fault f x
+
+-- the lesser of two numbers either way round
+pub least_swap : (a b : ℕ) → least a b ≡ least b a
+unfolding least
+least_swap zero zero = refl
+least_swap zero (suc b) = refl
+least_swap (suc a) zero = refl
+least_swap (suc a) (suc b) = omega arith
+
+-- a link that has to be there, or its fault
+pub link_number : (u : ℕ) → cond (not (eqb u 0)) 0 9 ≡ if_none 9 u
+unfolding if_none
+link_number zero = refl
+link_number (suc u) = rw (eqb-suc-zero u) refl
 
 -- the type of a row that an instruction gives
 pub given_type : (rows parts : List ℕ) (n : ℕ) (P : Program) (t : ℕ) {r : ℕ} → r ≡ given_row n t → P.types ≡ types_of (rows_in (tab rows parts) n) → Ready rows parts n → type_at value (types_in rows parts n) r ≡ type_of P t
@@ -59,5 +78,5 @@ pub set_told : (P : Program) (Δ : List Kind) (Γ : Context) (d : ℕ) (t : Ty v
 set_told P Δ Γ d t v b g e q = assign_told P Δ Γ d t v g (e ∙ ap (λ (w : Bool). guarded w g) q)
 
 -- the same of a type that is equal
-pub now_told : (P : Program) (Δ : List Kind) (Γ : Context) (d : ℕ) {t u : Ty value} (k : ℕ) (Γ' : Context) → t ≡ u → told_of (assign P Δ Γ d t) ≡ answer k Γ' → told_of (assign P Δ Γ d u) ≡ answer k Γ'
-now_told P Δ Γ d k Γ' e a = rw e at a
+pub now_told : (P : Program) (Δ : List Kind) (Γ : Context) (d : ℕ) {t u : Ty value} {v : Told Context} → t ≡ u → told_of (assign P Δ Γ d t) ≡ v → told_of (assign P Δ Γ d u) ≡ v
+now_told P Δ Γ d e a = rw e at a

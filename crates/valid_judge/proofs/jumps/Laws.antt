@@ -2,7 +2,7 @@
 use Prim.Native.Nat.{ℕ, zero, suc}
 use native.Mathlib.Omega.{arith}
 use mathlib.Core.Path.{◌≡◌, refl, ap, sym, ◌∙◌}
-use mathlib.Core.Bool.{cond}
+use mathlib.Core.Bool.{Bool, cond}
 use mathlib.Core.Option.{Option, none, some}
 use mathlib.Core.List.{List}
 use lib.Dec.{eqb}
@@ -16,7 +16,12 @@ use Rattle.valid.specs.Rules.{Context}
 use Rattle.valid.specs.Tests.{item_at, as_int}
 use Rattle.valid.specs.PassThree.{◌▹◌, ◌&◌, or_fault, known, integer_at, target_of, judge}
 use Rattle.valid_context.specs.Told.{Told, gives, lacks, told_of, answer}
-use Rattle.valid_context.specs.premises.Answers.{item_said, Answered}
+use Rattle.std.specs.Prelude.{None, Result, Ok, Err}
+use Rattle.faults.specs.declared.Fault.{Fault}
+use Rattle.faults.specs.Numbers.{number}
+use Rattle.valid_context.proofs.Results.{answer_fault, some_fault}
+use Rattle.valid_typing.specs.declared.target.Misfit.{Misfit}
+use Rattle.valid_typing.specs.target.Fits.{item_of, misfit_number, told_misfit, AnsweredBy}
 use Rattle.valid_typing.proofs.Judging.{jmp_told, bop_told}
 use Rattle.valid.proofs.Bare.{no_int}
 use Rattle.valid_typing.proofs.Items.{item_in, item_map, item_beside}
@@ -49,32 +54,41 @@ unfolding least
 nine_low zero e = omega arith
 nine_low (suc k) e = omega arith
 
-module _ (P : Program) (Δ : List Kind) (Γ : Context) (v : Operand) (k i : ℕ) (a : Answered (target_of P Δ Γ v) k tt i) where
+-- what a target answers, by its number
+pub misfit_told : {A B : Type 0} (x : A) (r : Result B Misfit) → told_misfit (λ u. x) r ≡ answer (misfit_number r) x
+unfolding answer
+misfit_told x (Ok u) = refl
+misfit_told x (Err m) = sym (answer_fault m.fault x)
+
+module _ (P : Program) (Δ : List Kind) (Γ : Context) (v : Operand) (r : Result (Unit {0}) Misfit) (a : AnsweredBy (target_of P Δ Γ v) (λ u. u) r) where
   jump_item : item_in (judge P Δ Γ (jmp v)) ≡ item_in (target_of P Δ Γ v)
   unfolding judge
   jump_item = item_map (target_of P Δ Γ v) Γ
 
-  pub jumps : Answered (judge P Δ Γ (jmp v)) k Γ i
-  jumps = record { told = jmp_told P Δ Γ v k a.told; named = a.named ∙ ap (λ (o : Option ℕ). cond (eqb k 10) o none) (sym jump_item) }
+  target_told : told_of (target_of P Δ Γ v) ≡ answer (misfit_number r) tt
+  target_told = a.told ∙ misfit_told tt r
 
-  module _ (o : Branch) (r f : ℕ) (e : told_of (integer_at P Δ Γ.regs r) ≡ answer f tt) where
-    branch_item : item_in (judge P Δ Γ (bop o r v)) ≡ item_in (target_of P Δ Γ v)
+  pub jumps : AnsweredBy (judge P Δ Γ (jmp v)) (λ (u : Unit {0}). Γ) r
+  jumps = record { told = jmp_told P Δ Γ v (misfit_number r) target_told ∙ sym (misfit_told Γ r); named = a.named ∙ ap (λ (o : Option ℕ). cond (eqb (misfit_number r) 10) o none) (sym jump_item) }
+
+  module _ (o : Branch) (s : ℕ) where
+    branch_item : item_in (judge P Δ Γ (bop o s v)) ≡ item_in (target_of P Δ Γ v)
     unfolding judge first_of
-    branch_item = item_map (integer_at P Δ Γ.regs r & target_of P Δ Γ v) Γ ∙ item_beside (integer_at P Δ Γ.regs r) (target_of P Δ Γ v) ∙ ap (λ (n : Option ℕ). first_of n (item_in (target_of P Δ Γ v))) (no_int P Δ Γ.regs r).bare
+    branch_item = item_map (integer_at P Δ Γ.regs s & target_of P Δ Γ v) Γ ∙ item_beside (integer_at P Δ Γ.regs s) (target_of P Δ Γ v) ∙ ap (λ (n : Option ℕ). first_of n (item_in (target_of P Δ Γ v))) (no_int P Δ Γ.regs s).bare
 
-    pub branches : f ≡ 0 → Answered (judge P Δ Γ (bop o r v)) k Γ i
-    unfolding least
-    branches z =
+    pub branches : told_of (integer_at P Δ Γ.regs s) ≡ gives tt → AnsweredBy (judge P Δ Γ (bop o s v)) (λ (u : Unit {0}). Γ) r
+    unfolding least answer
+    branches e =
         record {
-          told = bop_told P Δ Γ o r v f k e a.told ∙ ap (λ (x : ℕ). answer (least x k) Γ) z;
-          named = a.named ∙ ap (λ (o : Option ℕ). cond (eqb k 10) o none) (sym branch_item);
+          told = bop_told P Δ Γ o s v 0 (misfit_number r) e target_told ∙ sym (misfit_told Γ r);
+          named = a.named ∙ ap (λ (o : Option ℕ). cond (eqb (misfit_number r) 10) o none) (sym branch_item);
         }
 
-    pub branches_none : (h : ℕ) → (f ≡ 0 → ⊥) → h ≡ least f k → Answered (judge P Δ Γ (bop o r v)) h Γ 100
-    unfolding item_said
-    branches_none h n q =
-        let j : h ≡ least 9 k = q ∙ ap (λ (x : ℕ). least x k) (int_nine P Δ Γ.regs r f e n) in
+    pub branches_none : (f : Fault) (m : Misfit) → told_of (integer_at P Δ Γ.regs s) ≡ lacks (number f) → number m.fault ≡ least (number f) (misfit_number r) → m.item ≡ None → AnsweredBy {B = Unit {0}} (judge P Δ Γ (bop o s v)) (λ u. Γ) (Err m)
+    branches_none f m e q i =
+        let p : told_of (integer_at P Δ Γ.regs s) ≡ answer (number f) tt = e ∙ sym (answer_fault f tt) in
+        let j : number m.fault ≡ least 9 (misfit_number r) = q ∙ ap (λ (x : ℕ). least x (misfit_number r)) (int_nine P Δ Γ.regs s (number f) p (some_fault f)) in
         record {
-          told = bop_told P Δ Γ o r v f k e a.told ∙ ap (λ (x : ℕ). answer x Γ) (sym q);
-          named = rw (ne_eqb h 10 (λ z. nine_low k (sym j ∙ z))) refl;
+          told = bop_told P Δ Γ o s v (number f) (misfit_number r) p target_told ∙ ap (λ (x : ℕ). answer x Γ) (sym q) ∙ answer_fault m.fault Γ;
+          named = ap item_of i ∙ ap (λ (b : Bool). cond b (item_in (judge P Δ Γ (bop o s v))) none) (sym (ne_eqb (number m.fault) 10 (λ z. nine_low (misfit_number r) (sym j ∙ z))));
         }

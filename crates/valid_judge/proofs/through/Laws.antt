@@ -14,7 +14,7 @@ use Rattle.types.proofs.Equal.{same_sound}
 use Rattle.valid.specs.Program.{Program, type_of}
 use Rattle.valid.specs.Rules.{Context, with_sp}
 use Rattle.valid.specs.Tests.{item_at, replaced, above}
-use Rattle.valid.specs.PassThree.{pointer_at, known, formed, assign, new_tail, judge}
+use Rattle.valid.specs.PassThree.{pointer_at, formed, assign, new_tail, judge}
 use Rattle.valid_context.specs.declared.Link.{Link}
 use Rattle.valid_context.specs.Context.{Reading, linked, regs_of, sp_of, sp_above, context_of}
 use Rattle.valid_context.specs.Told.{told_of, answer}

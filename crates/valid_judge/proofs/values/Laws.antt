@@ -1,5 +1,5 @@
 -- What the ways through this crate's functions come to.
-use Prim.Native.Nat.{ℕ, suc, ◌+◌, ◌*◌, ◌<◌}
+use Prim.Native.Nat.{ℕ, suc, ◌+◌, ◌*◌, ◌<◌, ◌≤◌}
 use native.Mathlib.Omega.{arith}
 use mathlib.Core.Path.{◌≡◌, refl, ap, sym, ◌∙◌}
 use mathlib.Core.Bool.{Bool, true, false, cond}
@@ -21,9 +21,14 @@ use Rattle.types_rows.specs.declared.Val.TheVariants.{ValVar, Int}
 use Rattle.types_rows.proofs.Laws.{value_is}
 use Rattle.types_rows.proofs.Bridge.{type_in_lem}
 use Rattle.types_rows.proofs.Environments.{read_now}
-use Rattle.valid_context.specs.Told.{told_of, answer}
-use Rattle.valid_typing.specs.Typing.{types_in, held_in, Ready}
-use Rattle.valid_typing.proofs.Judging.{told_guarded, told_next, stops, aop_stops, aop_goes, malloc_stops, malloc_differs, malloc_goes}
+use Rattle.valid_context.specs.Context.{EnvsIn}
+use Rattle.valid_context.specs.Told.{gives, told_of, answer}
+use Rattle.valid_context.proofs.Results.{gives_then}
+use Rattle.std.specs.Prelude.{Result, Ok, Err, IfOk, MatchResult}
+use Rattle.faults.specs.declared.Fault.{Fault}
+use Rattle.types_rows.specs.declared.Held.{Held}
+use Rattle.valid_typing.specs.Typing.{types_in, held_in, Ready, Found}
+use Rattle.valid_typing.proofs.Judging.{told_guarded, aop_stops, aop_goes, malloc_stops, malloc_differs, malloc_goes}
 use Rattle.valid_typing.specs.plain_components.Makes.{Makes}
 use Rattle.types.proofs.Equal.{same_refl}
 
@@ -36,11 +41,22 @@ int_type rows parts E n r =
     int_form : value_at rows ValVar (suc n) ≡ Int
     int_form = rw r.int_row (unfold value_with in refl)
 
-pub int_lacks : (J : Judged (Ty value)) (f : ℕ) (t : Ty value) → (f ≡ 0 → ⊥) → told_of J ≡ answer f t → told_of (J ▹ λ u. or_fault 9 (as_int u)) ≡ answer f tt
-int_lacks J f t n e = stops J (λ u. or_fault 9 (as_int u)) f t tt e n
+pub int_told : (J : Judged (Ty value)) (t : Ty value) (b : Bool) → as_int t ≡ guarded b tt → told_of J ≡ gives t → told_of (J ▹ λ u. or_fault 9 (as_int u)) ≡ answer (cond b 0 9) tt
+int_told J t b h e = gives_then J (λ u. or_fault 9 (as_int u)) e ∙ told_guarded 8 (as_int t) b tt h
 
-pub int_told : (J : Judged (Ty value)) (f k : ℕ) (t : Ty value) (b : Bool) → f ≡ 0 → as_int t ≡ guarded b tt → k ≡ cond b 0 9 → told_of J ≡ answer f t → told_of (J ▹ λ u. or_fault 9 (as_int u)) ≡ answer k tt
-int_told J f k t b z h ek e = told_next J (λ u. or_fault 9 (as_int u)) f (cond b 0 9) t tt e z (told_guarded 8 (as_int t) b tt h) ∙ ap (λ (x : ℕ). answer x tt) (sym ek)
+-- a row that is found is small
+pub row_small : {n : ℕ} → n ≤ 512 → (E regs : List ℕ) (r : Result Held Fault) → IfOk r (λ h. Found n E regs h) → IfOk r (λ h. h.row ≤ 65535)
+row_small l E regs (Ok h) f = let k = f.row_in in omega arith
+row_small l E regs (Err e) f = tt
+
+-- its environment exists, if those of the registers do
+pub env_in : (n : ℕ) (E regs : List ℕ) (r : Result Held Fault) → IfOk r (λ h. Found n E regs h) → EnvsIn (2 * length E) regs 8 → IfOk r (λ h. h.env ≤ 2 * length E)
+env_in n E regs (Ok h) f g = f.exists g
+env_in n E regs (Err e) f g = tt
+
+pub env_of : (e m : ℕ) (r : Result Held Fault) → MatchResult r (λ h. e ≡ h.env) (λ f. ⊥) → IfOk r (λ h. h.env ≤ m) → e ≤ m
+env_of e m (Ok h) f g = omega arith
+env_of e m (Err x) f g = absurd f
 
 module _ (P : Program) (Δ : List Kind) (Γ : Context) where
   -- ---- arithmetic
@@ -66,7 +82,9 @@ module _ (P : Program) (Δ : List Kind) (Γ : Context) where
   -- operands seen at once to make the tuple u
   module _ (d t : ℕ) (vs : List Operand) (f : ℕ) (u : Ty value) (p : told_of (formed P Δ t) ≡ answer f tt) (m : Makes P Δ Γ.regs vs u) where
     pub sees_none : (Γ' : Context) → (f ≡ 0 → ⊥) → told_of (judge P Δ Γ (malloc d t vs)) ≡ answer f Γ'
+    unfolding answer
     sees_none Γ' n = makes_none d t vs f 0 f m.parts p m.told (sym (least_none f)) Γ' n
 
     pub sees : (k : ℕ) (Γ' : Context) → f ≡ 0 → u ≡ type_of P t → told_of (assign P Δ Γ d u) ≡ answer k Γ' → told_of (judge P Δ Γ (malloc d t vs)) ≡ answer k Γ'
+    unfolding answer
     sees k Γ' z eu a = makes d t vs f 0 f m.parts p m.told (sym (least_none f)) u true z eu (sym (ap (λ (x : Ty value). same x (tuple m.parts)) m.whole ∙ same_refl (tuple m.parts))) k Γ' refl a

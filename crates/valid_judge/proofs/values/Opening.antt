@@ -19,10 +19,10 @@ use Rattle.valid.specs.Program.{Program}
 use Rattle.valid.specs.Rules.{Context, raised}
 use Rattle.valid.specs.Tests.{as_hidden}
 use Rattle.valid.specs.PassThree.{◌▹◌, or_fault, operand, assign, judge}
-use Rattle.valid_context.specs.Context.{Reading, context_of, EnvsIn, HeldIn}
+use Rattle.valid_context.specs.Context.{context_of, EnvsIn, HeldIn}
 use Rattle.valid_context.specs.Told.{told_of, answer}
 use Rattle.valid_context.proofs.Cells.{envs_less}
-use Rattle.valid_context.proofs.Raising.{OneMore, context_raised}
+use Rattle.valid_context.proofs.Raising.{context_raised}
 use Rattle.valid_scope.specs.Letters.{letters_of}
 use Rattle.valid_scope.specs.declared.BlockLetters.{BlockLetters}
 use Rattle.valid_typing.specs.Typing.{types_in, held_in}
@@ -76,7 +76,7 @@ module _ (E : List ℕ) (p : ℕ) (k : Known E) (l : p ≤ 2 * length E) where
   context_more rows parts n γ σ m h =
       context_raised (record { types = λ e t i. read_more E p e k i (type_at value (types_in rows parts n) t); variables = λ e j i. var_more E p k e j i }) γ σ m h.regs_in h.sp_in
 
-  pub opened_to : (γ γ' : List ℕ) → length E < 64 → EnvsIn (2 * length E) γ 8 → ((b : ℕ) → suc (2 * length E) ≤ b → EnvsIn b γ 8 → EnvsIn b γ' 8) → OpenedTo E (suc p) γ'
+  pub opened_to : (γ γ' : List ℕ) → length E < 64 → EnvsIn (2 * length E) γ 8 → ((b : ℕ) → suc (2 * length E) ≤ b → EnvsIn b γ 8 → EnvsIn b γ' 8) → OpenedTo E p γ'
   unfolding after
   opened_to γ γ' f g w =
       let o = one_more_lem in

@@ -2,7 +2,8 @@
 use Prim.Native.Nat.{ℕ, zero, suc, ◌+◌, ◌-◌, ◌≤◌, ◌<◌}
 use native.Mathlib.Omega.{arith}
 use mathlib.Core.Path.{◌≡◌, refl, ap, sym, ◌∙◌}
-use mathlib.Core.List.{List, [], ◌∷◌, ◌++◌}
+use Rattle.std.specs.Prelude.{Option as Maybe, Some, None}
+use mathlib.Core.List.{List, [], ◌∷◌}
 use lib.ListN.{length, length-append, take, set}
 use lib.Seq.{length-take-le, take-suc-set}
 use Rattle.types_rows.specs.Environments.{Known}
@@ -17,29 +18,27 @@ pub record Under (envs : List ℕ) (h : ℕ) (γ σ : List ℕ) (d : ℕ) : Type
   pub known : Known (take h envs)
   pub held : HeldIn (take h envs) γ σ d
 
+pub none_is : (o : Maybe ℕ) → ((e : ℕ) → o ≡ Some e → ⊥) → o ≡ None
+none_is None k = refl
+none_is (Some e) k = absurd (k e refl)
+
 module _ (l : List ℕ) (h : ℕ) where
-  pub note_none : (o : ℕ) → o ≡ 0 → h ≤ length l → (take h l ≡ after (take h l) o) × (h ≡ length (after (take h l) o))
+  pub note_none : (h ≤ length l) → (take h l ≡ after (take h l) None) × (h ≡ length (after (take h l) None))
   unfolding after
-  note_none o z k = rw z (refl, sym (length-take-le h l k))
+  note_none k = (refl, sym (length-take-le h l k))
 
-  one_more_lem : (o : ℕ) → (o ≡ 0 → ⊥) → h ≤ length l → length (after (take h l) o) ≡ h + 1
+  one_more_lem : (e : ℕ) → h ≤ length l → length (after (take h l) (Some e)) ≡ h + 1
   unfolding after
-  one_more_lem zero n k = absurd (n refl)
-  one_more_lem (suc e) n k = length-append (take h l) (e ∷ []) ∙ ap (λ (x : ℕ). x + 1) (length-take-le h l k)
+  one_more_lem e k = length-append (take h l) (e ∷ []) ∙ ap (λ (x : ℕ). x + 1) (length-take-le h l k)
 
-  pub note_room : (o : ℕ) → (o ≡ 0 → ⊥) → h ≤ length l → length (after (take h l) o) ≤ length l → h < length l
-  note_room o n k r = let q = one_more_lem o n k in omega arith
+  pub note_room : (e : ℕ) → h ≤ length l → length (after (take h l) (Some e)) ≤ length l → h < length l
+  note_room e k r = let q = one_more_lem e k in omega arith
 
-  pub note_one : (o : ℕ) → (o ≡ 0 → ⊥) → h < length l → (take (h + 1) (set l h (o - 1)) ≡ after (take h l) o) × (h + 1 ≡ length (after (take h l) o))
+  pub note_one : (e : ℕ) → h < length l → (take (h + 1) (set l h e) ≡ after (take h l) (Some e)) × (h + 1 ≡ length (after (take h l) (Some e)))
   unfolding after
-  note_one o n k = (put o n, sym (one_more_lem o n (omega arith)))
-    where
-      put : (o : ℕ) → (o ≡ 0 → ⊥) → take (h + 1) (set l h (o - 1)) ≡ after (take h l) o
-      put zero n = absurd (n refl)
-      put (suc e) n =
-          let q : h + 1 ≡ suc h = omega arith in
-          let p : suc e - 1 ≡ e = omega arith in
-          rw (q, p) (take-suc-set l h e k)
+  note_one e k =
+      let q : h + 1 ≡ suc h = omega arith in
+      (rw q (take-suc-set l h e k), sym (one_more_lem e (omega arith)))
 
 -- ---- the invariant
 module _ {l : List ℕ} {h : ℕ} {γ σ : List ℕ} {d : ℕ} (u : Under l h γ σ d) where
@@ -49,6 +48,6 @@ module _ {l : List ℕ} {h : ℕ} {γ σ : List ℕ} {d : ℕ} (u : Under l h γ
   pub taken_few : length (take h l) ≤ 64
   taken_few = let q = length-take-le h l taken_fits in let k = u.few in omega arith
 
-  pub noted : (o : ℕ) {m : List ℕ} {j : ℕ} {γ' σ' : List ℕ} {d' : ℕ} → length m ≡ length l → take j m ≡ after (take h l) o → j ≡ length (after (take h l) o) → d' ≤ 64
+  pub noted : (o : Maybe ℕ) {m : List ℕ} {j : ℕ} {γ' σ' : List ℕ} {d' : ℕ} → length m ≡ length l → take j m ≡ after (take h l) o → j ≡ length (after (take h l) o) → d' ≤ 64
       → length (after (take h l) o) ≤ 64 → Known (after (take h l) o) → HeldIn (after (take h l) o) γ' σ' d' → Under m j γ' σ' d'
   noted o w e q k f n g = record { long = w ∙ u.long; few = omega arith; depth = k; known = rw e n; held = rw e g }

@@ -1,16 +1,14 @@
-use Prim.Native.Nat.{ℕ, ◌-◌, ◌<◌}
+use Prim.Native.Nat.{◌<◌}
 use native.Mathlib.Nat.{pos_of_ne-zero}
 use native.Mathlib.Omega.{arith}
 use mathlib.Core.Path.{ap, sym, refl, ◌∙◌}
-use mathlib.Core.List.{List}
-use Rattle.types.specs.Types.{Arg}
-use Rattle.types.specs.Rows.{types_of}
-use Rattle.tables.specs.Tables.{rows_in}
-use Rattle.image.specs.declared.Places.{Places}
+use mathlib.Core.Option.{some}
 use Rattle.image.specs.Sections.{block_section, instr_section}
 use Rattle.valid_typing.specs.Image.{row_table, operands_in}
-use Rattle.valid_verdict.specs.finding.Found.{refusal_said}
-use Rattle.valid_verdict.proofs.finding.Laws.{none_found}
+use Rattle.std.proofs.lemmas.Result.{err_from_is_err_and}
+use Rattle.valid_verdict.specs.declared.finding.Finding.{Finding}
+use Rattle.valid_verdict.specs.finding.Found.{refusal_of, refusal_said}
+use Rattle.valid_verdict.proofs.finding.Laws.{on_line_said}
 use Rattle.valid_pass_three.proofs.body.Arrays.{still}
 use Rattle.valid_pass_three.proofs.Blocks.{block_next, block_found, blocks_end, whole, no_block, length_all}
 use Rattle.valid_pass_three.proofs.pass_three.Invariants.{types}
@@ -25,7 +23,7 @@ pub returns-then-c-eq0 : goal.returns-then-c-eq0
 returns-then-c-eq0 c =
     let a = c.args in
     let l = a.image.now in
-    λ P h e. ap refusal_said c.on_line.ensures ∙ no_block P (types a.p l a.c.rows)
+    λ P h e. on_line_said c.on_line.ensures ∙ no_block P (types a.p l a.c.rows)
     (block_section a.p l) (instr_section a.p l) (operands_in a.p l a.literals.now) a.c.instrs a.c.rows a.c.blocks
     (length_all (row_table a.p l) a.c.rows) h.types e (search)
 
@@ -40,8 +38,8 @@ loop-b-init c =
           (length_all (row_table a.p l) a.c.rows) h.types e z (c.requires.1.first z)),
     )
 
-pub block-f-requires : goal.block-f-requires
-block-f-requires c =
+pub block-requires : goal.block-requires
+block-requires c =
     let w : c.loop-b.b < c.args.c.blocks = search in
     let q = c.requires.1 in (
       c.requires.0,
@@ -54,15 +52,16 @@ block-f-requires c =
       still c.requires.2 c.loop-b.invariant.0,
     )
 
-pub returns-then-number-ne0 : goal.returns-then-number-ne0
-returns-then-number-ne0 c =
+pub returns-in_err-block : goal.returns-in_err-block
+returns-in_err-block c =
     let one_more_lem : c.loop-b.b < c.args.c.blocks = search in
     let w = one_more_lem in
     let a = c.args in
     let l = a.image.now in
-    λ P h e. block_found P (types a.p l a.c.rows) (block_section a.p l)
+    let p = err_from_is_err_and c.from_residual.result c.from_residual.ensures.1 in
+    λ P h e. ap refusal_said p.1 ∙ ap (λ (f : Finding). some (refusal_of f)) p.2 ∙ block_found P (types a.p l a.c.rows) (block_section a.p l)
     (instr_section a.p l) (operands_in a.p l a.literals.now) a.c.instrs a.c.rows a.c.blocks c.loop-b.b w
-    (c.requires.1.ends c.loop-b.b w).0 c.block-f.result (c.block-f.ensures P h) (search) ∙ c.loop-b.invariant.1 P h e
+    (c.requires.1.ends c.loop-b.b w).0 (c.block.ensures P h) (ap refusal_said c.in_err-block.was) ∙ c.loop-b.invariant.1 P h e
 
 pub loop-b-preserved : goal.loop-b-preserved
 loop-b-preserved c =
@@ -71,26 +70,14 @@ loop-b-preserved c =
     let i = c.loop-b.invariant.0 in
     let a = c.args in
     let l = a.image.now in (
-      record { registers = c.block-f.auto.regs ∙ i.registers; items = c.block-f.auto.sp ∙ i.items; work = cc; pending = cc },
+      record { registers = c.block.auto.regs ∙ i.registers; items = c.block.auto.sp ∙ i.items; work = cc; pending = cc },
       λ P h e. sym (block_next P (types a.p l a.c.rows) (block_section a.p l) (instr_section a.p l) (operands_in a.p l
-          a.literals.now) a.c.instrs a.c.rows a.c.blocks c.loop-b.b w (c.requires.1.ends c.loop-b.b w).0 c.block-f.result
-          (c.block-f.ensures P h) (search)) ∙ c.loop-b.invariant.1 P h e,
+          a.literals.now) a.c.instrs a.c.rows a.c.blocks c.loop-b.b w (c.requires.1.ends c.loop-b.b w).0
+          (c.block.ensures P h) (ap refusal_said c.in_ok-block.was)) ∙ c.loop-b.invariant.1 P h e,
     )
 
 pub returns : goal.returns
 returns c =
     let a = c.args in
     let l = a.image.now in
-    λ P h e. none_found c.nothing.result c.nothing.ensures _ (sym (blocks_end P (types a.p l a.c.rows) (block_section a.p l) (instr_section a.p l) (operands_in a.p l a.literals.now) a.c.instrs a.c.rows a.c.blocks c.loop-b.b (search)) ∙ c.loop-b.invariant.1 P h e)
-
-pub shape_of-regs-then-number-ne0 : goal.shape_of-regs-then-number-ne0
-shape_of-regs-then-number-ne0 c = (cc)
-
-pub shape_of-sp-then-number-ne0 : goal.shape_of-sp-then-number-ne0
-shape_of-sp-then-number-ne0 c = (cc)
-
-pub shape_of-work-then-number-ne0 : goal.shape_of-work-then-number-ne0
-shape_of-work-then-number-ne0 c = (cc)
-
-pub shape_of-pending-then-number-ne0 : goal.shape_of-pending-then-number-ne0
-shape_of-pending-then-number-ne0 c = (cc)
+    λ P h e. sym (blocks_end P (types a.p l a.c.rows) (block_section a.p l) (instr_section a.p l) (operands_in a.p l a.literals.now) a.c.instrs a.c.rows a.c.blocks c.loop-b.b (search)) ∙ c.loop-b.invariant.1 P h e

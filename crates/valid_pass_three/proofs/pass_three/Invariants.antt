@@ -1,4 +1,3 @@
-use Prim.Native.Nat.{◌-◌}
 use mathlib.Core.Path.{◌≡◌}
 use Rattle.syntax.specs.Fault.{lowest_line}
 use Rattle.image.specs.Sections.{block_section, instr_section}
@@ -22,9 +21,6 @@ types p l n = types_of (rows_in (row_table p l) n)
 abbrev pub invariant-loop-b : goal.invariant-loop-b
 invariant-loop-b l =
     AsLong l.regs l.sp l.work l.pending l.initial.regs l.initial.sp l.initial.work l.initial.pending
-    × ((P : Program) → HoldsAt l.t l.image l.k P → P.blocks ≡ blocks_of (types l.t l.image l.k.rows) (blocks_in l.t l.image l.literals l.k) → blocks_left P
-    (types l.t l.image l.k.rows) (block_section l.t l.image) (instr_section l.t l.image) (operands_in l.t l.image l.literals) l.k.instrs l.k.rows
-    l.k.blocks l.b ≡ lowest_line 0 (pass_three P))
-
-abbrev pub decreases-loop-b : goal.decreases-loop-b
-decreases-loop-b l = l.k.blocks - l.b
+    × ((P : Program) → HoldsAt l.p l.image l.c P → P.blocks ≡ blocks_of (types l.p l.image l.c.rows) (blocks_in l.p l.image l.literals l.c) → blocks_left P
+    (types l.p l.image l.c.rows) (block_section l.p l.image) (instr_section l.p l.image) (operands_in l.p l.image l.literals) l.c.instrs l.c.rows
+    l.c.blocks l.b ≡ lowest_line 0 (pass_three P))

@@ -1,9 +1,11 @@
 -- Laws of a block's line.
-use Prim.Native.Nat.{ℕ, zero, suc, ◌+◌, ◌-◌, ◌≤◌, ◌<◌}
+use Prim.Native.Nat.{ℕ, zero, suc, ◌+◌, ◌≤◌, ◌<◌}
 use native.Mathlib.Nat.{add-zero}
 use native.Mathlib.Omega.{arith}
 use mathlib.Core.Path.{◌≡◌, refl, ap, ap₂, sym, subst, ◌∙◌}
 use mathlib.Core.Bool.{Bool, true, false, ◌&&◌, not, cond}
+use Rattle.std.specs.Prelude.{Option, Some, None}
+use Rattle.std.specs.List.{list_all, range_with_len}
 use mathlib.Core.List.{List, [], ◌∷◌, ◌++◌, map}
 use lib.Dec.{eqb, ltb}
 use lib.ListN.{get_or}
@@ -18,8 +20,6 @@ use Rattle.tables.specs.Tables.{RowTable, cell, span, letter_of, letters_at, row
 use Rattle.types_rows.specs.Read.{tab, lower, lift, value_with, value_at, place_v, OkV, OkSlot, is_stack_at, slot_at, on_slot, build_v, mean_v, mean_s, parts_of, items_at, CountedTo, arg_of}
 use Rattle.types_rows.specs.declared.Val.{Val}
 use Rattle.types_rows.specs.declared.Val.TheVariants.{Int, Junk, ValVar, ValFill, Tuple, Pointer, Code, Hidden}
-use Rattle.types_rows.specs.declared.Slot.{Slot}
-use Rattle.types_rows.specs.declared.Slot.TheVariants.{Known}
 use Rattle.types_rows.proofs.Laws.{lower_low, plain_value, value_is, never}
 use Rattle.types_rows.proofs.Bridge.{type_at_lem, arg_at}
 use Rattle.valid.specs.Program.{Block, as_code, block_of}
@@ -28,16 +28,7 @@ use Rattle.valid.specs.Tests.{is_formed, formed_arg, is_entry}
 use Rattle.valid.specs.PassThree.{block_faults}
 use Rattle.valid_scope.specs.Letters.{letters_of}
 use Rattle.valid_scope.specs.declared.entry.Samples.{Samples}
-use Rattle.valid_scope.specs.entry.Entry.{gaps, Declares, block_at}
-
--- ---- tests
-pub not_yes : (b : Bool) → not b ≡ true → b ≡ false
-not_yes true e = sym e
-not_yes false e = refl
-
-pub not_no : (b : Bool) → not b ≡ false → b ≡ true
-not_no true e = refl
-not_no false e = sym e
+use Rattle.valid_scope.specs.entry.Entry.{gaps, FitFirst, NoTuple, IsTuple, Declares, block_at}
 
 -- ---- value rows
 pub read_is : (rows parts : List ℕ) (h : ℕ) {v : Val} → v ≡ value_at rows (place_v 0 (lift 0) 0) h → mean_v (tab rows parts) h ≡ build_v (mean_v (tab rows parts)) (mean_s (tab rows parts)) parts h v
@@ -46,118 +37,150 @@ read_is rows parts h e = value_is (tab rows parts) h ∙ ap (build_v (mean_v (ta
 pub form_is : (rows parts : List ℕ) (h : ℕ) {v w : Val} → v ≡ value_at rows (place_v 0 (lift 0) 0) h → v ≡ w → build_v (mean_v (tab rows parts)) (mean_s (tab rows parts)) parts h w ≡ mean_v (tab rows parts) h
 form_is rows parts h e q = sym (read_is rows parts h e ∙ ap (build_v (mean_v (tab rows parts)) (mean_s (tab rows parts)) parts h) q)
 
--- by the type that the form gives
-pub int_by : {t u : Ty value} (b : Bool) → t ≡ u → b ≡ same t int → b ≡ same u int
-int_by b e h = h ∙ ap (λ (x : Ty value). same x int) e
+-- a row that is an integer, and one of another form
+no_int : (v : ℕ → Ty value) (s : ℕ → Ty stack) (ps : List ℕ) (h : ℕ) (w : Val) → (w ≡ Int → ⊥) → same (build_v v s ps h w) int ≡ false
+unfolding same
+no_int v s ps h Int k = absurd (k refl)
+no_int v s ps h Junk k = refl
+no_int v s ps h (ValVar j) k = refl
+no_int v s ps h (ValFill j) k = refl
+no_int v s ps h (Tuple p o) k = refl
+no_int v s ps h (Pointer y) k = refl
+no_int v s ps h (Hidden y) k = refl
+no_int v s ps h (Code y p) k = refl
 
--- ---- components that are integers
-module _ (v : ℕ → Ty value) (ps : List ℕ) (h p c : ℕ) where
-  abbrev ints_left : ℕ → Bool
-  ints_left i = same (parts_of v ps false h (p + i) (c - i)) (ints (c - i))
+pub int_row : (rows parts : List ℕ) (h : ℕ) {v : Val} → v ≡ value_at rows (place_v 0 (lift 0) 0) h → v ≡ Int → true ≡ same (mean_v (tab rows parts) h) int
+unfolding same
+int_row rows parts h e q = ap (λ (x : Ty value). same x int) (form_is rows parts h e q)
 
-  pub ints_start : same (parts_of v ps false h p c) (ints c) ≡ same (parts_of v ps false h (p + 0) (c - 0)) (ints (c - 0))
-  ints_start = let e : c - 0 ≡ c = omega arith in rw (e, add-zero p) refl
+pub other_row : (rows parts : List ℕ) (h : ℕ) {v : Val} → v ≡ value_at rows (place_v 0 (lift 0) 0) h → (v ≡ Int → ⊥) → false ≡ same (mean_v (tab rows parts) h) int
+other_row rows parts h {v} e k = sym (no_int (mean_v (tab rows parts)) (mean_s (tab rows parts)) parts h v k) ∙ ap (λ (x : Ty value). same x int) (form_is rows parts h e refl)
 
-  step : (i t : ℕ) → i < c → t ≡ lower h (get_or ps (p + i) 0) → ints_left i ≡ same (v t) int && ints_left (i + 1)
+some_zero : (k : ℕ) → eqb (suc k) 0 ≡ false
+some_zero k = ne_eqb (suc k) 0 (λ e. omega arith)
+
+-- ---- components that are integers, and registers that are not named
+module _ (v : ℕ → Ty value) (ps : List ℕ) (h p : ℕ) where
+  ints_from : (i c : ℕ) → list_all (λ j. same (v (lower h (get_or ps (p + j) 0))) int) (range_with_len i c) ≡ same (parts_of v ps false h (p + i) c) (ints c)
   unfolding parts_of ints same
-  step i t l e =
-      let q : c - i ≡ suc (c - (i + 1)) = omega arith in
-      let r : p + (i + 1) ≡ suc (p + i) = omega arith in
-      rw (q, r, e) refl
+  ints_from i zero = refl
+  ints_from i (suc c) =
+      let e : p + (i + 1) ≡ suc (p + i) = omega arith in
+      ap (λ b. same (v (lower h (get_or ps (p + i) 0))) int && b) (ints_from (i + 1) c ∙ ap (λ j. same (parts_of v ps false h j c) (ints c)) e)
 
-  pub ints_next : (i t : ℕ) (b : Bool) → i < c → t ≡ lower h (get_or ps (p + i) 0) → b ≡ same (v t) int → not b ≡ false → ints_left i ≡ ints_left (i + 1)
-  ints_next i t b l e f g = step i t l e ∙ ap (λ (x : Bool). x && ints_left (i + 1)) (sym f ∙ not_no b g)
+  pub ints_all : (c : ℕ) → list_all (λ j. same (v (lower h (get_or ps (p + j) 0))) int) (range_with_len 0 c) ≡ same (parts_of v ps false h p c) (ints c)
+  ints_all c = ints_from 0 c ∙ ap (λ j. same (parts_of v ps false h j c) (ints c)) (add-zero p)
 
-  pub ints_not : (i t : ℕ) (b : Bool) → i < c → t ≡ lower h (get_or ps (p + i) 0) → b ≡ same (v t) int → not b ≡ true → ints_left i ≡ false
-  ints_not i t b l e f g = step i t l e ∙ ap (λ (x : Bool). x && ints_left (i + 1)) (sym f ∙ not_yes b g)
+  gap_front : (x : ℕ) (a : Ty stack) (k : ℕ) → eqb x 0 && same a (gaps k) ≡ same (on_slot v (slot_at true h x) a) (gaps (suc k))
+  unfolding gaps same
+  gap_front zero a k = refl
+  gap_front (suc x) a k = ap (λ b. b && same a (gaps k)) (some_zero x)
 
-  pub ints_end : (i : ℕ) → c ≤ i → ints_left i ≡ true
-  unfolding parts_of ints same
-  ints_end i l = let q : c - i ≡ 0 = omega arith in rw q refl
-
--- ---- registers that are not named
-module _ (v : ℕ → Ty value) (ps : List ℕ) (h p k : ℕ) where
-  abbrev gaps_left : ℕ → Bool
-  gaps_left i = same (parts_of v ps true h (p + i) (k - i)) (gaps (k - i))
-
-  pub gaps_start : same (parts_of v ps true h p k) (gaps k) ≡ same (parts_of v ps true h (p + 0) (k - 0)) (gaps (k - 0))
-  gaps_start = let e : k - 0 ≡ k = omega arith in rw (e, add-zero p) refl
-
-  pub gaps_next : (i x : ℕ) → i < k → x ≡ get_or ps (p + i) 0 → x ≡ 0 → gaps_left i ≡ gaps_left (i + 1)
+  gaps_from : (i k : ℕ) → list_all (λ j. eqb (get_or ps (p + j) 0) 0) (range_with_len i k) ≡ same (parts_of v ps true h (p + i) k) (gaps k)
   unfolding parts_of gaps same
-  gaps_next i x l e z =
-      let q : k - i ≡ suc (k - (i + 1)) = omega arith in
-      let r : p + (i + 1) ≡ suc (p + i) = omega arith in
-      let f : get_or ps (p + i) 0 ≡ 0 = sym e ∙ z in
-      rw (q, r, f) refl
+  gaps_from i zero = refl
+  gaps_from i (suc k) =
+      let e : p + (i + 1) ≡ suc (p + i) = omega arith in
+      ap (λ b. eqb (get_or ps (p + i) 0) 0 && b) (gaps_from (i + 1) k ∙ ap (λ j. same (parts_of v ps true h j k) (gaps k)) e)
+      ∙ gap_front (get_or ps (p + i) 0) (parts_of v ps true h (suc (p + i)) k) k
 
-  pub gaps_not : (i x : ℕ) → i < k → x ≡ get_or ps (p + i) 0 → (x ≡ 0 → ⊥) → gaps_left i ≡ false
-  unfolding parts_of gaps same
-  gaps_not i x l e z =
-      let q : k - i ≡ suc (k - (i + 1)) = omega arith in
-      let f : get_or ps (p + i) 0 ≡ suc (x - 1) = omega (arith, z) in
-      rw (q, f) refl
-
-  pub gaps_end : (i : ℕ) → k ≤ i → gaps_left i ≡ true
-  unfolding parts_of gaps same
-  gaps_end i l = let q : k - i ≡ 0 = omega arith in rw q refl
+  pub gaps_all : (k : ℕ) → list_all (λ j. eqb (get_or ps (p + j) 0) 0) (range_with_len 0 k) ≡ same (parts_of v ps true h p k) (gaps k)
+  gaps_all k = gaps_from 0 k ∙ ap (λ j. same (parts_of v ps true h j k) (gaps k)) (add-zero p)
 
 -- ---- r1
-pub declares_none : (t : Ty value) (s : Samples) → s ≡ record { fit = false; count = 0 } → ((g : Ty stack) → 0 ≡ declared (push t g)) → same t (tuple nil) ≡ false → Declares (push t) s
-unfolding same entry_regs ints
-declares_none t s e d n = record {
-  count = λ g. ap (λ (x : Samples). x.count) e ∙ d g;
-  fit = λ g. ap (λ (k : ℕ). same (push t g) (entry_regs k)) (sym (d g)) ∙ (ap (λ (b : Bool). b && same g (gap (gap (gap (gap (gap (gap (gap nil)))))))) n ∙ ap (λ (x : Samples). x.fit && same g (gaps 7)) (sym e));
+abbrev pub NoTupleForm : Val → Type 0
+NoTupleForm w = (p c : ℕ) → w ≡ Tuple p c → ⊥
+
+none_by : (t : Ty value) → ((g : Ty stack) → 0 ≡ declared (push t g)) → same t (tuple nil) ≡ false → NoTuple (push t)
+unfolding same entry_regs ints gaps
+none_by t d n = record {
+  count = d;
+  fit = λ g. ap (λ (k : ℕ). same (push t g) (entry_regs k)) (sym (d g)) ∙ ap (λ (b : Bool). b && same g (gap (gap (gap (gap (gap (gap (gap nil)))))))) n;
 }
 
-pub declares_tuple : (a : Ty stack) (b : Bool) (c : ℕ) → items a ≡ c → b ≡ same a (ints c) → Declares (push (tuple a)) (record { fit = b; count = c })
-unfolding declared same entry_regs gaps
-declares_tuple a b c e f = record {
-  count = λ g. sym e;
-  fit = λ g. ap (λ (k : ℕ). same a (ints k) && same g (gap (gap (gap (gap (gap (gap (gap nil)))))))) e ∙ ap (λ (x : Bool). x && same g (gap (gap (gap (gap (gap (gap (gap nil)))))))) (sym f);
-}
+no_tuple : (v : ℕ → Ty value) (s : ℕ → Ty stack) (ps : List ℕ) (h : ℕ) (w : Val) → NoTupleForm w → NoTuple (push (build_v v s ps h w))
+unfolding declared same
+no_tuple v s ps h Int k = none_by _ (λ g. refl) refl
+no_tuple v s ps h Junk k = none_by _ (λ g. refl) refl
+no_tuple v s ps h (ValVar j) k = none_by _ (λ g. refl) refl
+no_tuple v s ps h (ValFill j) k = none_by _ (λ g. refl) refl
+no_tuple v s ps h (Tuple p o) k = absurd (k p o refl)
+no_tuple v s ps h (Pointer y) k = none_by _ (λ g. refl) refl
+no_tuple v s ps h (Hidden y) k = none_by _ (λ g. refl) refl
+no_tuple v s ps h (Code y p) k = none_by _ (λ g. refl) refl
 
-pub declares_gap : (s : Samples) → s ≡ record { fit = false; count = 0 } → Declares gap s
+pub other_tuple : (rows parts : List ℕ) (h : ℕ) {v : Val} → v ≡ value_at rows (place_v 0 (lift 0) 0) h → NoTupleForm v → NoTuple (push (mean_v (tab rows parts) h))
+other_tuple rows parts h {v} e k =
+    subst (λ (t : Ty value). NoTuple (push t)) (form_is rows parts h e refl) (no_tuple (mean_v (tab rows parts)) (mean_s (tab rows parts)) parts h v k)
+
+pub tuple_ok : (h : ℕ) {v : Val} {p c : ℕ} → v ≡ Tuple p c → OkV 0 h v → h ≤ 65536 → (h ≤ 65536) × (0 < h) × (p ≤ 65535) × (c ≤ 65535)
+tuple_ok h {p = p} {c = c} e o l = let q : OkV 0 h (Tuple p c) = subst (OkV 0 h) e o in (l, q.2, q.0, q.1)
+
+pub is_tuple : (rows parts : List ℕ) (h : ℕ) {v : Val} {p c : ℕ} → v ≡ value_at rows (place_v 0 (lift 0) 0) h → v ≡ Tuple p c → OkV 0 h v → h ≤ 65536 → IsTuple (tab rows parts) (push (mean_v (tab rows parts) h)) (record { row = h; start = p; count = c })
+is_tuple rows parts h e q o l =
+    let k = tuple_ok h q o l in
+    record { is = ap push (form_is rows parts h e q); named = k.1; low = l; file = k.2; few = k.3 }
+
+pub declares_none : {τ : RowTable} {r : Ty stack → Ty stack} → NoTuple r → Declares τ r None
+declares_none n = record { no = λ e. n; yes = λ x e. absurd (cc) }
+
+pub declares_tuple : {τ : RowTable} {r : Ty stack → Ty stack} {x : Samples} → IsTuple τ r x → Declares τ r (Some x)
+declares_tuple {τ} {r} {x} t = record { no = λ e. absurd (cc); yes = λ y e. let q : x ≡ y = cc in subst (IsTuple τ r) q t }
+
+pub declares_gap : NoTuple gap
 unfolding declared same entry_regs gaps
-declares_gap s e = record {
-  count = λ g. ap (λ (x : Samples). x.count) e;
-  fit = λ g. ap (λ (x : Samples). x.fit && same g (gaps 7)) (sym e);
-}
+declares_gap = record { count = λ g. refl; fit = λ g. refl }
+
+pub declares_as : {τ : RowTable} {f g : Ty stack → Ty stack} {o : Option Samples} → f ≡ g → Declares τ f o → Declares τ g o
+declares_as {τ} {o = o} e d = subst (λ h. Declares τ h o) e d
 
 pub items_parts : (v : ℕ → Ty value) (ps : List ℕ) (h p c : ℕ) → items (parts_of v ps false h p c) ≡ c
 unfolding parts_of items
 items_parts v ps h p zero = refl
 items_parts v ps h p (suc c) = ap suc (items_parts v ps h (suc p) c)
 
-pub declares_as : {f g : Ty stack → Ty stack} {s : Samples} → f ≡ g → Declares f s → Declares g s
-declares_as {s = s} e d = subst (λ h. Declares h s) e d
+tuple_fit : (a : Ty stack) (b : Bool) (c : ℕ) → items a ≡ c → b ≡ same a (ints c) → FitFirst (push (tuple a)) b
+unfolding declared same entry_regs gaps
+tuple_fit a b c e f = λ g. ap (λ k. same a (ints k) && same g (gap (gap (gap (gap (gap (gap (gap nil)))))))) e ∙ ap (λ (x : Bool). x && same g (gap (gap (gap (gap (gap (gap (gap nil)))))))) (sym f)
+
+module _ {τ : RowTable} {r : Ty stack → Ty stack} where
+  pub first_fit : {x : Samples} {b : Bool} → IsTuple τ r x → b ≡ same (parts_of (mean_v τ) τ.parts false x.row x.start x.count) (ints x.count) → FitFirst r b
+  first_fit {x} {b} d e = subst (λ f. FitFirst f b) d.is (tuple_fit _ b x.count (items_parts (mean_v τ) τ.parts x.row x.start x.count) e)
+
+  first_count : {x : Samples} → IsTuple τ r x → (g : Ty stack) → x.count ≡ declared (r g)
+  unfolding declared
+  first_count {x} d g = sym (items_parts (mean_v τ) τ.parts x.row x.start x.count) ∙ ap (λ (f : Ty stack → Ty stack). declared (f g)) d.is
 
 -- ---- the least of three faults
-three : (a b c : Bool) (out : ℕ) → out ≡ cond a (cond b (cond c 13 0) 8) 7 → out ≡ least_of (given (not a) 7 ++ given (not b) 8 ++ given c 13)
+unbound_least : (b c : Bool) → least_of (given true 7 ++ given b 8 ++ given c 13) ≡ 7
 unfolding least_of given number_of lowest
-three true true true out e = e
-three true true false out e = e
-three true false true out e = e
-three true false false out e = e
-three false true true out e = e
-three false true false out e = e
-three false false true out e = e
-three false false false out e = e
+unbound_least true true = refl
+unbound_least true false = refl
+unbound_least false true = refl
+unbound_least false false = refl
 
-module _ (a b c : Bool) where
-  pub not_formed : not a ≡ true → 7 ≡ least_of (given (not a) 7 ++ given (not b) 8 ++ given c 13)
-  not_formed h = three a b c 7 (ap (λ (x : Bool). cond x (cond b (cond c 13 0) 8) 7) (sym (not_yes a h)))
+unfit_least : (c : Bool) → least_of (given false 7 ++ given true 8 ++ given c 13) ≡ 8
+unfolding least_of given number_of lowest
+unfit_least true = refl
+unfit_least false = refl
 
-  pub not_fit : not a ≡ false → not b ≡ true → 8 ≡ least_of (given (not a) 7 ++ given (not b) 8 ++ given c 13)
-  not_fit h k = three a b c 8 (ap₂ (λ (x y : Bool). cond x (cond y (cond c 13 0) 8) 7) (sym (not_no a h)) (sym (not_yes b k)))
+deep_least : (c : Bool) → least_of (given false 7 ++ given false 8 ++ given c 13) ≡ cond c 13 0
+unfolding least_of given number_of lowest
+deep_least true = refl
+deep_least false = refl
 
-  pub sp_long : (n : ℕ) (z : Bool) → not a ≡ false → not b ≡ false → c ≡ z → n ≡ cond z 13 0 → n ≡ least_of (given (not a) 7 ++ given (not b) 8 ++ given c 13)
-  sp_long n z h k e q = three a b c n (q ∙ ap (λ (w : Bool). cond w 13 0) (sym e) ∙ ap₂ (λ (x y : Bool). cond x (cond y (cond c 13 0) 8) 7) (sym (not_no a h)) (sym (not_no b k)))
+-- block 0 is fit as the entry, and another need not be
+pub entry_first : (first : Bool) {f e : Bool} → f ≡ e → f ≡ true → first && not e ≡ false
+entry_first first {f} {e} i t = ap (λ z. first && not z) (sym i ∙ t) ∙ last first
+  where
+    last : (b : Bool) → b && false ≡ false
+    last true = refl
+    last false = refl
+
+pub entry_later : (first e : Bool) → first ≡ false → first && not e ≡ false
+entry_later first e t = ap (λ z. z && not e) t
 
 -- ---- the entry
-some_zero : (k : ℕ) → eqb (suc k) 0 ≡ false
-some_zero k = ne_eqb (suc k) 0 (λ e. omega arith)
-
 letters_none : (ps : List ℕ) (i k : ℕ) → same_letters (map letter_of (span ps i k)) [] ≡ eqb k 0
 unfolding same_letters span
 letters_none ps i zero = refl
@@ -192,11 +215,11 @@ module _ (rows parts : List ℕ) (h x p : ℕ) (xs : List Instr) where
   holds_none : (k : ℕ) → k ≡ items_at rows x → CountedTo τ x → eqb k 0 ≡ same (mean_s τ x) nil
   holds_none k e c = ap (λ (j : ℕ). eqb j 0) (e ∙ c x (omega arith)) ∙ sym (stack_none (mean_s τ x))
 
-  registers_fit : (s : Samples) (b : Bool) → Declares (on_slot (mean_v τ) (slot_at true h (get_or parts p 0))) s → b ≡ same (parts_of (mean_v τ) parts true h (p + 1) 7) (gaps 7) → s.fit && b ≡ same regs (entry_regs (declared regs))
+  registers_fit : (f b : Bool) → FitFirst (on_slot (mean_v τ) (slot_at true h (get_or parts p 0))) f → b ≡ same (parts_of (mean_v τ) parts true h (p + 1) 7) (gaps 7) → f && b ≡ same regs (entry_regs (declared regs))
   unfolding parts_of
-  registers_fit s b d e =
+  registers_fit f b d e =
       let q : p + 1 ≡ suc p = omega arith in
-      ap (λ (c : Bool). s.fit && c) (e ∙ ap (λ (j : ℕ). same (parts_of (mean_v τ) parts true h j 7) (gaps 7)) q) ∙ sym (d.fit (parts_of (mean_v τ) parts true h (suc p) 7))
+      ap (λ (c : Bool). f && c) (e ∙ ap (λ (j : ℕ). same (parts_of (mean_v τ) parts true h j 7) (gaps 7)) q) ∙ sym (d (parts_of (mean_v τ) parts true h (suc p) 7))
 
   false_left : (a : Bool) → false ≡ a && false
   false_left true = refl
@@ -205,20 +228,20 @@ module _ (rows parts : List ℕ) (h x p : ℕ) (xs : List Instr) where
   pub entry_letters : (k : ℕ) → k ≡ get_or parts (p + 8) 0 → (k ≡ 0 → ⊥) → false ≡ is_entry (block_at τ h x p xs)
   entry_letters k e z = entry_is false (same (mean_s τ x) nil) (same regs (entry_regs (declared regs))) (sym (ne_eqb k 0 z) ∙ binds k e) refl refl
 
-  pub entry_items : (k : ℕ) → k ≡ items_at rows x → CountedTo τ x → (k ≡ 0 → ⊥) → false ≡ is_entry (block_at τ h x p xs)
-  entry_items k e c z = false_left (same_letters (letters_at parts p) []) ∙ entry_is (same_letters (letters_at parts p) []) false (same regs (entry_regs (declared regs))) refl (sym (ne_eqb k 0 z) ∙ holds_none k e c) refl
+  pub entry_items : (k : ℕ) → k ≡ items_at rows x → CountedTo τ x → eqb k 0 ≡ false → false ≡ is_entry (block_at τ h x p xs)
+  entry_items k e c z = false_left (same_letters (letters_at parts p) []) ∙ entry_is (same_letters (letters_at parts p) []) false (same regs (entry_regs (declared regs))) refl (sym z ∙ holds_none k e c) refl
 
-  pub entry_unfit : (s : Samples) → Declares (on_slot (mean_v τ) (slot_at true h (get_or parts p 0))) s → s.fit ≡ false → false ≡ is_entry (block_at τ h x p xs)
-  entry_unfit s d z =
+  pub entry_unfit : (f : Bool) → FitFirst (on_slot (mean_v τ) (slot_at true h (get_or parts p 0))) f → f ≡ false → false ≡ is_entry (block_at τ h x p xs)
+  entry_unfit f d z =
       false_left (same_letters (letters_at parts p) [])
       ∙ ap (λ (b : Bool). same_letters (letters_at parts p) [] && b) (false_left (same (mean_s τ x) nil))
-      ∙ entry_is (same_letters (letters_at parts p) []) (same (mean_s τ x) nil) false refl refl (ap (λ (b : Bool). b && same (parts_of (mean_v τ) parts true h (p + 1) 7) (gaps 7)) (sym z) ∙ registers_fit s _ d refl)
+      ∙ entry_is (same_letters (letters_at parts p) []) (same (mean_s τ x) nil) false refl refl (ap (λ (b : Bool). b && same (parts_of (mean_v τ) parts true h (p + 1) 7) (gaps 7)) (sym z) ∙ registers_fit f _ d refl)
 
-  pub entry_fit : (k j : ℕ) (s : Samples) (b : Bool) → k ≡ get_or parts (p + 8) 0 → k ≡ 0 → j ≡ items_at rows x → CountedTo τ x → j ≡ 0
-      → Declares (on_slot (mean_v τ) (slot_at true h (get_or parts p 0))) s → s.fit ≡ true → b ≡ same (parts_of (mean_v τ) parts true h (p + 1)
+  pub entry_fit : (k j : ℕ) (f b : Bool) → k ≡ get_or parts (p + 8) 0 → k ≡ 0 → j ≡ items_at rows x → CountedTo τ x → eqb j 0 ≡ true
+      → FitFirst (on_slot (mean_v τ) (slot_at true h (get_or parts p 0))) f → f ≡ true → b ≡ same (parts_of (mean_v τ) parts true h (p + 1)
       7) (gaps 7) → b ≡ is_entry (block_at τ h x p xs)
-  entry_fit k j s b e z f c y d t g =
-      entry_is true true b (sym (eq-eqb k 0 z) ∙ binds k e) (sym (eq-eqb j 0 y) ∙ holds_none j f c) (ap (λ (a : Bool). a && b) (sym t) ∙ registers_fit s b d g)
+  entry_fit k j f b e z i c y d t g =
+      entry_is true true b (sym (eq-eqb k 0 z) ∙ binds k e) (sym y ∙ holds_none j i c) (ap (λ (a : Bool). a && b) (sym t) ∙ registers_fit f b d g)
 
 -- ---- rows that are no code rows
 abbrev pub NoCode : Val → Type 0
@@ -262,9 +285,15 @@ module _ (rows parts : List ℕ) (n c h : ℕ) {v : Val} (e : h ≡ lower (n + 1
   unfolding declared
   other_samples xs k = ap (λ (B : Block). declared B.regs) (sym (other_block xs k))
 
-  pub code_samples : {x p : ℕ} (xs : List Instr) (s : Samples) → v ≡ Code x p → Declares (on_slot (mean_v (tab rows parts)) (slot_at true h (get_or parts p 0))) s → s.count ≡ declared (block_of (type_at value (types_of (rows_in (tab rows parts) n)) c) xs).regs
+  code_count : {x p : ℕ} (xs : List Instr) (k : ℕ) → v ≡ Code x p → ((g : Ty stack) → k ≡ declared (on_slot (mean_v (tab rows parts)) (slot_at true h (get_or parts p 0)) g)) → k ≡ declared (block_of (type_at value (types_of (rows_in (tab rows parts) n)) c) xs).regs
   unfolding parts_of
-  code_samples {x} {p} xs s q d = d.count (parts_of (mean_v (tab rows parts)) parts true h (suc p) 7) ∙ ap (λ (B : Block). declared B.regs) (sym (block_is {x = x} {p = p} xs q))
+  code_count {x} {p} xs k q d = d (parts_of (mean_v (tab rows parts)) parts true h (suc p) 7) ∙ ap (λ (B : Block). declared B.regs) (sym (block_is {x = x} {p = p} xs q))
+
+  pub tuple_samples : {x p : ℕ} (xs : List Instr) {o : Option Samples} {y : Samples} → v ≡ Code x p → o ≡ Some y → Declares (tab rows parts) (on_slot (mean_v (tab rows parts)) (slot_at true h (get_or parts p 0))) o → y.count ≡ declared (block_of (type_at value (types_of (rows_in (tab rows parts) n)) c) xs).regs
+  tuple_samples {x} {p} xs {o} {y} q i d = code_count {x = x} {p = p} xs y.count q (first_count (d.yes y i))
+
+  pub no_samples : {x p : ℕ} (xs : List Instr) {o : Option Samples} → v ≡ Code x p → o ≡ None → Declares (tab rows parts) (on_slot (mean_v (tab rows parts)) (slot_at true h (get_or parts p 0))) o → 0 ≡ declared (block_of (type_at value (types_of (rows_in (tab rows parts) n)) c) xs).regs
+  no_samples {x} {p} xs q i d = code_count {x = x} {p = p} xs 0 q (d.no i).count
 
   -- ---- well-formed
   code_kind_lem : (k a b x p : ℕ) → value_with ValVar h k a b ≡ Code x p → k ≡ 5
@@ -291,11 +320,8 @@ module _ (rows parts : List ℕ) (n c h : ℕ) {v : Val} (e : h ≡ lower (n + 1
       go false false false false false false r z = never (ap tag z)
 
 -- ---- what a form names is small
-pub tuple_ok : (h : ℕ) {v : Val} {p c : ℕ} → v ≡ Tuple p c → OkV 0 h v → h ≤ 65536 → (h ≤ 65536) × (0 < h) × (p ≤ 65535) × (c ≤ 65535)
-tuple_ok h {p = p} {c = c} e o l = let q : OkV 0 h (Tuple p c) = subst (OkV 0 h) e o in (l, q.2, q.0, q.1)
-
-pub slot_ok : (h : ℕ) {s : Slot} {t : ℕ} → s ≡ Known t → OkSlot h s → h ≤ 65536 → t ≤ 65536
-slot_ok h {t = t} e o l = let q : OkSlot h (Known t) = subst (OkSlot h) e o in omega arith
+pub slot_ok : (h : ℕ) {s : Option ℕ} {t : ℕ} → s ≡ Some t → OkSlot h s → h ≤ 65536 → t ≤ 65536
+slot_ok h {t = t} e o l = let q : OkSlot h (Some t) = subst (OkSlot h) e o in omega arith
 
 pub code_ok : (h : ℕ) {v : Val} {x p : ℕ} → v ≡ Code x p → OkV 0 h v → (x < h) × (p ≤ 65535)
 code_ok h {x = x} {p = p} e o = subst (OkV 0 h) e o
@@ -307,7 +333,7 @@ link_some : (b : Bool) (n c h : ℕ) → h ≡ cond b (suc c) 0 → ltb (suc c) 
 link_some true n c h e q l = let k = ltb-true (suc c) (n + 1) q in (omega arith, e)
 link_some false n c h e q l = absurd (omega arith)
 
-module _ (rows parts : List ℕ) (n c h : ℕ) {v : Val} {x p : ℕ} (e : h ≡ lower (n + 1) c) (f : v ≡ value_at rows (place_v 0 (lift 0) 0) h) (q : v ≡ Code x p) (o : OkV 0 h v) where
+module _ (rows parts : List ℕ) (n c h : ℕ) {v : Val} {x p : ℕ} (e : h ≡ lower (n + 1) c) (f₀ : v ≡ value_at rows (place_v 0 (lift 0) 0) h) (q : v ≡ Code x p) (o : OkV 0 h v) where
   pub code_low : (x < h) × (p ≤ 65535) × (0 < h)
   code_low = let k = code_ok h q o in (k.0, k.1, omega (arith, k.0))
 
@@ -316,8 +342,8 @@ module _ (rows parts : List ℕ) (n c h : ℕ) {v : Val} {x p : ℕ} (e : h ≡ 
 
   kind_five : cell 4 rows c 0 ≡ 5
   kind_five =
-      let z : value_at rows ValVar (suc c) ≡ Code x p = ap (value_at rows ValVar) (sym code_in.1) ∙ sym (plain_value rows h) ∙ sym f ∙ q in
-      code_kind_lem rows parts n c h e f (cell 4 rows c 0) (cell 4 rows c 1) (cell 4 rows c 2) x p (ap (λ (j : ℕ). value_with ValVar j (cell 4 rows c 0) (cell 4 rows c 1) (cell 4 rows c 2)) code_in.1 ∙ z)
+      let z : value_at rows ValVar (suc c) ≡ Code x p = ap (value_at rows ValVar) (sym code_in.1) ∙ sym (plain_value rows h) ∙ sym f₀ ∙ q in
+      code_kind_lem rows parts n c h e f₀ (cell 4 rows c 0) (cell 4 rows c 1) (cell 4 rows c 2) x p (ap (λ (j : ℕ). value_with ValVar j (cell 4 rows c 0) (cell 4 rows c 1) (cell 4 rows c 2)) code_in.1 ∙ z)
 
   no_stack : is_stack_at rows c ≡ false
   no_stack = rw kind_five refl
@@ -327,20 +353,40 @@ module _ (rows parts : List ℕ) (n c h : ℕ) {v : Val} {x p : ℕ} (e : h ≡ 
   formed_is b g =
       g
       ∙ ap (formed_arg []) (arg_at (tab rows parts) n c code_in.0 ∙ ap (λ (z : Bool). cond z (arg stack (mean_s (tab rows parts) (suc c))) (arg value (mean_v (tab rows parts) (suc c)))) no_stack)
-      ∙ ap (λ (t : Ty value). is_formed [] a_stack t) (ap (mean_v (tab rows parts)) (sym code_in.1) ∙ sym (form_is rows parts h f q))
+      ∙ ap (λ (t : Ty value). is_formed [] a_stack t) (ap (mean_v (tab rows parts)) (sym code_in.1) ∙ sym (form_is rows parts h f₀ q))
 
-  pub block_least : (first a b : Bool) (k out : ℕ) (xs : List Instr) → a ≡ formed_arg (letters_of parts (record { hidden = 0; count = 0; start = 0 }))
-      (get_or (types_of (rows_in (tab rows parts) n)) c (arg value junk)) → not b ≡ first && not (is_entry (block_at (tab rows parts) h x p xs))
-      → k ≡ items_at rows x → CountedTo (tab rows parts) n → out ≡ least_of (given (not a) 7 ++ given (not b) 8 ++ given (ltb 64 k) 13)
-      → out ≡ least_of (block_faults first (block_of (type_at value (types_of (rows_in (tab rows parts) n)) c) xs))
+  -- the faults of the block's line
+  faults_are : (first a f : Bool) (k : ℕ) (xs : List Instr) → a ≡ formed_arg (letters_of parts (record { hidden = 0; count = 0; start = 0 }))
+      (get_or (types_of (rows_in (tab rows parts) n)) c (arg value junk)) → f ≡ is_entry (block_at (tab rows parts) h x p xs)
+      → k ≡ items_at rows x → CountedTo (tab rows parts) n → least_of (given (not a) 7 ++ given (first && not f) 8 ++ given (ltb 64 k) 13)
+      ≡ least_of (block_faults first (block_of (type_at value (types_of (rows_in (tab rows parts) n)) c) xs))
   unfolding block_faults
-  block_least first a b k out xs g i j l r =
-      r
-      ∙ ap₂ (λ (y z : Bool). least_of (given (not y) 7 ++ given z 8 ++ given (ltb 64 k) 13)) (formed_is a g) i
+  faults_are first a f k xs g i j l =
+      ap₂ (λ (y z : Bool). least_of (given (not y) 7 ++ given (first && not z) 8 ++ given (ltb 64 k) 13)) (formed_is a g) i
       ∙ ap (λ (z : ℕ). least_of (given (not (is_formed [] a_stack (code (letters_at parts p) (mean_s (tab rows parts) x)
       (parts_of (mean_v (tab rows parts)) parts true h p 8)))) 7 ++ given (first && not (is_entry (block_at (tab rows parts) h x p xs))) 8
       ++ given (ltb 64 z) 13)) (j ∙ l x (let w = code_low.0 in let y = code_in in omega (arith, y.0, y.1)))
-      ∙ ap (λ (B : Block). least_of (block_faults first B)) (sym (block_is rows parts n c h e f {x = x} {p = p} xs q))
+      ∙ ap (λ (B : Block). least_of (block_faults first B)) (sym (block_is rows parts n c h e f₀ {x = x} {p = p} xs q))
+
+  module _ (first a : Bool) (xs : List Instr) (g : a ≡ formed_arg (letters_of parts (record { hidden = 0; count = 0; start = 0 })) (get_or (types_of (rows_in (tab rows parts) n)) c (arg value junk))) (l : CountedTo (tab rows parts) n) where
+    pub block_unbound : a ≡ false → 7 ≡ least_of (block_faults first (block_of (type_at value (types_of (rows_in (tab rows parts) n)) c) xs))
+    block_unbound r =
+        sym (unbound_least (first && not (is_entry (block_at (tab rows parts) h x p xs))) (ltb 64 (items_at rows x)))
+        ∙ ap (λ y. least_of (given (not y) 7 ++ given (first && not (is_entry (block_at (tab rows parts) h x p xs))) 8 ++ given (ltb 64 (items_at rows x)) 13)) (sym r)
+        ∙ faults_are first a (is_entry (block_at (tab rows parts) h x p xs)) (items_at rows x) xs g refl refl l
+
+    pub block_unfit : (f : Bool) → a ≡ true → f ≡ is_entry (block_at (tab rows parts) h x p xs) → first ≡ true → f ≡ false → 8 ≡ least_of (block_faults first (block_of (type_at value (types_of (rows_in (tab rows parts) n)) c) xs))
+    block_unfit f r i t q =
+        sym (unfit_least (ltb 64 (items_at rows x)))
+        ∙ ap₂ (λ y z. least_of (given (not y) 7 ++ given z 8 ++ given (ltb 64 (items_at rows x)) 13)) (sym r) (sym (ap₂ (λ y z. y && not z) t q))
+        ∙ faults_are first a f (items_at rows x) xs g i refl l
+
+    pub block_rest : {k out : ℕ} → a ≡ true → first && not (is_entry (block_at (tab rows parts) h x p xs)) ≡ false → k ≡ items_at rows x → out ≡ cond (ltb 64 k) 13 0 → out ≡ least_of (block_faults first (block_of (type_at value (types_of (rows_in (tab rows parts) n)) c) xs))
+    block_rest {k} r q j o =
+        o
+        ∙ sym (deep_least (ltb 64 k))
+        ∙ ap₂ (λ y z. least_of (given (not y) 7 ++ given z 8 ++ given (ltb 64 k) 13)) (sym r) (sym q)
+        ∙ faults_are first a (is_entry (block_at (tab rows parts) h x p xs)) k xs g refl j l
 
   pub counted_stack : CountedTo (tab rows parts) n → CountedTo (tab rows parts) x
   counted_stack l y k = l y (let w = code_low.0 in let z = code_in in omega (arith, z.0, z.1))

@@ -1,23 +1,47 @@
 -- Laws of the variables of one row.
 use Prim.Native.Nat.{ℕ, zero, suc, ◌+◌, ◌-◌, ◌*◌, ◌<◌, ◌≤◌}
-use native.Mathlib.Nat.{add-zero, add-suc, suc-add, sub-zero, not-suc-le-zero, le_of_suc-le-suc}
+use native.Mathlib.Nat.{zero-add, add-zero, add-suc, suc-add, sub-zero, not-suc-le-zero, le_of_suc-le-suc}
 use native.Mathlib.Numerals.{add-one}
 use native.Mathlib.Omega.{arith}
 use mathlib.Core.Path.{◌≡◌, refl, ap, ap₂, sym, ◌∙◌}
-use mathlib.Core.Bool.{Bool, true, false, ◌&&◌, not, cond}
+use mathlib.Core.Bool.{Bool, true, false, ◌&&◌, cond}
 use mathlib.Core.Option.{Option, none, some}
 use mathlib.Core.List.{List, ◌∷◌, ◌++◌, map, reverse-reverse}
 use lib.Dec.{eqb}
-use lib.ListN.{length, get_or, get_elem?, replicate, length-map, length-reverse, get_or-eq_default}
-use borrow.Author.Tests.{ne_eqb, lt-ltb, le-ltb, eqb-true, eqb-false, not-true, not-false}
+use Rattle.std.specs.Prelude.{Option as Maybe, Some, None}
+use Rattle.std.specs.Option.{SomeIff}
+use Rattle.std.specs.List.{list_all, range_with_len}
+use lib.ListN.{length, get_or, get_elem?, replicate, length-map, length-reverse}
+use borrow.Author.Tests.{eq-eqb, ne_eqb, lt-ltb, le-ltb, eqb-true, eqb-false}
 use Rattle.syntax.specs.Syntax.{Kind, value, Row, row_k, row_a}
-use Rattle.types.proofs.Equal.{none_true}
 use Rattle.tables.specs.Tables.{span, letter_of, known_of, letters_at, code_row_at, row_from}
 use Rattle.valid_scope.specs.Letters.{letters_of}
 use Rattle.valid_scope.specs.declared.BlockLetters.{BlockLetters}
 use Rattle.valid_scope.specs.variables.Free.{both, use_of, fits, fit_to}
-use Rattle.valid_scope.specs.variables.Uses.{parts_at, use_at, part_use, parts_use, code_use, row_use, respected_at, part_respected, parts_respected, row_respected}
-use Rattle.valid_scope.proofs.variables.WellFormed.{fits_unused, fit_each}
+use Rattle.valid_scope.specs.variables.Uses.{parts_at, row_named, use_at, part_use, parts_use, code_use, row_use, respected_at, part_respected, parts_respected, row_respected}
+use Rattle.valid_scope.proofs.variables.WellFormed.{fits_unused}
+
+-- ---- tests
+and-true : (a : Bool) → a && true ≡ a
+and-true true = refl
+and-true false = refl
+
+and-assoc : (a b c : Bool) → (a && b) && c ≡ a && (b && c)
+and-assoc true b c = refl
+and-assoc false b c = refl
+
+false_beside : (a b : Bool) → false ≡ (a && false) && b
+false_beside true b = refl
+false_beside false b = refl
+
+-- ---- one use beside another
+pub both_right : (u w : ℕ) → w ≡ 0 → u ≡ both u w
+unfolding both
+both_right u w e = go (eqb u 0) refl
+  where
+    go : (b : Bool) → eqb u 0 ≡ b → u ≡ cond b w (cond (eqb w 0) u (cond (eqb u w) u 3))
+    go true q = eqb-true u 0 q ∙ sym e
+    go false q = rw (eq-eqb w 0 e) refl
 
 -- ---- one entry
 pub use_past : (uses : List ℕ) (k t : ℕ) → 64 ≤ k → 0 ≡ use_at uses k t
@@ -27,9 +51,6 @@ use_past uses k t h = rw (le-ltb k 64 h)
 pub use_in : (uses : List ℕ) (k t : ℕ) → k < 64 → get_or uses (64 * t + k) 0 ≡ use_at uses k t
 unfolding use_at
 use_in uses k t h = rw (lt-ltb k 64 h)
-
-pub use_out : (uses : List ℕ) (k t : ℕ) → k < 64 → length uses ≤ 64 * t + k → 0 ≡ use_at uses k t
-use_out uses k t h l = sym (get_or-eq_default uses 0 l) ∙ use_in uses k t h
 
 -- ---- parts
 components_at : (ps : List ℕ) (p n : ℕ) → parts_at ps p n 1 ≡ map some (span ps p n)
@@ -42,20 +63,25 @@ unfolding parts_at span
 registers_at ps p zero = refl
 registers_at ps p (suc n) = ap₂ (λ (x : Option ℕ) (l : List (Option ℕ)). x ∷ l) (ap known_of (add-zero (get_or ps p 0))) (registers_at ps (suc p) n)
 
-known_none : (uses : List ℕ) (k x : ℕ) → x ≡ 0 → 0 ≡ part_use uses k (known_of x)
-unfolding part_use known_of
-known_none uses k x e = rw e
+-- the row that a part names
+pub named_by : (o : Maybe ℕ) (n : ℕ) {x : ℕ} → SomeIff o (1 ≤ n) (n - 1) → n ≡ x → row_named o ≡ known_of x
+unfolding known_of
+named_by None zero s e = ap known_of e
+named_by None (suc n) s e = absurd (s (omega arith))
+named_by (Some t) zero s e = absurd (omega (arith, s.0))
+named_by (Some t) (suc n) s e = let q : t ≡ n = omega (arith, s.1) in ap some q ∙ ap known_of e
 
-known_some : (uses : List ℕ) (k x : ℕ) → (x ≡ 0 → ⊥) → use_at uses k (x - 1) ≡ part_use uses k (known_of x)
-unfolding part_use known_of
-known_some uses k zero h = absurd (h refl)
-known_some uses k (suc x) h = let e : suc x - 1 ≡ x = omega arith in ap (use_at uses k) e
+pub named_low : (o : Maybe ℕ) (n : ℕ) → SomeIff o (1 ≤ n) (n - 1) → n ≤ 65536 → (t : ℕ) → o ≡ Some t → t ≤ 65535
+named_low None n s l t e = absurd (cc)
+named_low (Some u) n s l t e = let q : u ≡ t = cc in omega (arith, s.1)
 
-pub part_none : (uses ps : List ℕ) (k i off : ℕ) {x : ℕ} → x ≡ get_or ps i 0 → x + off ≡ 0 → 0 ≡ part_use uses k (known_of (get_or ps i 0 + off))
-part_none uses ps k i off {x} p e = rw (← p) (known_none uses k (x + off) e)
+pub part_none : (uses : List ℕ) (k : ℕ) {o : Maybe ℕ} {p : Option ℕ} → o ≡ None → row_named o ≡ p → 0 ≡ part_use uses k p
+unfolding part_use
+part_none uses k e f = ap (part_use uses k) (ap row_named (sym e) ∙ f)
 
-pub part_some : (uses ps : List ℕ) (k i off : ℕ) {x u : ℕ} → x ≡ get_or ps i 0 → (x + off ≡ 0 → ⊥) → u ≡ use_at uses k (x + off - 1) → u ≡ part_use uses k (known_of (get_or ps i 0 + off))
-part_some uses ps k i off {x} p h e = rw (← p) (e ∙ known_some uses k (x + off) h)
+pub part_some : (uses : List ℕ) (k : ℕ) {o : Maybe ℕ} {p : Option ℕ} {t u : ℕ} → o ≡ Some t → row_named o ≡ p → u ≡ use_at uses k t → u ≡ part_use uses k p
+unfolding part_use
+part_some uses k e f g = g ∙ ap (part_use uses k) (ap row_named (sym e) ∙ f)
 
 -- the parts from i on: none, one more in front, all
 pub parts_none : (uses ps : List ℕ) (p n off k i : ℕ) → n ≤ i → 0 ≡ parts_use uses k (parts_at ps p (n - i) off)
@@ -72,43 +98,23 @@ parts_more uses ps p n off k i z l d e f =
 pub parts_all : (uses ps : List ℕ) (p n off k i : ℕ) {u : ℕ} → i ≤ 0 → u ≡ parts_use uses k (parts_at ps (p + i) (n - i) off) → u ≡ parts_use uses k (parts_at ps p n off)
 parts_all uses ps p n off k i l e = let z : i ≡ 0 = omega arith in e ∙ rw (z, add-zero, sub-zero)
 
-respected_gap : (tops : List ℕ) (x : ℕ) → x ≡ 0 → true ≡ part_respected tops (known_of x)
-unfolding part_respected known_of
-respected_gap tops x e = rw e
+pub respected_none : (tops : List ℕ) {o : Maybe ℕ} {p : Option ℕ} → o ≡ None → row_named o ≡ p → true ≡ part_respected tops p
+unfolding part_respected
+respected_none tops e f = ap (part_respected tops) (ap row_named (sym e) ∙ f)
 
-respected_known : (tops : List ℕ) (x : ℕ) → (x ≡ 0 → ⊥) → respected_at tops (x - 1) ≡ part_respected tops (known_of x)
-unfolding part_respected known_of
-respected_known tops zero h = absurd (h refl)
-respected_known tops (suc x) h = let e : suc x - 1 ≡ x = omega arith in ap (respected_at tops) e
+pub respected_some : (tops : List ℕ) {o : Maybe ℕ} {p : Option ℕ} {t : ℕ} {b : Bool} → o ≡ Some t → row_named o ≡ p → b ≡ respected_at tops t → b ≡ part_respected tops p
+unfolding part_respected
+respected_some tops e f g = g ∙ ap (part_respected tops) (ap row_named (sym e) ∙ f)
 
-pub respected_none : (tops ps : List ℕ) (i off : ℕ) {x : ℕ} → x ≡ get_or ps i 0 → x + off ≡ 0 → true ≡ part_respected tops (known_of (get_or ps i 0 + off))
-respected_none tops ps i off {x} p e = rw (← p) (respected_gap tops (x + off) e)
+respected_from : (tops ps : List ℕ) (p off i n : ℕ) → list_all (λ j. part_respected tops (known_of (get_or ps (p + j) 0 + off))) (range_with_len i n) ≡ parts_respected tops (parts_at ps (p + i) n off)
+unfolding parts_respected parts_at span
+respected_from tops ps p off i zero = refl
+respected_from tops ps p off i (suc n) =
+    let e : p + (i + 1) ≡ suc (p + i) = omega arith in
+    ap (λ b. part_respected tops (known_of (get_or ps (p + i) 0 + off)) && b) (respected_from tops ps p off (i + 1) n ∙ ap (λ j. parts_respected tops (parts_at ps j n off)) e)
 
-pub respected_some : (tops ps : List ℕ) (i off : ℕ) {x : ℕ} {b : Bool} → x ≡ get_or ps i 0 → (x + off ≡ 0 → ⊥) → b ≡ respected_at tops (x + off - 1) → b ≡ part_respected tops (known_of (get_or ps i 0 + off))
-respected_some tops ps i off {x} p h e = rw (← p) (e ∙ respected_known tops (x + off) h)
-
-module _ (tops ps : List ℕ) (p n off : ℕ) where
-  respected_front : (i : ℕ) → i < n → parts_respected tops (parts_at ps (p + i) (n - i) off) ≡ part_respected tops (known_of (get_or ps (p + i) 0 + off)) && parts_respected tops (parts_at ps (p + (i + 1)) (n - (i + 1)) off)
-  unfolding parts_respected parts_at span
-  respected_front i h =
-      let e : n - i ≡ suc (n - (i + 1)) = omega arith in
-      let f : p + (i + 1) ≡ suc (p + i) = omega arith in
-      rw (e, f)
-
-  pub respected_start : parts_respected tops (parts_at ps (p + 0) (n - 0) off) ≡ parts_respected tops (parts_at ps p n off)
-  respected_start = rw (add-zero, sub-zero)
-
-  pub respected_more : (i : ℕ) {x : Bool} → i < n → x ≡ part_respected tops (known_of (get_or ps (p + i) 0 + off)) → not x ≡ false
-      → parts_respected tops (parts_at ps (p + i) (n - i) off) ≡ parts_respected tops (parts_at ps p n off) → parts_respected tops
-      (parts_at ps (p + (i + 1)) (n - (i + 1)) off) ≡ parts_respected tops (parts_at ps p n off)
-  respected_more i h e t g = sym (ap (λ z. z && parts_respected tops (parts_at ps (p + (i + 1)) (n - (i + 1)) off)) (sym e ∙ not-false _ t)) ∙ sym (respected_front i h) ∙ g
-
-  pub respected_not : (i : ℕ) {x : Bool} → i < n → x ≡ part_respected tops (known_of (get_or ps (p + i) 0 + off)) → not x ≡ true → parts_respected tops (parts_at ps (p + i) (n - i) off) ≡ parts_respected tops (parts_at ps p n off) → false ≡ parts_respected tops (parts_at ps p n off)
-  respected_not i h e t g = sym (ap (λ z. z && parts_respected tops (parts_at ps (p + (i + 1)) (n - (i + 1)) off)) (sym e ∙ not-true _ t)) ∙ sym (respected_front i h) ∙ g
-
-  pub respected_end : (i : ℕ) → n ≤ i → parts_respected tops (parts_at ps (p + i) (n - i) off) ≡ parts_respected tops (parts_at ps p n off) → true ≡ parts_respected tops (parts_at ps p n off)
-  unfolding parts_respected parts_at span
-  respected_end i h g = let e : n - i ≡ 0 = omega arith in rw e at g
+pub respected_all : (tops ps : List ℕ) (p n off : ℕ) → list_all (λ j. part_respected tops (known_of (get_or ps (p + j) 0 + off))) (range_with_len 0 n) ≡ parts_respected tops (parts_at ps p n off)
+respected_all tops ps p n off = respected_from tops ps p off 0 n ∙ ap (λ j. parts_respected tops (parts_at ps j n off)) (add-zero p)
 
 -- ---- letters
 pub letter_v : (x : ℕ) → x ≡ 0 → 1 ≡ use_of (letter_of x)
@@ -167,30 +173,33 @@ module _ (ps : List ℕ) (w : BlockLetters) (u k : ℕ) {x : Bool} where
 
 -- the variables below n
 module _ (Δ : List Kind) (f : ℕ → ℕ) where
-  pub fit_none : fit_to Δ f 0 ≡ true
+  fit_none : fit_to Δ f 0 ≡ true
   unfolding fit_to
   fit_none = refl
 
-  pub fit_more : (k : ℕ) {u : ℕ} {x : Bool} → fit_to Δ f k ≡ true → u ≡ f k → x ≡ fits u (get_elem? Δ k) → not x ≡ false → fit_to Δ f (k + 1) ≡ true
+  pub fit_every : (n : ℕ) → ((k : ℕ) → fits (f k) (get_elem? Δ k) ≡ true) → fit_to Δ f n ≡ true
   unfolding fit_to
-  fit_more k h p e t = rw (add-one, h, ← p) (sym e ∙ not-false _ t)
+  fit_every zero h = refl
+  fit_every (suc n) h = rw (fit_every n h, h n) refl
 
-  pub fit_not : (n k : ℕ) {u : ℕ} {x : Bool} → k < n → u ≡ f k → x ≡ fits u (get_elem? Δ k) → not x ≡ true → false ≡ fit_to Δ f n
-  fit_not n k {u} h p e t = go (fit_to Δ f n) refl
-    where
-      go : (b : Bool) → fit_to Δ f n ≡ b → false ≡ b
-      go true q = none_true (sym (not-true _ t) ∙ e ∙ ap (λ u. fits u (get_elem? Δ k)) p ∙ fit_each Δ f n q k h)
-      go false q = refl
+  fit_from : (i n : ℕ) → fit_to Δ f i && list_all (λ k. fits (f k) (get_elem? Δ k)) (range_with_len i n) ≡ fit_to Δ f (n + i)
+  unfolding fit_to
+  fit_from i zero = and-true (fit_to Δ f i) ∙ ap (fit_to Δ f) (sym (zero-add i))
+  fit_from i (suc n) =
+      let e : i + 1 ≡ suc i = omega arith in
+      let g : n + suc i ≡ suc n + i = omega arith in
+      sym (and-assoc (fit_to Δ f i) (fits (f i) (get_elem? Δ i)) (list_all (λ k. fits (f k) (get_elem? Δ k)) (range_with_len (i + 1) n)))
+      ∙ ap (λ j. fit_to Δ f (suc i) && list_all (λ k. fits (f k) (get_elem? Δ k)) (range_with_len j n)) e
+      ∙ fit_from (suc i) n
+      ∙ ap (fit_to Δ f) g
+
+  pub fit_all : (n : ℕ) → list_all (λ k. fits (f k) (get_elem? Δ k)) (range_with_len 0 n) ≡ fit_to Δ f n
+  fit_all n = sym (ap (λ b. b && list_all (λ k. fits (f k) (get_elem? Δ k)) (range_with_len 0 n)) fit_none) ∙ fit_from 0 n ∙ ap (fit_to Δ f) (add-zero n)
 
 -- the letters of a code row, of which there are q
-module _ (ps : List ℕ) (p : ℕ) (f : ℕ → ℕ) {q : ℕ} (e : q ≡ get_or ps (p + 8) 0) where
-  pub letters_not : false ≡ fit_to (map letter_of (span ps (p + 9) q)) f q → false ≡ fit_to (letters_at ps p) f (get_or ps (p + 8) 0)
-  unfolding letters_at
-  letters_not h = rw e at h
-
-  pub letters_all : (k : ℕ) → k ≡ q → fit_to (map letter_of (span ps (p + 9) q)) f k ≡ true → true ≡ fit_to (letters_at ps p) f (get_or ps (p + 8) 0)
-  unfolding letters_at
-  letters_all k g h = sym (rw (g, e) at h)
+pub letters_from : (ps : List ℕ) (p : ℕ) (f : ℕ → ℕ) {q : ℕ} {b : Bool} → q ≡ get_or ps (p + 8) 0 → b ≡ fit_to (map letter_of (span ps (p + 9) q)) f q → b ≡ fit_to (letters_at ps p) f (get_or ps (p + 8) 0)
+unfolding letters_at
+letters_from ps p f e h = rw e at h
 
 span_length : (ps : List ℕ) (p n : ℕ) → length (span ps p n) ≡ n
 unfolding span
@@ -264,22 +273,22 @@ module _ (uses tops ps : List ℕ) (s p : ℕ) where
   unfolding row_respected code_row_at
   code_row = rw (registers_at, reverse-reverse, length-reverse, letters_length)
 
-  pub code_stack : {x : Bool} → x ≡ respected_at tops s → not x ≡ true → false ≡ row_respected uses tops (code_row_at ps s p)
-  code_stack e t = rw (sym e ∙ not-true _ t) at code_row
+  pub code_stack : {x : Bool} → x ≡ respected_at tops s → x ≡ false → false ≡ row_respected uses tops (code_row_at ps s p)
+  code_stack e t = rw (sym e ∙ t) at code_row
 
-  pub code_registers : {x y : Bool} → x ≡ respected_at tops s → not x ≡ false → y ≡ parts_respected tops (parts_at ps p 8 0) → not y ≡ true → false ≡ row_respected uses tops (code_row_at ps s p)
-  code_registers e t f u = rw (sym e ∙ not-false _ t, sym f ∙ not-true _ u) at code_row
+  pub code_registers : {y : Bool} → y ≡ parts_respected tops (parts_at ps p 8 0) → y ≡ false → false ≡ row_respected uses tops (code_row_at ps s p)
+  code_registers e t = false_beside (respected_at tops s) (fit_to (letters_at ps p) (code_use uses s (parts_at ps p 8 0)) (get_or ps (p + 8) 0)) ∙ (rw (sym e ∙ t) at code_row)
 
-  pub code_letters : {x y z : Bool} → x ≡ respected_at tops s → not x ≡ false → y ≡ parts_respected tops (parts_at ps p 8 0) → not y ≡ false → z ≡ fit_to (letters_at ps p) (code_use uses s (parts_at ps p 8 0)) (get_or ps (p + 8) 0) → z ≡ row_respected uses tops (code_row_at ps s p)
-  code_letters e t f u g = g ∙ (rw (sym e ∙ not-false _ t, sym f ∙ not-false _ u) at code_row)
+  pub code_letters : {x y z : Bool} → x ≡ respected_at tops s → x ≡ true → y ≡ parts_respected tops (parts_at ps p 8 0) → y ≡ true → z ≡ fit_to (letters_at ps p) (code_use uses s (parts_at ps p 8 0)) (get_or ps (p + 8) 0) → z ≡ row_respected uses tops (code_row_at ps s p)
+  code_letters e t f u g = g ∙ (rw (sym e ∙ t, sym f ∙ u) at code_row)
 
 -- one test, then another
 module _ {x p : Bool} (q : Bool) (e : x ≡ p) where
-  pub two_first : not x ≡ true → false ≡ p && q
-  two_first t = rw (sym e ∙ not-true _ t)
+  pub two_first : x ≡ false → x ≡ p && q
+  two_first t = t ∙ rw (sym e ∙ t)
 
-  pub two_second : {y : Bool} → not x ≡ false → y ≡ q → y ≡ p && q
-  two_second t f = rw (sym e ∙ not-false _ t) f
+  pub two_second : {y : Bool} → x ≡ true → y ≡ q → y ≡ p && q
+  two_second t f = rw (sym e ∙ t) f
 
 module _ (uses tops ps : List ℕ) (c a b : ℕ) where
   pub respected_tuple : {x : Bool} → x ≡ parts_respected tops (parts_at ps a b 1) → c ≡ 3 → x ≡ row_respected uses tops (row_from ps c a b)

@@ -1,7 +1,7 @@
 -- What is read of a block's row.
-use Rattle.std.specs.Prelude.{ℕ, zero, suc, ◌≤◌, ◌<◌, ◌≡◌, true, ◌&&◌, List}
+use Rattle.std.specs.Prelude.{ℕ, zero, suc, ◌≤◌, ◌<◌, ◌≡◌, Bool, true, false, ◌&&◌, List, Option, Some, None}
 use Rattle.syntax.specs.Syntax.{stack, Instr}
-use Rattle.types.specs.Types.{Ty, nil, gap}
+use Rattle.types.specs.Types.{Ty, tuple, nil, push, gap}
 use Rattle.types.specs.Equal.{same}
 use Rattle.tables.specs.Tables.{RowTable, letters_at}
 use Rattle.types_rows.specs.Read.{mean_v, mean_s, parts_of, CountedTo}
@@ -14,10 +14,27 @@ unfoldable pub gaps : ℕ → Ty stack
 gaps zero = nil
 gaps (suc k) = gap (gaps k)
 
--- r1 before other registers: how many samples it declares, and whether it is fit where the others are not named
-pub record Declares (r1 : Ty stack → Ty stack) (s : Samples) : Type 0 where
-  pub count : (g : Ty stack) → s.count ≡ declared (r1 g)
-  pub fit : (g : Ty stack) → same (r1 g) (entry_regs (declared (r1 g))) ≡ s.fit && same g (gaps 7)
+-- r1 before other registers: whether it is fit where the others are not named
+abbrev pub FitFirst : (Ty stack → Ty stack) → Bool → Type 0
+FitFirst r1 b = (g : Ty stack) → same (r1 g) (entry_regs (declared (r1 g))) ≡ b && same g (gaps 7)
+
+-- r1 is no tuple: it declares no samples, and is not fit
+pub record NoTuple (r1 : Ty stack → Ty stack) : Type 0 where
+  pub count : (g : Ty stack) → 0 ≡ declared (r1 g)
+  pub fit : FitFirst r1 false
+
+-- r1 is the tuple, and declares its components as samples
+pub record IsTuple (τ : RowTable) (r1 : Ty stack → Ty stack) (x : Samples) : Type 0 where
+  pub is : push (tuple (parts_of (mean_v τ) τ.parts false x.row x.start x.count)) ≡ r1
+  pub named : 0 < x.row
+  pub low : x.row ≤ 65536
+  pub file : x.start ≤ 65535
+  pub few : x.count ≤ 65535
+
+-- r1 before other registers: which tuple it is, if it is one
+pub record Declares (τ : RowTable) (r1 : Ty stack → Ty stack) (o : Option Samples) : Type 0 where
+  pub no : o ≡ None → NoTuple r1
+  pub yes : (x : Samples) → o ≡ Some x → IsTuple τ r1 x
 
 -- row h may be a code row with the stack x, whose items are counted, and its registers at p
 pub record CodeAt (τ : RowTable) (h x p : ℕ) : Type 0 where

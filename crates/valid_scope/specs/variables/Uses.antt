@@ -1,5 +1,5 @@
 -- How a variable is free in a row, and whether the variables bound inside it are of their letters, by the tables of the rows that it names.
-use Rattle.std.specs.Prelude.{ℕ, suc, ◌+◌, ◌*◌, Bool, true, ◌&&◌, not, cond, List, [], ◌∷◌, map, reverse, eqb, ltb, length, get_or}
+use Rattle.std.specs.Prelude.{ℕ, suc, ◌+◌, ◌*◌, Bool, true, ◌&&◌, not, cond, List, [], ◌∷◌, map, reverse, eqb, ltb, length, get_or, Option as Maybe, Some, None}
 use Rattle.std.proofs.Math.Option.{Option, none, some}
 use Rattle.syntax.specs.Syntax.{value, Row, row_i, row_n, row_e, row_v, row_x, row_p, row_h, row_u, row_k, row_a, row_c}
 use Rattle.tables.specs.Tables.{span, known_of}
@@ -8,6 +8,11 @@ use Rattle.valid_scope.specs.variables.Free.{both, fits, fit_to}
 -- the n parts from p on: components, which are rows (off 1), or registers, one more than a row or 0 (off 0)
 unfoldable pub parts_at : List ℕ → ℕ → ℕ → ℕ → List (Option ℕ)
 parts_at ps p n off = map (λ x. known_of (x + off)) (span ps p n)
+
+-- the row that is named, if one is
+abbrev pub row_named : Maybe ℕ → Option ℕ
+row_named None = none
+row_named (Some t) = some t
 
 -- ---- what the entries of a row are, by those of the rows that it names
 -- how variable k is free in row t; no variable past 63 is

@@ -1,11 +1,8 @@
 use mathlib.Core.Path.{◌≡◌}
-use Prim.Native.Nat.{ℕ, ◌-◌, ◌≤◌, ◌<◌}
+use Prim.Native.Nat.{ℕ, ◌<◌}
 use Rattle.valid_share.specs.rename.Renamed.{new_part}
 use Rattle.valid_share.proofs.alike_parts.Given as goal
 
 abbrev pub invariant-loop-j : goal.invariant-loop-j
 invariant-loop-j l =
-    (l.j ≤ l.c) × ((i : ℕ) → i < l.j → new_part l.first l.parts l.k l.a l.b i ≡ new_part l.first l.parts l.k l.x l.y i)
-
-abbrev pub decreases-loop-j : goal.decreases-loop-j
-decreases-loop-j l = l.c - l.j
+    (i : ℕ) → i < l.j → new_part l.first l.parts l.k l.a l.b i ≡ new_part l.first l.parts l.k l.x l.y i

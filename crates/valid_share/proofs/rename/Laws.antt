@@ -2,95 +2,29 @@
 use Prim.Native.Nat.{ℕ, ◌+◌, ◌-◌, ◌*◌, ◌<◌, ◌≤◌}
 use native.Mathlib.Omega.{arith}
 use native.Mathlib.Numerals.{add-one, add-two, add-three}
-use mathlib.Core.Path.{◌≡◌, refl, ap, ap₂, sym, ◌∙◌}
+use mathlib.Core.Path.{◌≡◌, refl, ap, sym, ◌∙◌}
 use mathlib.Core.Bool.{Bool, true, false, not}
-use mathlib.Core.Logic.{inl, inr}
-use mathlib.Core.List.{List, [], ◌∷◌}
+use mathlib.Core.List.{List, [], ◌∷◌, ◌++◌}
 use lib.Dec.{eqb}
-use lib.ListN.{length, get_or, set, length-set}
+use lib.ListN.{length, get_or, set, take, drop, length-set}
+use Rattle.std.proofs.Math.Seq.{take-length}
+use Rattle.std.proofs.lemmas.Slice.{put_mid-paste}
+use Rattle.std.proofs.lemmas.List.Edits.{sets-eq}
 use lib.Seq.{sets, length-sets, get_or-set_same, get_or-set_other}
 use borrow.Rule.Slice.PartMut.{put_mid}
-use borrow.Author.Tests.{eqb-true, eqb-false, eq-eqb, ne_eqb, le-leb, lt-leb, lt-ltb, le-ltb}
+use borrow.Author.Tests.{eqb-true, eqb-false}
 use Rattle.types.proofs.Equal.{none_true}
 use Rattle.tables.specs.Tables.{cell}
 use Rattle.image.specs.declared.Places.{Places}
 use Rattle.image.specs.Sections.{part, row_section, part_section, shared_section, slot_section, Ordered, Outside}
 use Rattle.image.proofs.Laws.{back, part_length, entry_in, written, then, wider, before, lent}
 use Rattle.valid_share.specs.declared.rename.Entries.{Entries}
-use Rattle.valid_share.specs.rename.Renamed.{first_of, new_a, new_b, new_slot, new_part, entry_at, NewEntries, part_at, FilledRows, FilledParts, HasParts, FilledRow, FilledIf}
+use Rattle.valid_share.specs.rename.Renamed.{new_part, entry_at, NewEntries, part_at, FilledRows, FilledParts, HasParts, FilledRow, FilledIf}
 
--- ---- the entries of a row
-module _ (first : List ℕ) where
-  pub first_low : (x y : ℕ) → y ≡ get_or first x 0 → y ≤ x → y ≡ first_of first x
-  unfolding first_of
-  first_low x y e h = rw (← e, le-leb y x h) refl
-
-  pub first_high : (x y : ℕ) → y ≡ get_or first x 0 → x < y → x ≡ first_of first x
-  unfolding first_of
-  first_high x y e h = rw (← e, lt-leb y x h) refl
-
-  module _ (r k a : ℕ) where
-    pub a_tuple_lem : k ≡ 3 → 17 * r ≡ new_a first r k a
-    unfolding new_a
-    a_tuple_lem e = rw e refl
-
-    pub a_value : k ≡ 2 → a ≡ new_a first r k a
-    unfolding new_a
-    a_value e = rw e refl
-
-    pub a_stack_lem : k ≡ 8 → a ≡ new_a first r k a
-    unfolding new_a
-    a_stack_lem e = rw e refl
-
-    pub a_row : (y : ℕ) → (k ≡ 3 → ⊥) → (k ≡ 2 → ⊥) → (k ≡ 8 → ⊥) → y ≡ first_of first a → y ≡ new_a first r k a
-    unfolding new_a
-    a_row y n m o e = rw (ne_eqb k 3 n, ne_eqb k 2 m, ne_eqb k 8 o) e
-
-    pub b_tuple : k ≡ 3 → a ≡ new_b first r k a
-    unfolding new_b
-    b_tuple e = rw e refl
-
-    pub b_code : k ≡ 5 → 17 * r ≡ new_b first r k a
-    unfolding new_b
-    b_code e = rw e refl
-
-    pub b_row : (y : ℕ) → (k ≡ 3 → ⊥) → (k ≡ 5 → ⊥) → y ≡ first_of first a → y ≡ new_b first r k a
-    unfolding new_b
-    b_row y n m e = rw (ne_eqb k 3 n, ne_eqb k 5 m) e
-
-  pub slot_none : (x : ℕ) → x ≡ 0 → 0 ≡ new_slot first x
-  unfolding new_slot
-  slot_none x e = rw e refl
-
-  pub slot_row : (x y : ℕ) → (x ≡ 0 → ⊥) → y ≡ first_of first (x - 1) → y + 1 ≡ new_slot first x
-  unfolding new_slot
-  slot_row x y n e = rw (ne_eqb x 0 n, ← e) (omega arith)
-
-  module _ (ps : List ℕ) (k a b j : ℕ) where
-    pub part_component : (x o : ℕ) → k ≡ 3 → x ≡ get_or ps (a + j) 0 → o ≡ first_of first x → o ≡ new_part first ps k a b j
-    unfolding new_part
-    part_component x o e f g = rw (eq-eqb k 3 e, ← f) g
-
-    pub part_slot : (x o : ℕ) → (k ≡ 3 → ⊥) → j < 8 → x ≡ get_or ps (b + j) 0 → o ≡ new_slot first x → o ≡ new_part first ps k a b j
-    unfolding new_part
-    part_slot x o n h f g = rw (ne_eqb k 3 n, lt-ltb j 8 h, ← f) g
-
-    pub part_rest : (x : ℕ) → (k ≡ 3 → ⊥) → 8 ≤ j → x ≡ get_or ps (b + j) 0 → x ≡ new_part first ps k a b j
-    unfolding new_part
-    part_rest x n h f = rw (ne_eqb k 3 n, le-ltb j 8 h) f
-
-  module _ (rows : List ℕ) (r e k x : ℕ) (kind : k ≡ cell 4 rows r 0) (old : x ≡ cell 4 rows r e) where
-    pub entry_a : (o : ℕ) → e ≡ 1 → o ≡ new_a first r k x → o ≡ entry_at first rows r e
-    unfolding entry_at
-    entry_a o q g = g ∙ ap₂ (new_a first r) kind (old ∙ ap (cell 4 rows r) q) ∙ rw (eq-eqb e 1 q) refl
-
-    pub entry_b : (o : ℕ) → e ≡ 2 → o ≡ new_b first r k x → o ≡ entry_at first rows r e
-    unfolding entry_at
-    entry_b o q g = g ∙ ap₂ (new_b first r) kind (old ∙ ap (cell 4 rows r) q) ∙ rw (q) refl
-
-    pub entry_rest : (e ≡ 1 → ⊥) → (e ≡ 2 → ⊥) → x ≡ entry_at first rows r e
-    unfolding entry_at
-    entry_rest n m = rw (ne_eqb e 1 n, ne_eqb e 2 m) old
+-- four entries copied into a table
+pub put_row : (l y vs : List ℕ) (i k : ℕ) → y ≡ vs → k ≡ length vs → i + length vs ≤ length l → put_mid i k l y ≡ sets l i vs
+put_row l y vs i k e f h =
+    put_mid-paste i k l y vs (length vs) e (sym f) refl ∙ ap (λ (w : List ℕ). take i l ++ w ++ drop (i + length vs) l) (take-length vs) ∙ sym (sets-eq vs l i h)
 
 -- ---- a table filled record by record
 module _ (base : ℕ) (g : ℕ → ℕ) (before : List ℕ) where
@@ -146,10 +80,6 @@ parts_next kind g at before l r h F s j m p k = go (eqb s r) refl
         let z : s ≡ r → ⊥ = eqb-false s r t in
         let q : s < r = omega (arith, z) in
         F.1 (at + 17 * s + j) (omega arith) ∙ h s j q p k
-
-pub parts_code : (k : ℕ) → (k ≡ 3 → ⊥) → HasParts k → eqb k 5 ≡ true
-parts_code k n (inl e) = absurd (n e)
-parts_code k n (inr e) = eq-eqb k 5 e
 
 -- a row without parts
 pub no_parts : (k k' : ℕ) {o : Bool} (base n : ℕ) (g : ℕ → ℕ) (l : List ℕ) → k ≡ k' → (HasParts k → o ≡ true) → not o ≡ true → FilledIf k' base n g l l

@@ -5,7 +5,7 @@ use mathlib.Core.Path.{◌≡◌, refl, ap, sym, ◌∙◌}
 use mathlib.Core.Bool.{true, false}
 use mathlib.Core.Option.{some}
 use mathlib.Core.List.{List}
-use lib.ListN.{length, get_or, get_elem?, get_or-eq_default}
+use lib.ListN.{length, get_elem?}
 use borrow.Author.Tests.{lt-ltb, le-ltb}
 use Rattle.syntax.specs.Syntax.{Kind, value, stack, Base, reg, lit, lab}
 use Rattle.types.specs.Types.{Ty, int}
@@ -20,17 +20,13 @@ use Rattle.types_rows.proofs.Laws.{link_in}
 use Rattle.types_rows.proofs.Bridge.{type_at_lem}
 use Rattle.types_rows.proofs.Environments.{read_now}
 use Rattle.valid_context.specs.Context.{Reading, linked}
-use Rattle.valid_context.specs.Told.{gives, told_of, answer}
+use Rattle.valid_context.specs.Told.{Told, gives, told_of, answer}
 use Rattle.valid_context.specs.premises.Answers.{Holds}
 use Rattle.valid_typing.specs.Typing.{types_in, held_in, Ready, given_row}
 use Rattle.valid_typing.proofs.Judging.{if_none, told_guarded}
 use Rattle.valid_typing.proofs.OperandFaults.{base_reg, base_lit}
 use Rattle.valid_typing.proofs.Forms.{read_is}
 use Rattle.valid_typing.proofs.Args.{given_is, given_typed}
-
--- past a table's end
-pub past : (s : List ℕ) (i : ℕ) → length s ≤ i → (0 ≡ get_or s i 0) × (0 ≤ 4294967295)
-past s i h = (sym (get_or-eq_default s 0 h), omega arith)
 
 -- ---- rows
 pub within : (rows parts : List ℕ) (n t h out : ℕ) → h ≡ lower (n + 3) t → type_at value (types_in rows parts n) out ≡ mean_v (tab rows parts) h → type_at value (types_in rows parts n) out ≡ type_at value (types_in rows parts n) t
@@ -66,8 +62,8 @@ kind_lab (suc zero) m f g = absurd (g refl)
 kind_lab (suc (suc k)) m f g = refl
 
 module _ (P : Program) (Δ : List Kind) (g : Ty stack) where
-  pub of_kind_lem : (k m : ℕ) (b : Base) (f : ℕ) (u : Ty value) → base_of k m ≡ b → told_of (base P Δ g b) ≡ answer f u → told_of (base P Δ g (base_of k m)) ≡ answer f u
-  of_kind_lem k m b f u e h = ap (λ (z : Base). told_of (base P Δ g z)) e ∙ h
+  pub of_kind_lem : (k m : ℕ) (b : Base) {w : Told (Ty value)} → base_of k m ≡ b → told_of (base P Δ g b) ≡ w → told_of (base P Δ g (base_of k m)) ≡ w
+  of_kind_lem k m b e h = ap (λ (z : Base). told_of (base P Δ g z)) e ∙ h
 
   -- ---- registers
   pub reg_none : (T : Reading) (r x u : ℕ) (y : Ty value) → item_at g r ≡ linked T x u → u ≡ 0 → told_of (base P Δ g (reg r)) ≡ answer 9 y
@@ -99,11 +95,9 @@ module _ (P : Program) (Δ : List Kind) (g : Ty stack) where
       unfolding base
       lab_none y k = told_guarded 8 (label_type (get_elem? P.blocks l)) false y (h.labels l ∙ rw (le-ltb l nb k) refl)
 
-      pub lab_some : (c w : ℕ) → Ready rows parts n → l < nb → c ≡ get_or β (2 * l) 0 → w ≡ given_row n c → told_of (base P Δ g (lab l)) ≡ answer 0 (here w)
+      pub lab_some : (c w : ℕ) → Ready rows parts n → l < nb → c ≡ cell 2 β l 0 → w ≡ given_row n c → told_of (base P Δ g (lab l)) ≡ answer 0 (here w)
       unfolding base
       lab_some c w r k e f =
-          let q : 2 * l + 0 ≡ 2 * l = omega arith in
-          let d : cell 2 β l 0 ≡ c = ap (λ (z : ℕ). get_or β z 0) q ∙ sym e in
           let t : type_at value P.types (cell 2 β l 0) ≡ here w
-          = ap (type_at value P.types) d ∙ given_typed rows parts n P Δ c h.types (given_row n c) (given_is rows parts n c r) ∙ ap (type_at value (types_in rows parts n)) (sym f) ∙ here_is w in
+          = ap (type_at value P.types) (sym e) ∙ given_typed rows parts n P Δ c h.types (given_row n c) (given_is rows parts n c r) ∙ ap (type_at value (types_in rows parts n)) (sym f) ∙ here_is w in
           told_guarded 8 (label_type (get_elem? P.blocks l)) true (here w) (h.labels l ∙ rw (lt-ltb l nb k) (ap some t))

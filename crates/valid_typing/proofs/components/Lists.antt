@@ -19,7 +19,12 @@ use Rattle.valid.specs.PassThree.{Judged, holds, ◌▹◌, ◌&◌, operand, op
 use Rattle.types_rows.specs.Read.{lower, parts_of}
 use Rattle.valid_context.specs.Context.{Reading, with_entry}
 use Rattle.valid_context.proofs.Cells.{put_first, put_second, put_other}
-use Rattle.valid_context.specs.Told.{told_of, answer}
+use Rattle.std.specs.Prelude.{Result}
+use Rattle.faults.specs.declared.Fault.{Fault}
+use Rattle.faults.specs.Numbers.{number, refusal_number}
+use Rattle.faults.proofs.Numbers.{number_above}
+use Rattle.valid_context.specs.Told.{gives, lacks, told_of, told, answer}
+use Rattle.valid_context.proofs.Results.{answer_fault, answer_any, least_above, told_number, number_told}
 use Rattle.valid_context.proofs.Told.{told_and, told_then, told_stop}
 use Rattle.valid.specs.Bounds.{Short, AllShort}
 use Rattle.types_equal.proofs.Laws.{same_items}
@@ -37,8 +42,8 @@ short_at ω v zero i s h = absurd (omega arith)
 short_at ω v (suc c) zero s h = rw (add-zero v) s.0
 short_at ω v (suc c) (suc i) s h = let q : v + suc i ≡ suc v + i = omega arith in rw q (short_at ω (suc v) c i s.1 (omega arith))
 
-pub short_before : (ω : OperandTable) (v c i : ℕ) → AllShort (operands_at ω v c) → 0 < i → i ≤ c → Short (operand_at ω (v + i - 1))
-short_before ω v c i s h k = let q : v + i - 1 ≡ v + (i - 1) = omega arith in rw q (short_at ω v c (i - 1) s (omega arith))
+pub short_before : (ω : OperandTable) (v c i : ℕ) → AllShort (operands_at ω v c) → 0 < i → i ≤ c → Short (operand_at ω (v + (i - 1)))
+short_before ω v c i s h k = short_at ω v c (i - 1) s (omega arith)
 
 -- ---- the rows found
 module _ (T : Reading) where
@@ -58,12 +63,12 @@ module _ (T : Reading) where
   items_types l i (suc c) = ap suc (items_types l (suc i) c)
 
   module _ (P : Program) (Δ : List Kind) (g : Ty stack) (ω : OperandTable) where
-    pub list_none : (v c : ℕ) (l : List ℕ) → told_of (operands P Δ g (operands_at ω (v + c) (c - c))) ≡ answer 0 (types_from T l c (c - c))
-    list_none v c l = let q : c - c ≡ 0 = omega arith in rw q (unfold operands_at operands told_of answer types_from in refl)
+    pub list_none : (v c : ℕ) (l : List ℕ) → told_of (operands P Δ g (operands_at ω (v + c) (c - c))) ≡ gives (types_from T l c (c - c))
+    list_none v c l = let q : c - c ≡ 0 = omega arith in rw q (unfold operands_at operands told_of types_from in refl)
 
-    pub list_all : (v c i f : ℕ) (l : List ℕ) → i ≤ 0 → told_of (operands P Δ g (operands_at ω (v + i) (c - i))) ≡ answer f (types_from T l i (c - i)) → told_of (operands P Δ g (operands_at ω v c)) ≡ answer f (types_from T l 0 c)
-    list_all v c zero f l h s = let q : v + 0 ≡ v = omega arith in let d : c - 0 ≡ c = omega arith in rw (q, d) at s
-    list_all v c (suc i) f l h s = absurd (omega arith)
+    pub list_all : (v c i : ℕ) (l : List ℕ) (all : Result (Unit {0}) Fault) → i ≤ 0 → told_of (operands P Δ g (operands_at ω (v + i) (c - i))) ≡ told (λ u. types_from T l i (c - i)) all → told_of (operands P Δ g (operands_at ω v c)) ≡ told (λ u. types_from T l 0 c) all
+    list_all v c zero l all h s = let q : v + 0 ≡ v = omega arith in let d : c - 0 ≡ c = omega arith in rw (q, d) at s
+    list_all v c (suc i) l all h s = absurd (omega arith)
 
     pub list_cons : (w m k f : ℕ) (t : Ty value) (a : Ty stack) → told_of (operand P Δ (fault 10) g (operand_at ω w)) ≡ answer k t → told_of (operands P Δ g (operands_at ω (suc w) m)) ≡ answer f a
         → told_of (operands P Δ g (operands_at ω w (suc m))) ≡ answer (least k f) (push t a)
@@ -72,18 +77,31 @@ module _ (T : Reading) where
         told_give (operand P Δ (fault 10) g (operand_at ω w) & operands P Δ g (operands_at ω (suc w) m)) (λ (z : Ty value × Ty stack). push z.0 z.1) (least k f) (t, a)
         (told_and (operand P Δ (fault 10) g (operand_at ω w)) (operands P Δ g (operands_at ω (suc w) m)) k f t a h s)
 
-    pub list_next : (v c i k f row e : ℕ) (l : List ℕ) → 0 < i → i ≤ c → 2 * i ≤ length l → told_of (operand P Δ (fault 10) g (operand_at ω (v + i - 1))) ≡ answer k (T.type e row)
+    pub list_next : (v c i k f row e : ℕ) (l : List ℕ) → 0 < i → i ≤ c → 2 * i ≤ length l → told_of (operand P Δ (fault 10) g (operand_at ω (v + (i - 1)))) ≡ answer k (T.type e row)
         → told_of (operands P Δ g (operands_at ω (v + i) (c - i))) ≡ answer f (types_from T l i (c - i))
         → told_of (operands P Δ g (operands_at ω (v + (i - 1)) (c - (i - 1)))) ≡ answer (least k f) (types_from T (with_entry l (i - 1) row e) (i - 1) (c - (i - 1)))
     list_next v c zero k f row e l p q r h s = absurd (omega arith)
     list_next v c (suc i) k f row e l p q r h s =
         let o : suc i - 1 ≡ i = omega arith in
         let d : c - i ≡ suc (c - suc i) = omega arith in
-        let a : v + suc i - 1 ≡ v + i = omega arith in
+        let a : v + (suc i - 1) ≡ v + i = omega arith in
         let b : v + suc i ≡ suc (v + i) = omega arith in
         let h' : told_of (operand P Δ (fault 10) g (operand_at ω (v + i))) ≡ answer k (T.type e row) = rw a at h in
         let s' : told_of (operands P Δ g (operands_at ω (suc (v + i)) (c - suc i))) ≡ answer f (types_from T l (suc i) (c - suc i)) = rw b at s in
         rw (o, d, types_put l i row e (c - suc i) (omega arith)) (list_cons (v + i) (c - suc i) k f (T.type e row) (types_from T l (suc i) (c - suc i)) h' s')
+
+    -- one more operand, which has a type, or a fault
+    module _ (v c i : ℕ) (l : List ℕ) (all : Result (Unit {0}) Fault) (p : 0 < i) (q : i ≤ c) (r : 2 * i ≤ length l) (s : told_of (operands P Δ g (operands_at ω (v + i) (c - i))) ≡ told (λ u. types_from T l i (c - i)) all) where
+      pub next_ok : (row e : ℕ) → told_of (operand P Δ (fault 10) g (operand_at ω (v + (i - 1)))) ≡ gives (T.type e row)
+          → told_of (operands P Δ g (operands_at ω (v + (i - 1)) (c - (i - 1)))) ≡ told (λ u. types_from T (with_entry l (i - 1) row e) (i - 1) (c - (i - 1))) all
+      unfolding answer least
+      next_ok row e h = list_next v c i 0 (refusal_number all) row e l p q r h (s ∙ told_number _ all) ∙ sym (told_number _ all)
+
+      pub next_err : (f : Fault) (more : Result (Unit {0}) Fault) → refusal_number more ≡ least (number f) (refusal_number all) → told_of (operand P Δ (fault 10) g (operand_at ω (v + (i - 1)))) ≡ lacks (number f)
+          → told_of (operands P Δ g (operands_at ω (v + (i - 1)) (c - (i - 1)))) ≡ told (λ u. types_from T l (i - 1) (c - (i - 1))) more
+      next_err f more e h =
+          list_next v c i (number f) (refusal_number all) 0 0 l p q r (h ∙ sym (answer_fault f (T.type 0 0))) (s ∙ told_number _ all)
+          ∙ answer_any _ _ (types_from T l (i - 1) (c - (i - 1))) (least_above (number f) (refusal_number all) (number_above f)) ∙ number_told _ more e
 
 -- ---- a tuple against the rows found
 module _ (v : ℕ → Ty value) (ps : List ℕ) (h p c : ℕ) (T : Reading) (l : List ℕ) where

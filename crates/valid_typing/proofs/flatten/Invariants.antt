@@ -1,4 +1,3 @@
-use Prim.Native.Nat.{◌-◌, ◌≤◌}
 use mathlib.Core.Path.{◌≡◌}
 use lib.ListN.{length}
 use Rattle.types_rows.specs.Read.{tab, mean_s}
@@ -7,7 +6,4 @@ use Rattle.valid_typing.proofs.flatten.Given as goal
 
 abbrev pub invariant-loop-i : goal.invariant-loop-i
 invariant-loop-i l =
-    (l.i ≤ l.m) × (length l.sp ≡ length l.initial.sp) × Written l.rows l.parts l.n l.m l.h l.e (mean_s (tab l.rows l.parts) l.h) l.sp l.i × EnvsDone l.m l.e l.sp l.i
-
-abbrev pub decreases-loop-i : goal.decreases-loop-i
-decreases-loop-i l = l.m - l.i
+    (length l.sp ≡ length l.initial.sp) × Written l.rows l.parts l.n l.m l.h l.e (mean_s (tab l.rows l.parts) l.h) l.sp l.i × EnvsDone l.m l.e l.sp l.i

@@ -1,6 +1,5 @@
 use Rattle.valid_typing.specs.Image.{letters_in}
-use Prim.Native.Nat.{ℕ, ◌-◌}
-use native.Mathlib.Omega.{arith}
+use Prim.Native.Nat.{ℕ}
 use mathlib.Core.Path.{ap, ◌∙◌}
 use borrow.Author.Tests.{not-true, not-false}
 use Rattle.valid.specs.Tests.{formed_arg}
@@ -11,7 +10,7 @@ use Rattle.valid_typing.proofs.formed_args.Goals as goal
 
 pub loop-i-init : goal.loop-i-init
 unfolding part
-loop-i-init c = (omega arith, rest_first _ _ _ _ _ _ _)
+loop-i-init c = rest_first _ _ _ _ _ _ _
 
 pub formed_arg-requires : goal.formed_arg-requires
 unfolding part
@@ -29,7 +28,7 @@ unfolding part
 loop-i-preserved c =
     let a = c.args in
     let l = a.image.now in
-    (omega arith, rest_next _ _ _ _ _ _ _ _ (search) (search) (c.formed_arg.ensures ∙ ap (λ (t : ℕ). formed_arg (letters_in a.p l a.w) (given_arg (shared_section a.p l) (slot_section a.p l) a.n t)) c.at-t.ensures.0) (not-false _ (search)))
+    rest_next _ _ _ _ _ _ _ _ (search) (search) (c.formed_arg.ensures ∙ ap (λ (t : ℕ). formed_arg (letters_in a.p l a.w) (given_arg (shared_section a.p l) (slot_section a.p l) a.n t)) c.at-t.ensures.0) (not-false _ (search))
 
 pub returns : goal.returns
 unfolding part

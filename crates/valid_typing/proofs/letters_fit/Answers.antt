@@ -1,5 +1,3 @@
-use Prim.Native.Nat.{◌-◌}
-use native.Mathlib.Omega.{arith}
 use mathlib.Core.Path.{ap, ◌∙◌}
 use mathlib.Core.Bool.{true, false}
 use borrow.Author.Tests.{not-true, not-false}
@@ -13,7 +11,7 @@ returns-then-k-c c = left_few _ _ _ _ _ _ c.requires.2 c.letter_count-k.ensures.
 
 pub loop-j-init : goal.loop-j-init
 loop-j-init c =
-    (omega arith, fit_first c.args.rows.now c.args.parts.now c.args.n c.args.args.now c.args.p c.letter_count-k.result)
+    fit_first c.args.rows.now c.args.parts.now c.args.n c.args.args.now c.args.p c.letter_count-k.result
 
 pub returns-then-not-letter_fits : goal.returns-then-not-letter_fits
 returns-then-not-letter_fits c =
@@ -23,8 +21,8 @@ returns-then-not-letter_fits c =
 
 pub loop-j-preserved : goal.loop-j-preserved
 loop-j-preserved c =
-    (omega arith, fit_next _ _ _ _ _ _ c.requires.2 c.letter_count-k.ensures.0 _ _ c.loop-j-test.true c.if-k-c.false (c.is_stack.ensures ∙ ap (is_stack_at c.args.rows.now) c.at.ensures.0) (search) (c.letter_fits.ensures ∙ ap (fits_letter _) (search)) (not-false _ (search)))
+    fit_next _ _ _ _ _ _ c.requires.2 c.letter_count-k.ensures.0 _ _ c.loop-j-test.true c.if-k-c.false (c.is_stack.ensures ∙ ap (is_stack_at c.args.rows.now) c.at.ensures.0) (search) (c.letter_fits.ensures ∙ ap (fits_letter _) (search)) (not-false _ (search))
 
 pub returns : goal.returns
 returns c =
-    left_is _ _ _ _ _ _ c.requires.2 c.letter_count-k.ensures.0 true (search) (fit_all _ _ _ _ _ _ c.requires.2 (search) _ c.loop-j.invariant.0 (search) (search) (search))
+    left_is _ _ _ _ _ _ c.requires.2 c.letter_count-k.ensures.0 true (search) (fit_all _ _ _ _ _ _ c.requires.2 (search) _ c.loop-j.auto.j-end (search) (search) (search))

@@ -24,7 +24,7 @@ use Rattle.valid.specs.PassThree.{formed, base, applied, operand}
 use Rattle.valid.proofs.Reading.{formed_sound}
 use Rattle.types_rows.specs.Read.{tab, arg_of}
 use Rattle.types_rows.proofs.Bridge.{arg_is, arg_at, type_in_lem}
-use Rattle.valid_context.specs.Told.{told_of, answer}
+use Rattle.valid_context.specs.Told.{Told, gives, told_of, answer}
 use Rattle.valid.specs.Bounds.{Short}
 use Rattle.types_equal.specs.filling.Filling.{is_full, fills_to}
 use Rattle.valid_typing.specs.Typing.{types_in, Ready, given_row, args_in}
@@ -90,11 +90,11 @@ module _ (P : Program) (Δ : List Kind) where
     given_of : (t w : ℕ) → w ≡ given_row n t → type_of P t ≡ type_at value (types_in rows parts n) w
     given_of t w e = given_typed rows parts n P Δ t types (given_row n t) (given_is rows parts n t r) ∙ ap (type_at value (types_in rows parts n)) (sym e)
 
-    pub filled_told : (g : Ty stack) (f : Fault) (b : Base) (A : List Arg) (t k w : ℕ) (u : Ty value) (c : CodeType) (q : List Kind) (v : Bool) {o : Bool} → number_of f ≡ 10 → told_of (base P Δ g b) ≡ answer k u → k ≡ 0 → as_code u ≡ some c
-        → letters_left A c.letters ≡ some q → w ≡ given_row n t → o ≡ fills_to A u (type_at value (types_in rows parts n) w) → o ≡ v → told_of (applied P Δ f g b A t) ≡ answer (cond v 0 10) tt
-    filled_told g f b A t k w u c q v nf p z e l d h s =
-        applied_told P Δ g f b A t k u c q v nf p z e l
-        (sym s ∙ h ∙ code_fills A u (type_at value (types_in rows parts n) w) c q e l ∙ ap (λ (y : Ty value). is_filled y (filled A q c.sp c.regs)) (sym (given_of t w d)))
+    pub filled_told : (g : Ty stack) (f : Fault) (b : Base) (A : List Arg) (t w : ℕ) (u : Ty value) (c : CodeType) (q : List Kind) (o : Bool) → number_of f ≡ 10 → told_of (base P Δ g b) ≡ gives u → as_code u ≡ some c → letters_left A c.letters ≡ some q
+        → w ≡ given_row n t → o ≡ fills_to A u (type_at value (types_in rows parts n) w) → told_of (applied P Δ f g b A t) ≡ answer (cond o 0 10) tt
+    filled_told g f b A t w u c q o nf p e l d h =
+        applied_told P Δ g f b A t u p c q o nf e l
+        (h ∙ code_fills A u (type_at value (types_in rows parts n) w) c q e l ∙ ap (λ (y : Ty value). is_filled y (filled A q c.sp c.regs)) (sym (given_of t w d)))
 
     -- with its arguments in the order of their variables
     pub inst_told : (g : Ty stack) (f : Fault) (b : Base) (ts l : List ℕ) (t h k : ℕ) (v : Bool) → l ≡ reverse (map (given_row n) ts) → v ≡ formed_args Δ (args_in rows parts n ts) → told_of (formed P Δ t) ≡ answer h tt
@@ -105,16 +105,6 @@ module _ (P : Program) (Δ : List Kind) where
         let B : map (λ (x : ℕ). get_or (types_in rows parts n) x (arg value junk)) l ≡ args_of P ts = back_args rows parts n ts r e ∙ sym A in
         operand_told P Δ g f b ts t h k v (fa ∙ ap (formed_args Δ) (sym A)) ff (ap (λ (z : List Arg). told_of (applied P Δ f g b z t)) (sym B) ∙ fg)
         ∙ ap (answer (least (cond v 0 7) (least h k))) (given_of t (given_row n t) refl)
-
-    -- the least of the three faults
-    module _ (g : Ty stack) (f : Fault) (b : Base) (ts l : List ℕ) (t h k : ℕ) (e : l ≡ reverse (map (given_row n) ts)) (ff : told_of (formed P Δ t) ≡ answer h tt)
-        (fg : told_of (applied P Δ f g b (map (λ (x : ℕ). get_or (types_in rows parts n) x (arg value junk)) l) t) ≡ answer k tt) where
-      pub inst_formed : (o : ℕ) {v : Bool} → v ≡ formed_args Δ (args_in rows parts n ts) → v ≡ true → o ≡ least h k → told_of (operand P Δ f g (inst b ts t)) ≡ answer o (type_at value (types_in rows parts n) (given_row n t))
-      unfolding least
-      inst_formed o fa s d = inst_told g f b ts l t h k true e (sym s ∙ fa) ff fg ∙ ap (λ (z : ℕ). answer z (type_at value (types_in rows parts n) (given_row n t))) (sym d)
-
-      pub inst_unformed : (o m : ℕ) {v : Bool} → v ≡ formed_args Δ (args_in rows parts n ts) → v ≡ false → m ≡ least h k → o ≡ least 7 m → told_of (operand P Δ f g (inst b ts t)) ≡ answer o (type_at value (types_in rows parts n) (given_row n t))
-      inst_unformed o m fa s d c = inst_told g f b ts l t h k false e (sym s ∙ fa) ff fg ∙ ap (λ (z : ℕ). answer z (type_at value (types_in rows parts n) (given_row n t))) (sym (c ∙ ap (least 7) d))
 
 -- ---- an operand as it stands in the table
 length_span : (l : List ℕ) (i n : ℕ) → length (span l i n) ≡ n
@@ -171,11 +161,11 @@ module _ (ω : OperandTable) (v : ℕ) where
       omega arith
 
 module _ (P : Program) (Δ : List Kind) (f : Fault) (g : Ty stack) where
-  pub plain_told : (o : Operand) (b : Base) (k : ℕ) (u : Ty value) → o ≡ plain b → told_of (base P Δ g b) ≡ answer k u → told_of (operand P Δ f g o) ≡ answer k u
-  plain_told o b k u e h = ap (λ (z : Operand). told_of (operand P Δ f g z)) e ∙ (unfold operand in h)
+  pub plain_told : (o : Operand) (b : Base) {w : Told (Ty value)} → o ≡ plain b → told_of (base P Δ g b) ≡ w → told_of (operand P Δ f g o) ≡ w
+  plain_told o b e h = ap (λ (z : Operand). told_of (operand P Δ f g z)) e ∙ (unfold operand in h)
 
-  pub same_told : (o o' : Operand) (k : ℕ) (u w : Ty value) → o ≡ o' → told_of (operand P Δ f g o') ≡ answer k u → u ≡ w → told_of (operand P Δ f g o) ≡ answer k w
-  same_told o o' k u w e h q = ap (λ (z : Operand). told_of (operand P Δ f g z)) e ∙ h ∙ ap (answer k) q
+  pub same_told : (o o' : Operand) {w : Told (Ty value)} → o ≡ o' → told_of (operand P Δ f g o') ≡ w → told_of (operand P Δ f g o) ≡ w
+  same_told o o' e h = ap (λ (z : Operand). told_of (operand P Δ f g z)) e ∙ h
 
 -- ---- closed rows
 of_formed : (a : Arg) → formed_arg [] a ≡ true → Wf [] a_stack (of_kind value a)

@@ -1,4 +1,3 @@
-use Prim.Native.Nat.{◌-◌, ◌≤◌}
 use mathlib.Core.Path.{◌≡◌}
 use lib.ListN.{length}
 use Rattle.types_rows.specs.Read.{tab, mean_s}
@@ -8,7 +7,4 @@ use Rattle.valid_typing.proofs.same_each.Given as goal
 
 abbrev pub invariant-loop-i : goal.invariant-loop-i
 invariant-loop-i l =
-    (l.i ≤ l.m) × RestSame l.rows l.parts l.n l.envs l.e l.sp l.m l.h (read_in l.envs l.e (mean_s (tab l.rows l.parts) l.h)) l.i × (length l.pending ≡ length l.initial.pending)
-
-abbrev pub decreases-loop-i : goal.decreases-loop-i
-decreases-loop-i l = l.m - l.i
+    RestSame l.rows l.parts l.n l.envs l.e l.sp l.m l.h (read_in l.envs l.e (mean_s (tab l.rows l.parts) l.h)) l.i × (length l.pending ≡ length l.initial.pending)

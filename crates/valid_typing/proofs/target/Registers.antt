@@ -4,6 +4,7 @@ use native.Mathlib.Omega.{arith}
 use mathlib.Core.Path.{◌≡◌, refl, ap, ap₂, sym, ◌∙◌}
 use mathlib.Core.Bool.{Bool, true, false, not, cond}
 use mathlib.Core.Option.{Option, none, some}
+use Rattle.std.specs.Prelude.{Option as CodeOption, Some, None}
 use mathlib.Core.List.{List, [], ◌∷◌, ◌++◌, map}
 use lib.Dec.{ltb}
 use lib.ListN.{length, get_or}
@@ -15,12 +16,8 @@ use Rattle.types.specs.Equal.{same, same_letters}
 use Rattle.tables.specs.Tables.{cell, span, letter_of, letters_at}
 use Rattle.valid.specs.Program.{Program}
 use Rattle.valid.specs.PassThree.{unfits}
-use Rattle.types_rows.specs.declared.Slot.{Slot}
-use Rattle.types_rows.specs.declared.Slot.TheVariants.{Gap, Known}
 use Rattle.types_rows.specs.Read.{lower, slot_at, on_slot, parts_of, acting}
 use Rattle.valid_context.specs.Context.{Reading, on_link, regs_from, regs_of}
-use Rattle.valid_context.specs.premises.Answers.{item_said}
-use Rattle.valid_context.proofs.Told.{said_some}
 use Rattle.types_rows.specs.Environments.{var_in, read_in}
 use Rattle.valid_typing.proofs.Reading.{read_parts}
 use Rattle.valid_typing.specs.target.Fits.{slot_fits}
@@ -55,7 +52,7 @@ module _ (v : ℕ → Ty value) (T : Reading) (h x e u : ℕ) where
   fits_type y {b} z w g f =
       let q : x ≡ suc (x - 1) = omega arith in
       let s : u ≡ suc (u - 1) = omega arith in
-      let d : slot_fits v T (Known (lower h (x - 1))) e (suc (u - 1)) ≡ same (v (lower h (x - 1))) (T.type e (u - 1)) = unfold slot_fits in refl in
+      let d : slot_fits v T (Some (lower h (x - 1))) e (suc (u - 1)) ≡ same (v (lower h (x - 1))) (T.type e (u - 1)) = unfold slot_fits in refl in
       f ∙ ap (λ (t : Ty value). same t (T.type e (u - 1))) g ∙ sym d ∙ ap₂ (λ (y w : ℕ). slot_fits v T (slot_at true h y) e w) (sym q) (sym s)
 
 -- ---- the items from one on
@@ -121,19 +118,19 @@ module _ (v : ℕ → Ty value) (ps : List ℕ) (h p : ℕ) (T : Reading) (regs 
   rest_first P Δ = let q : p + 0 ≡ p = omega arith in rw q refl
 
   -- a register that fits, and one that does not
-  slot_fits_lem : (P : Program) (Δ : List Kind) (n : ℕ) (s : Slot) (f u : ℕ) (a g : Ty stack) → slot_fits v T s f u ≡ true → unfits P Δ n (on_slot v s a) (on_link T f u g) ≡ unfits P Δ (suc n) a g
+  slot_fits_lem : (P : Program) (Δ : List Kind) (n : ℕ) (s : CodeOption ℕ) (f u : ℕ) (a g : Ty stack) → slot_fits v T s f u ≡ true → unfits P Δ n (on_slot v s a) (on_link T f u g) ≡ unfits P Δ (suc n) a g
   unfolding slot_fits unfits
-  slot_fits_lem P Δ n Gap f zero a g e = refl
-  slot_fits_lem P Δ n Gap f (suc u) a g e = refl
-  slot_fits_lem P Δ n (Known t) f zero a g e = let z : ◌≡◌ {A = ℕ} 0 1 = cc in absurd (omega arith)
-  slot_fits_lem P Δ n (Known t) f (suc u) a g e = rw e refl
+  slot_fits_lem P Δ n None f zero a g e = refl
+  slot_fits_lem P Δ n None f (suc u) a g e = refl
+  slot_fits_lem P Δ n (Some t) f zero a g e = let z : ◌≡◌ {A = ℕ} 0 1 = cc in absurd (omega arith)
+  slot_fits_lem P Δ n (Some t) f (suc u) a g e = rw e refl
 
-  slot_differs : (P : Program) (Δ : List Kind) (n : ℕ) (s : Slot) (f u : ℕ) (a g : Ty stack) → slot_fits v T s f u ≡ false → first_item (unfits P Δ n (on_slot v s a) (on_link T f u g)) ≡ some n
+  slot_differs : (P : Program) (Δ : List Kind) (n : ℕ) (s : CodeOption ℕ) (f u : ℕ) (a g : Ty stack) → slot_fits v T s f u ≡ false → first_item (unfits P Δ n (on_slot v s a) (on_link T f u g)) ≡ some n
   unfolding slot_fits unfits
-  slot_differs P Δ n Gap f zero a g e = let z : ◌≡◌ {A = ℕ} 0 1 = cc in absurd (omega arith)
-  slot_differs P Δ n Gap f (suc u) a g e = let z : ◌≡◌ {A = ℕ} 0 1 = cc in absurd (omega arith)
-  slot_differs P Δ n (Known t) f zero a g e = before_rest P Δ n a g
-  slot_differs P Δ n (Known t) f (suc u) a g e = rw e (before_rest P Δ n a g)
+  slot_differs P Δ n None f zero a g e = let z : ◌≡◌ {A = ℕ} 0 1 = cc in absurd (omega arith)
+  slot_differs P Δ n None f (suc u) a g e = let z : ◌≡◌ {A = ℕ} 0 1 = cc in absurd (omega arith)
+  slot_differs P Δ n (Some t) f zero a g e = before_rest P Δ n a g
+  slot_differs P Δ n (Some t) f (suc u) a g e = rw e (before_rest P Δ n a g)
 
   cons_parts : (i m : ℕ) → parts_of v ps true h i (suc m) ≡ on_slot v (slot_at true h (get_or ps i 0)) (parts_of v ps true h (suc i) m)
   unfolding parts_of
@@ -156,16 +153,16 @@ module _ (v : ℕ → Ty value) (ps : List ℕ) (h p : ℕ) (T : Reading) (regs 
         ∙ ap first_item (slot_fits_lem P Δ (suc i) (slot_at true h (get_or ps (p + i) 0)) (cell 2 regs i 1) (cell 2 regs i 0) (parts_of v ps true h (suc (p + i)) (8 - (i + 1))) (regs_from T regs (suc i) (8 - (i + 1))) (one_fits ∙ s))
         ∙ ap₂ (λ (y w : ℕ). first_item (unfits P Δ (suc w) (parts_of v ps true h y (8 - (i + 1))) (regs_from T regs w (8 - (i + 1))))) q o
 
-    pub rest_fails : b ≡ false → (P : Program) (Δ : List Kind) → item_said (i + 1) ≡ first_item (unfits P Δ 1 (parts_of v ps true h p 8) (regs_of T regs))
+    pub rest_fails : b ≡ false → (P : Program) (Δ : List Kind) → some (i + 1) ≡ first_item (unfits P Δ 1 (parts_of v ps true h p 8) (regs_of T regs))
     rest_fails s P Δ =
         let d : 8 - i ≡ suc (8 - (i + 1)) = omega arith in
         let o : suc i ≡ i + 1 = omega arith in
         sym (r P Δ ∙ ap₂ (λ (a c : Ty stack). first_item (unfits P Δ (suc i) a c)) (ap (parts_of v ps true h (p + i)) d ∙ cons_parts (p + i) (8 - (i + 1))) (ap (regs_from T regs i) d ∙ cons_regs i (8 - (i + 1)))
         ∙ slot_differs P Δ (suc i) (slot_at true h (get_or ps (p + i) 0)) (cell 2 regs i 1) (cell 2 regs i 0) (parts_of v ps true h (suc (p + i)) (8 - (i + 1))) (regs_from T regs (suc i) (8 - (i + 1))) (one_fits ∙ s)
-        ∙ ap some o ∙ sym (said_some (i + 1) (λ q. omega arith)))
+        ∙ ap some o)
 
-  pub rest_done : (i : ℕ) → 8 ≤ i → RestFits i → (P : Program) (Δ : List Kind) → item_said 100 ≡ first_item (unfits P Δ 1 (parts_of v ps true h p 8) (regs_of T regs))
-  rest_done i k r P Δ = let d : 8 - i ≡ 0 = omega arith in sym (r P Δ ∙ rw d (unfold parts_of regs_from unfits first_item item_said in refl))
+  pub rest_done : (i : ℕ) → 8 ≤ i → RestFits i → (P : Program) (Δ : List Kind) → none ≡ first_item (unfits P Δ 1 (parts_of v ps true h p 8) (regs_of T regs))
+  rest_done i k r P Δ = let d : 8 - i ≡ 0 = omega arith in sym (r P Δ ∙ rw d (unfold parts_of regs_from unfits first_item in refl))
 
 -- the registers of a row that was read in an environment
 pub all_read : (E : List ℕ) (e : ℕ) (v : ℕ → Ty value) (ps : List ℕ) (h p : ℕ) (T : Reading) (regs : List ℕ) (P : Program) (Δ : List Kind)

@@ -1,12 +1,19 @@
+use Prim.Native.Nat.{ℕ}
+use mathlib.Core.Path.{ap, ◌∙◌}
+use Rattle.valid_verdict.specs.declared.Answer.TheVariants.{Refused}
+use Rattle.valid_verdict.specs.Answers.{verdict_is}
+use Rattle.std.specs.Prelude.{Some, None}
+use Rattle.valid_verdict.specs.finding.Found.{refusal_said}
+use Rattle.valid_verdict.proofs.finding.Laws.{finding_said}
 use Rattle.valid_verdict.proofs.Laws.{answers_none, answers_third, answers_unfit}
 use Rattle.valid_verdict.proofs.answer_by.Goals as goal
 
-pub returns-then-number-eq0 : goal.returns-then-number-eq0
-returns-then-number-eq0 c =
-    λ text e r k. answers_none text e _ r _ _ c.if-number-eq0.true (k c.if-number-eq0.true).0 (k c.if-number-eq0.true).1
+pub returns-in-Ok : goal.returns-in-Ok
+returns-in-Ok c =
+    λ text e r k. let z = ap refusal_said c.in-Ok.is in answers_none text e r z (k z).0 (k z).1
 
-pub returns-then-item-eq100 : goal.returns-then-item-eq100
-returns-then-item-eq100 c = λ text e r k. answers_third text e _ r (search) c.if-item-eq100.true
+pub returns-in-Some : goal.returns-in-Some
+returns-in-Some c = λ text e r k. answers_unfit text e r (finding_said _ c.in-Err.f (Some c.in-Some.item) c.in-Err.is c.in-Some.is)
 
-pub returns : goal.returns
-returns c = λ text e r k. answers_unfit text e _ r (search) c.if-item-eq100.false
+pub returns-in-None : goal.returns-in-None
+returns-in-None c = λ text e r k. ap (λ (n : ℕ). verdict_is (Refused n c.in-Err.f.line)) c.number.ensures ∙ answers_third text e r (finding_said _ c.in-Err.f None c.in-Err.is c.in-None.is)

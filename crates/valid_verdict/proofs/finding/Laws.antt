@@ -1,20 +1,16 @@
--- Findings with a fault and without.
+-- Findings on a line, and with an item.
+use Rattle.std.specs.Prelude.{ℕ, Option as Maybe, None, Result, Err}
 use mathlib.Core.Path.{◌≡◌, ap, ◌∙◌}
-use mathlib.Core.Option.{Option, none, some}
-use borrow.Author.Tests.{eq-eqb, ne_eqb}
-use Rattle.syntax.specs.Fault.{Refusal}
-use Rattle.valid_context.specs.premises.Answers.{item_said}
+use Rattle.faults.specs.declared.Fault.{Fault}
+use Rattle.faults.specs.Numbers.{number}
+use mathlib.Core.Option.{none, some}
 use Rattle.valid_verdict.specs.declared.finding.Finding.{Finding}
-use Rattle.valid_verdict.specs.finding.Found.{refusal_said}
+use Rattle.valid_verdict.specs.finding.Found.{item_named, refusal_of, refusal_said}
 
-pub says_none : (f : Finding) → f.number ≡ 0 → refusal_said f ≡ none
-unfolding refusal_said
-says_none f z = rw (eq-eqb f.number 0 z)
+-- a fault without an item
+pub on_line_said : {f : Finding} {k : Fault} {l : ℕ} → f ≡ record { fault = k; line = l; item = None } → some (refusal_of f) ≡ some (record { number = number k; line = l; item = none })
+on_line_said e = ap (λ (f : Finding). some (refusal_of f)) e
 
-pub says_some : (f : Finding) → (f.number ≡ 0 → ⊥) → refusal_said f ≡ some (record { number = f.number; line = f.line; item = item_said f.item })
-unfolding refusal_said
-says_some f h = rw (ne_eqb f.number 0 h)
-
--- nothing is found
-pub none_found : (f : Finding) → f ≡ record { number = 0; line = 0; item = 100 } → (o : Option Refusal) → none ≡ o → refusal_said f ≡ o
-none_found f e o h = says_none f (ap (λ (x : Finding). x.number) e) ∙ h
+-- a finding with what is known of its item
+pub finding_said : {A : Type 0} (r : Result A Finding) (f : Finding) (i : Maybe ℕ) → r ≡ Err f → f.item ≡ i → refusal_said r ≡ some (record { number = number f.fault; line = f.line; item = item_named i })
+finding_said r f i e q = ap refusal_said e ∙ ap (λ (j : Maybe ℕ). some (record { number = number f.fault; line = f.line; item = item_named j })) q

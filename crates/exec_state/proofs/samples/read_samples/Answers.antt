@@ -1,6 +1,6 @@
 use borrow.Author.Rules.{rules}
 use mathlib.Core.Path.{refl}
-use Prim.Native.Nat.{◌-◌, ◌≤◌}
+use Prim.Native.Nat.{◌≤◌}
 use native.Mathlib.Omega.{arith}
 use lib.ListN.{length}
 use Rattle.exec_state.proofs.samples.Laws.{at_first, all_read, not_ended, too_many, malformed, one_read}
@@ -22,12 +22,12 @@ returns-then-want-n c =
 pub loop-at-preserved : goal.loop-at-preserved
 loop-at-preserved c =
     let w : c.args.want ≤ length c.loop-at.out = omega (arith, c.requires, c.loop-at.invariant.2) in
-    (search rules, search rules, search rules, one_read _ _ _ _ _ c.loop-at.invariant.3 c.loop-at.invariant.1 w _ c.loop-at-test.true c.line_end-e.ensures c.if-text-e.false _ c.literal-x.ensures c.in-Value.v c.in-Value.is c.if-want-n.false)
+    (search rules, search rules, search rules, one_read _ _ _ _ _ c.loop-at.invariant.3 c.loop-at.invariant.1 w _ c.loop-at-test.true c.line_end-e.ensures c.if-text-e.false c.in-Some.v c.in-Some.ensures c.if-want-n.false)
 
-pub returns-in-Bad : goal.returns-in-Bad
-returns-in-Bad c =
+pub returns-in_default : goal.returns-in_default
+returns-in_default c =
     let w : c.args.want ≤ length c.loop-at.out = omega (arith, c.requires, c.loop-at.invariant.2) in
-    malformed _ _ _ _ _ c.loop-at.invariant.3 c.loop-at.invariant.1 w _ c.loop-at-test.true c.line_end-e.ensures (search) _ c.literal-x.ensures c.in-Bad.is
+    malformed _ _ _ _ _ c.loop-at.invariant.3 c.loop-at.invariant.1 w _ c.loop-at-test.true c.line_end-e.ensures (search) c.in_default.ensures
 
 pub returns : goal.returns
 returns c =

@@ -14,10 +14,10 @@ pub get-length-requires : goal.get-length-requires
 get-length-requires c =
     start_lent _ _ _ c.requires.3 c.requires.2 _ c.requires.0.low.second _ (named _ c.get-w.ensures (search)) (search) _ (search)
 
-pub returns-then-wide-i : goal.returns-then-wide-i
-returns-then-wide-i c =
-    λ ω S p m j et lp. ended ω c.stuck-then-wide-i.ensures (load_past _ _ p _ _ _ _ (named _ c.get-w.ensures (search)) _ c.wide-a.ensures.0
-    (search) _ c.get-length.ensures refl c.wide.ensures.0 (omega arith))
+pub returns-then-length-i : goal.returns-then-length-i
+returns-then-length-i c =
+    λ ω S p m j et lp. ended ω c.stuck-then-length-i.ensures (load_past _ _ p _ _ _ _ (named _ c.get-w.ensures (search)) _ refl
+    (search) _ c.get-length.ensures refl refl (omega arith))
 
 pub get-requires : goal.get-requires
 get-requires c =
@@ -30,7 +30,7 @@ assign-requires c = (search, search, c.requires.0.low.first)
 pub returns : goal.returns
 returns c =
     λ ω S p m j et lp. to_register ω et lp c.requires.0.depth c.requires.0.used
-    (load_done _ _ p _ _ _ _ (named _ c.get-w.ensures c.index.ensures.0) _ c.wide-a.ensures.0 c.if-w-ne-TUPLE.false _
-    c.get-length.ensures _ c.wide.ensures.0 (omega (arith, c.if-wide-i.false, c.index-i.ensures.0))
-    (named _ c.get.ensures (ap (λ (k : ℕ). c.wide-a.result + k + 1) c.index-i.ensures.0))) c.assign.ensures.0
+    (load_done _ _ p _ _ _ _ (named _ c.get-w.ensures c.index.ensures.0) _ refl c.if-w-ne-TUPLE.false _
+    c.get-length.ensures _ refl (omega (arith, c.if-length-i.false, c.index-i.ensures.0))
+    (named _ c.get.ensures (ap (λ (k : ℕ). c.get-w.result.number + k + 1) c.index-i.ensures.0))) c.assign.ensures.0
     c.assign.ensures.1

@@ -15,7 +15,7 @@ returns-then-w-ne-INT c =
 
 pub returns-then-branches : goal.returns-then-branches
 returns-then-branches c =
-    λ ω S H m j p starts et lp. as_turned (ap (result_of ω (held (lent _ _) S H c.args.h c.args.u j))
+    λ ω S H m j p starts et lp. as_turned (ap (result_of ω (held (lent _ _) S H c.args.turn.depth c.args.turn.used j))
     (sym (branch_on _ _ _ _ p _ (named _ c.get-w.ensures c.index.ensures.0) (search) _ _ c.branches.ensures
     c.index-2.ensures.0 (search)) ∙ ap (next_jump c.args.blocks.now c.args.labels) (sym c.register-v.ensures)))
     (c.jump.ensures ω (lent _ _) S H m j starts)

@@ -9,9 +9,9 @@ returns-then-w-ne-CODE c = λ ω R S H m j starts. ended ω c.stuck.ensures (jum
 
 pub returns-then-labels-l : goal.returns-then-labels-l
 returns-then-labels-l c =
-    λ ω R S H m j starts. ended ω c.stuck-then-labels-l.ensures (jump_label _ _ _ _ c.wide-l.ensures.0 (search) refl (search))
+    λ ω R S H m j starts. ended ω c.stuck-then-labels-l.ensures (jump_label _ _ _ _ refl (search) refl (search))
 
 pub returns : goal.returns
 returns c =
-    λ ω R S H m j starts. to_position ω refl (omega (arith, c.entry.ensures.0, starts _ c.if-labels-l.false)) c.requires.0 c.requires.1
-    (jump_done _ _ _ _ c.wide-l.ensures.0 c.if-w-ne-CODE.false c.if-labels-l.false c.entry.ensures.0) c.goes.ensures
+    λ ω R S H m j starts. to_position ω refl (omega (arith, c.cell.ensures.0, starts _ c.if-labels-l.false)) c.requires.0 c.requires.1
+    (jump_done _ _ _ _ refl c.if-w-ne-CODE.false c.if-labels-l.false c.cell.ensures.0) c.goes.ensures

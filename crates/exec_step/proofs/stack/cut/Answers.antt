@@ -8,11 +8,11 @@ pub returns-then-w-ne-HEIGHT : goal.returns-then-w-ne-HEIGHT
 returns-then-w-ne-HEIGHT c =
     λ ω S H p m j et lp. ended ω c.stuck.ensures (cut_kind _ _ p _ _ (named _ c.get-w.ensures (search)) refl (search))
 
-pub returns-then-h-w : goal.returns-then-h-w
-returns-then-h-w c =
-    λ ω S H p m j et lp. ended ω c.stuck-then-h-w.ensures (cut_above _ _ p _ _ (named _ c.get-w.ensures (search)) refl (search) (search))
+pub returns-then-turn-w : goal.returns-then-turn-w
+returns-then-turn-w c =
+    λ ω S H p m j et lp. ended ω c.stuck-then-turn-w.ensures (cut_above _ _ p _ _ (named _ c.get-w.ensures (search)) refl (search) (search))
 
 pub returns : goal.returns
 returns c =
-    λ ω S H p m j et lp. to_depth ω et lp c.requires.0.depth c.requires.0.used (omega (arith, c.if-h-w.false, c.requires.0.depth))
-    (cut_done _ _ p _ _ (named _ c.get-w.ensures c.index.ensures.0) c.if-w-ne-HEIGHT.false c.if-h-w.false) c.goes.ensures
+    λ ω S H p m j et lp. to_depth ω et lp c.requires.0.depth c.requires.0.used (omega (arith, c.if-turn-w.false, c.requires.0.depth))
+    (cut_done _ _ p _ _ (named _ c.get-w.ensures c.index.ensures.0) c.if-w-ne-HEIGHT.false c.if-turn-w.false) c.goes.ensures

@@ -1,6 +1,6 @@
 use Prim.Native.Nat.{ℕ, ◌+◌, ◌-◌}
 use native.Mathlib.Omega.{arith}
-use mathlib.Core.Path.{refl, ap₂, ◌∙◌}
+use mathlib.Core.Path.{refl, ap, ◌∙◌}
 use lib.ListN.{get_or}
 use Rattle.exec.specs.Machine.{put}
 use Rattle.exec_words.specs.memory.Lent.{word_is, lent}
@@ -15,10 +15,10 @@ returns-then-top-i c = λ ω H p m j et lp. ended ω c.stuck.ensures (write_past
 pub returns : goal.returns
 returns c =
     λ ω H p m j et lp. to_stack ω et lp c.requires.0.depth c.requires.0.used
-    (write_done (lent c.args.rk.now c.args.rn.now) c.args.h p (get_or c.args.plan.now (c.args.at + 3) 0)
-    (get_or c.args.plan.now (c.args.at + 2) 0) c.get-x.result
-    (omega (arith, c.if-top-i.false, c.wide-top.ensures.0, c.index-i.ensures.0))
+    (write_done (lent c.args.rk.now c.args.rn.now) c.args.turn.depth p (get_or c.args.plan.now (c.args.turn.at + 3) 0)
+    (get_or c.args.plan.now (c.args.turn.at + 2) 0) c.get-x.result
+    (omega (arith, c.if-top-i.false, c.index-i.ensures.0))
     (named (lent c.args.rk.now c.args.rn.now) c.get-x.ensures c.index.ensures.0)) c.write.ensures.0
-    (c.write.ensures.1 ∙ ap₂ (λ (i k : ℕ). cond c.args.more
-    (put (lent c.args.sk.now c.args.sn.now) (i - k - 1) (word_is c.get-x.result)) (lent c.args.sk.now c.args.sn.now))
-    c.wide-top.ensures.0 c.index-i.ensures.0)
+    (c.write.ensures.1 ∙ ap (λ (k : ℕ). cond c.args.turn.more
+    (put (lent c.args.sk.now c.args.sn.now) (c.args.turn.depth - k - 1) (word_is c.get-x.result)) (lent c.args.sk.now c.args.sn.now))
+    c.index-i.ensures.0)

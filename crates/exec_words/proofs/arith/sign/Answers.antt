@@ -1,11 +1,12 @@
-use Rattle.exec_words.proofs.arith.Laws.{sign_negative, sign_null, sign_positive}
+use Rattle.std.proofs.Common.{refl}
+use Rattle.exec_words.proofs.arith.Laws.{by_order}
 use Rattle.exec_words.proofs.arith.sign.Goals as goal
 
-pub returns-then-z-lt0 : goal.returns-then-z-lt0
-returns-then-z-lt0 c = sign_negative _ _ c.signed-z.type_inv c.signed-z.ensures (search)
+pub returns-in-Less : goal.returns-in-Less
+returns-in-Less c = by_order _ _ c.signed.type_inv c.signed.ensures c.in-Less.ensures refl
 
-pub returns-then-z-eq0 : goal.returns-then-z-eq0
-returns-then-z-eq0 c = sign_null _ _ c.signed-z.type_inv c.signed-z.ensures (search) (search)
+pub returns-in-Equal : goal.returns-in-Equal
+returns-in-Equal c = by_order _ _ c.signed.type_inv c.signed.ensures c.in-Equal.ensures refl
 
-pub returns-else-z-eq0 : goal.returns-else-z-eq0
-returns-else-z-eq0 c = sign_positive _ _ c.signed-z.type_inv c.signed-z.ensures (search) (search)
+pub returns-in-Greater : goal.returns-in-Greater
+returns-in-Greater c = by_order _ _ c.signed.type_inv c.signed.ensures c.in-Greater.ensures refl

@@ -1,10 +1,12 @@
-use Rattle.image.proofs.Enough.{by_work, not_enough}
+use Rattle.std.proofs.Common.{arith}
+use Rattle.std.proofs.lemmas.Bool.Decides.{nat_tests}
+use Rattle.image.specs.Enough.{enough_to_check}
 use Rattle.image.proofs.lent.is_enough_to_check.Goals as goal
 
 pub returns-then-is_enough : goal.returns-then-is_enough
-returns-then-is_enough c =
-    by_work c.args.image c.args.numbers c.args.plan c.args.work c.is_enough.result c.is_enough.ensures (search)
+unfolding enough_to_check
+returns-then-is_enough c = grind (arith, nat_tests)
 
-pub returns : goal.returns
-returns c =
-    not_enough c.args.image c.args.numbers c.args.plan c.args.work c.is_enough.result c.is_enough.ensures (search)
+pub returns-else-is_enough : goal.returns-else-is_enough
+unfolding enough_to_check
+returns-else-is_enough c = grind (arith, nat_tests)

@@ -1,4 +1,3 @@
-use Prim.Native.Nat.{◌-◌}
 use Rattle.text_decode.proofs.line.StopLaws.{scan_to, plain_register, plain_number}
 use Rattle.text_decode.proofs.line.plain_field.Goals as goal
 

@@ -1,26 +1,24 @@
-use mathlib.Core.Path.{refl}
-use Rattle.text_decode.proofs.line.FieldLaws.{slots_are, two_slots}
+use Rattle.text_decode.proofs.line.FieldLaws.{slots_bad, slots_none, slots_some, slots_end}
 use Rattle.text_decode.proofs.line.read_slots.Goals as goal
 
-pub returns-then-f-eq0-2 : goal.returns-then-f-eq0-2
-returns-then-f-eq0-2 c =
-    record { says = two_slots _ _ _ _ _ _ c.read_slot-a.result c.read_slot-b.result _ c.read_slot-a.ensures.says c.read_slot-b.ensures.says c.both-ok.ensures (search) (search); stop = c.read_slot-b.ensures.stop }
+pub returns-in_err-a : goal.returns-in_err-a
+returns-in_err-a c = rw c.from_residual.ensures (slots_bad _ _ _ c.in_err-a.ensures)
+
+pub returns-in_err-b : goal.returns-in_err-b
+returns-in_err-b c =
+    rw c.from_residual-in_err-b.ensures (slots_none _ _ _ _ _ c.in_ok-a.ensures.says (slots_bad _ _ _ c.in_err-b.ensures))
+
+pub returns-in_err-c : goal.returns-in_err-c
+returns-in_err-c c =
+    rw c.from_residual-in_err-c.ensures (slots_none _ _ _ _ _ c.in_ok-a.ensures.says (slots_none _ _ _ _ _ c.in_ok-b.ensures.says (slots_bad _ _ _ c.in_err-c.ensures)))
+
+pub returns-in_err-d : goal.returns-in_err-d
+returns-in_err-d c =
+    rw c.from_residual-in_err-d.ensures (slots_none _ _ _ _ _ c.in_ok-a.ensures.says (slots_none _ _ _ _ _ c.in_ok-b.ensures.says (slots_none _ _ _ _ _ c.in_ok-c.ensures.says (slots_bad _ _ _ c.in_err-d.ensures))))
 
 pub returns : goal.returns
-returns c =
-    record {
-      says =
-          slots_are _ _ _ _ _ _ _ c.read_slot-a.result c.read_slot-b.result c.read_slot-c.result c.read_slot-d.result _ _ _ refl
-          c.read_slot-a.ensures.says c.read_slot-b.ensures.says c.read_slot-c.ensures.says c.read_slot-d.ensures.says
-          c.both-ok.ensures c.both.ensures c.both-2.ensures;
-      stop = c.read_slot-d.ensures.stop;
-    }
-
-pub read_slot-b-requires : goal.read_slot-b-requires
-read_slot-b-requires c = c.read_slot-a.ensures.stop
-
-pub read_slot-c-requires : goal.read_slot-c-requires
-read_slot-c-requires c = c.read_slot-b.ensures.stop
-
-pub read_slot-d-requires : goal.read_slot-d-requires
-read_slot-d-requires c = c.read_slot-c.ensures.stop
+returns c = record {
+  says =
+      slots_some _ _ _ _ _ c.in_ok-a.ensures.says _ _ (slots_some _ _ _ _ _ c.in_ok-b.ensures.says _ _ (slots_some _ _ _ _ _ c.in_ok-c.ensures.says _ _ (slots_some _ _ _ _ _ c.in_ok-d.ensures.says _ _ (slots_end _))));
+  stop = c.in_ok-d.ensures.stop;
+}

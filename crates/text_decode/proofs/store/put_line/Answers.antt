@@ -3,37 +3,39 @@ use Rattle.image.specs.Sections.{part}
 use Rattle.text_decode.proofs.store.PutLaws.{row_in, block_in, instr_in_lem, line_inside, line_last, line_behind}
 use Rattle.text_decode.proofs.store.put_line.Goals as goal
 
-pub put_row-requires : goal.put_row-requires
+pub put_entries-requires : goal.put_entries-requires
 unfolding part
-put_row-requires c = omega arith
+put_entries-requires c = omega arith
 
 pub returns-then-code-lt11 : goal.returns-then-code-lt11
 unfolding part
-returns-then-code-lt11 c = row_in _ _ c.requires.0.ordered _ _ _ _ (search) c.put_row.auto.rows c.put_row.ensures
+returns-then-code-lt11 c =
+    row_in _ _ c.requires.0.ordered _ _ _ _ (search) c.put_entries.auto.table c.put_entries.ensures
 
-pub put_block-requires : goal.put_block-requires
+pub put_entries-requires-then-code-eq11 : goal.put_entries-requires-then-code-eq11
 unfolding part
-put_block-requires c = omega arith
+put_entries-requires-then-code-eq11 c = omega arith
 
 pub returns-then-code-eq11 : goal.returns-then-code-eq11
 unfolding part
-returns-then-code-eq11 c = block_in _ _ c.requires.0.ordered _ _ _ _ (search) c.put_block.auto.blocks c.put_block.ensures
+returns-then-code-eq11 c =
+    block_in _ _ c.requires.0.ordered _ _ _ _ (search) c.put_entries-then-code-eq11.auto.table c.put_entries-then-code-eq11.ensures
 
-pub put_instr-requires : goal.put_instr-requires
+pub put_entries-requires-2 : goal.put_entries-requires-2
 unfolding part
-put_instr-requires c = omega arith
+put_entries-requires-2 c = omega arith
 
-pub returns-then-code-lt33 : goal.returns-then-code-lt33
+pub returns-in-33 : goal.returns-in-33
 unfolding part
-returns-then-code-lt33 c =
-    instr_in_lem _ _ c.requires.0.ordered c.args.code _ _ _ (search) (search) c.put_instr.auto.instrs c.put_instr.ensures _ (line_inside c.args.code (search) (search) _ _ (search))
+returns-in-33 c =
+    instr_in_lem _ _ c.requires.0.ordered c.args.code _ _ _ (search) (search) c.put_entries-2.auto.table c.put_entries-2.ensures _ (line_last c.args.code (search) (search) _ _ _ c.from-operands.ensures (omega arith) (omega arith))
 
-pub returns-then-code-lt35 : goal.returns-then-code-lt35
+pub returns-in_default : goal.returns-in_default
 unfolding part
-returns-then-code-lt35 c =
-    instr_in_lem _ _ c.requires.0.ordered c.args.code _ _ _ (search) (search) c.put_instr.auto.instrs c.put_instr.ensures _ (line_last c.args.code (search) (search) _ _ (search) (search))
+returns-in_default c =
+    instr_in_lem _ _ c.requires.0.ordered c.args.code _ _ _ (search) (search) c.put_entries-2.auto.table c.put_entries-2.ensures _ (line_inside c.args.code (search) (search) _ _ _ c.from-operands.ensures (omega arith))
 
-pub returns : goal.returns
+pub returns-in_default-2 : goal.returns-in_default-2
 unfolding part
-returns c =
-    instr_in_lem _ _ c.requires.0.ordered c.args.code _ _ _ (search) (search) c.put_instr.auto.instrs c.put_instr.ensures _ (line_behind c.args.code (search) (search) _ _ (search) (search))
+returns-in_default-2 c =
+    instr_in_lem _ _ c.requires.0.ordered c.args.code _ _ _ (search) (search) c.put_entries-2.auto.table c.put_entries-2.ensures _ (line_behind c.args.code (search) (search) _ _ _ c.from-operands.ensures (omega arith) (omega arith))

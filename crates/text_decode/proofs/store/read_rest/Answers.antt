@@ -1,4 +1,4 @@
-use Rattle.text_decode.proofs.store.PutLaws.{form_as, rest_stop, rest_fields, rest_end, rest_carried}
+use Rattle.text_decode.proofs.store.PutLaws.{form_as, rest_stop, rest_fields, rest_through}
 use Rattle.text_decode.proofs.store.read_rest.Goals as goal
 
 pub read_form-requires : goal.read_form-requires
@@ -6,4 +6,4 @@ read_form-requires c = (search, search, search, rest_stop _ _ c.requires.2)
 
 pub returns : goal.returns
 returns c =
-    (form_as _ _ _ _ _ _ _ _ _ (rest_fields _ _ (search)) (search), rest_carried _ _ c.requires.2 _ (search), rest_end _ _ (search) _ _ (search), search)
+    (form_as _ _ _ _ _ _ _ _ _ (rest_fields _ _ (search)) (search), rest_through _ _ c.requires.2 _ c.read_form.ensures.1, search)

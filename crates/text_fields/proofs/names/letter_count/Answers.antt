@@ -1,15 +1,17 @@
-use Rattle.std.proofs.Common.{sym, ◌∙◌}
+use Rattle.std.proofs.Common.{sym, ◌∙◌, eqb-true}
+use Rattle.std.proofs.lemmas.Bool.{eqb-false}
 use Rattle.text_fields.proofs.names.CodeRows.{word_empty, word_long, word_is_lem, word_bad}
 use Rattle.text_fields.proofs.names.letter_count.Goals as goal
+use Rattle.text_fields.proofs.names.letter_count.Goals.{then-is_empty-via-then-is_empty, then-is_empty-via-else-is_empty+then-f-gt8, then-is_empty-via-else-is_empty+else-f-gt8+then-not-all_letters}
 
-pub returns-then-all_letters : goal.returns-then-all_letters
-returns-then-all_letters c = word_is_lem _ (search) (search) (sym c.all_letters.ensures ∙ c.if-all_letters.true)
+pub returns-then-is_empty : goal.returns-then-is_empty
+returns-then-is_empty c =
+    elim c.then-is_empty.branch [
+      | then-is_empty-via-then-is_empty w ↦ word_empty _ (eqb-true _ 0 (sym c.is_empty.ensures ∙ w.if-is_empty.true))
+      | then-is_empty-via-else-is_empty+then-f-gt8 w ↦ word_long _ w.if-f-gt8.true
+      | then-is_empty-via-else-is_empty+else-f-gt8+then-not-all_letters w ↦ word_bad _ (sym w.all_letters.ensures ∙ w.if-not-all_letters.true)
+    ]
 
 pub returns : goal.returns
-returns c = word_bad _ (sym c.all_letters.ensures ∙ c.if-all_letters.false)
-
-pub returns-then-f-eq0 : goal.returns-then-f-eq0
-returns-then-f-eq0 c = word_empty _ (search)
-
-pub returns-then-f-gt8 : goal.returns-then-f-gt8
-returns-then-f-gt8 c = word_long _ (search)
+returns c =
+    word_is_lem _ (eqb-false _ 0 (sym c.is_empty.ensures ∙ c.if-is_empty.false)) (search) (sym c.all_letters.ensures ∙ c.if-not-all_letters.false)

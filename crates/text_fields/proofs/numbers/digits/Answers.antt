@@ -1,26 +1,22 @@
-use Rattle.std.proofs.Common.{ℕ, ◌+◌, ◌-◌, ◌*◌, ◌<◌, ◌≤◌, get_or, drop, sym, ap, ◌∙◌, rules, ltb-false, ltb-true}
-use Rattle.text_fields.specs.numbers.Numbers.{up_to, digit_of}
-use Rattle.text_fields.proofs.numbers.Laws.{up_end, up_bad, up_more, too_high}
+use Rattle.std.proofs.Common.{◌+◌, get_or, drop, sym, ap, ◌∙◌, drop_of_length-le}
+use Rattle.text_fields.specs.numbers.Numbers.{number_of, up_to}
+use Rattle.text_fields.proofs.numbers.Laws.{drop_more, up_none, up_some, up_end}
 use Rattle.text_fields.proofs.numbers.digits.Goals as goal
 
-pub returns-then-no_digit : goal.returns-then-no_digit
-returns-then-no_digit c =
-    let q : 9 < digit_of (get_or c.args.s.now c.loop-i.i 0) = ltb-true 9 _ (sym c.no_digit.ensures ∙ c.if-no_digit.true) in
-    sym (up_bad _ _ _ _ c.loop-i-test.true q) ∙ c.loop-i.invariant.2
+pub returns-in_err-n : goal.returns-in_err-n
+returns-in_err-n c =
+    let s = c.args.s.now in
+    let i = c.loop-b.b-index in
+    ap number_of c.from_residual.ensures ∙ sym (sym c.loop-b.invariant.1 ∙ ap (up_to c.args.high c.loop-b.n) (drop_more s i c.loop-b-test.true) ∙ up_none c.args.high c.loop-b.n (get_or s i 0) (drop (i + 1) s) c.in_err-n.ensures)
 
-pub digit-requires : goal.digit-requires
-digit-requires c = ltb-false 9 _ (sym c.no_digit.ensures ∙ c.if-no_digit.false)
-
-pub returns-then-top-n : goal.returns-then-top-n
-returns-then-top-n c =
-    let k : digit_of (get_or c.args.s.now c.loop-i.i 0) ≤ 9 = ltb-false 9 _ (sym c.no_digit.ensures ∙ c.if-no_digit.false) in
-    let e = ap (λ (x : ℕ). up_to c.args.high (c.loop-i.n * 10 + x) (drop (c.loop-i.i + 1) c.args.s.now)) c.digit.ensures.0 ∙ sym (up_more _ _ _ _ c.loop-i-test.true k) ∙ c.loop-i.invariant.2 in
-    sym (too_high _ _ (drop (c.loop-i.i + 1) c.args.s.now) c.if-top-n.true) ∙ e
-
-pub loop-i-preserved : goal.loop-i-preserved
-loop-i-preserved c =
-    let k : digit_of (get_or c.args.s.now c.loop-i.i 0) ≤ 9 = ltb-false 9 _ (sym c.no_digit.ensures ∙ c.if-no_digit.false) in
-    (search rules, search, ap (λ (x : ℕ). up_to c.args.high (c.loop-i.n * 10 + x) (drop (c.loop-i.i + 1) c.args.s.now)) c.digit.ensures.0 ∙ sym (up_more _ _ _ _ c.loop-i-test.true k) ∙ c.loop-i.invariant.2)
+pub loop-b-preserved : goal.loop-b-preserved
+loop-b-preserved c =
+    let s = c.args.s.now in
+    let i = c.loop-b.b-index in
+    let u = up_some c.args.high c.loop-b.n (get_or s i 0) (drop (i + 1) s) c.in_ok-n.n c.in_ok-n.ensures in
+    (u.0, sym u.1 ∙ sym (ap (up_to c.args.high c.loop-b.n) (drop_more s i c.loop-b-test.true)) ∙ c.loop-b.invariant.1)
 
 pub returns : goal.returns
-returns c = sym (up_end _ _ _ _ c.loop-i-test.false (search)) ∙ c.loop-i.invariant.2
+returns c =
+    let s = c.args.s.now in
+    sym (ap (up_to c.args.high c.loop-b.n) (drop_of_length-le s c.loop-b-test.false) ∙ up_end c.args.high c.loop-b.n c.loop-b.invariant.0) ∙ c.loop-b.invariant.1

@@ -1,28 +1,20 @@
-use Rattle.std.proofs.Common.{◌-◌, arith}
-use borrow.Author.Tests.{not-true, not-false}
-use Rattle.text_fields.proofs.numbers.Scans.{scan_none, at_bad, at_empty, at_led, at_low, at_number}
+use Rattle.text_fields.proofs.numbers.Laws.{number_bad}
+use Rattle.text_fields.proofs.numbers.Scans.{at_empty, at_led, at_low, at_number}
 use Rattle.text_fields.proofs.numbers.number_at.Goals as goal
+use Rattle.text_fields.proofs.numbers.number_at.Goals.{then-x-at-via-then-x-at, then-x-at-via-else-x-at+then-led, then-x-at-via-else-x-at+else-led+then-x-low}
 
-pub returns-then-not-x : goal.returns-then-not-x
-returns-then-not-x c = scan_none _ _ _ _ (search) (at_bad _ _ _ _ c.requires _ c.digits_at-x.ensures (not-true _ (search)))
+pub returns-in_err-x : goal.returns-in_err-x
+returns-in_err-x c = rw c.from_residual.ensures (number_bad _ _ _ c.in_err-x.ensures)
 
-pub returns-then-e-at : goal.returns-then-e-at
-returns-then-e-at c =
-    scan_none _ _ _ _ (search) (at_empty _ _ _ _ c.requires _ c.digits_at-x.ensures (not-false _ (search)) (search))
-
-pub overflow_sub-e : goal.overflow_sub-e
-overflow_sub-e c =
-    let e = c.digits_at-x.ensures.ends (not-false _ (search)) in
-    omega arith
-
-pub returns-then-led : goal.returns-then-led
-returns-then-led c =
-    scan_none _ _ _ _ (search) (at_led _ _ _ _ c.requires _ c.digits_at-x.ensures (not-false _ (search)) (search) _ c.led.ensures (search))
-
-pub returns-then-x-low : goal.returns-then-x-low
-returns-then-x-low c =
-    scan_none _ _ _ _ (search) (at_low _ _ _ _ c.requires _ c.digits_at-x.ensures (not-false _ (search)) (search) _ c.led.ensures (search) (search))
+pub returns-then-x-at : goal.returns-then-x-at
+returns-then-x-at c =
+    let g = c.in_ok-x.ensures in
+    elim c.then-x-at.branch [
+      | then-x-at-via-then-x-at w ↦ at_empty _ _ _ _ c.requires _ g w.if-x-at.true
+      | then-x-at-via-else-x-at+then-led w ↦ at_led _ _ _ _ c.requires _ g w.if-x-at.false _ w.led.ensures w.if-led.true
+      | then-x-at-via-else-x-at+else-led+then-x-low w ↦ at_low _ _ _ _ c.requires _ g w.if-x-at.false _ w.led.ensures w.if-led.false w.if-x-low.true
+    ]
 
 pub returns : goal.returns
 returns c =
-    at_number _ _ _ _ (search) _ (search) (not-false _ (search)) (search) _ c.led.ensures (search) (search)
+    at_number _ _ _ _ c.requires _ c.in_ok-x.ensures c.if-x-at.false _ c.led.ensures c.if-led.false c.if-x-low.false

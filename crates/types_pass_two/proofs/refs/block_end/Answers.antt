@@ -3,7 +3,7 @@ use Rattle.tables.proofs.Steps.{end_inner, end_last}
 use Rattle.types_pass_two.proofs.refs.block_end.Goals as goal
 
 pub returns-then-b-nb : goal.returns-then-b-nb
-returns-then-b-nb c = (c.cell2.ensures.0 ∙ end_inner _ _ _ _ (search), search)
+returns-then-b-nb c = (c.cell.ensures.0 ∙ end_inner _ _ _ _ (search), search)
 
-pub returns : goal.returns
-returns c = (end_last _ _ _ _ (search), search)
+pub returns-else-b-nb : goal.returns-else-b-nb
+returns-else-b-nb c = (end_last _ _ _ _ (search), search)

@@ -1,13 +1,11 @@
-use Prim.Native.Nat.{◌≤◌, ◌+◌, ◌-◌}
+use Prim.Native.Nat.{◌+◌, ◌-◌}
 use mathlib.Core.Path.{◌≡◌}
 use Rattle.syntax.proofs.Least.{least}
+use Rattle.faults.specs.Numbers.{fault_number}
 use Rattle.tables.specs.Tables.{span}
 use Rattle.types_pass_two.specs.row_refs.Least.{refs_least, list_refs}
 use Rattle.types_pass_two.proofs.row_refs.list_fault.Given as goal
 
 abbrev pub invariant-loop-i : goal.invariant-loop-i
 invariant-loop-i l =
-    (l.i ≤ l.m) × (least l.f (refs_least l.rows l.n (list_refs l.part (span l.s (l.p + l.i) (l.m - l.i)))) ≡ refs_least l.rows l.n (list_refs l.part (span l.s l.p l.m)))
-
-abbrev pub decreases-loop-i : goal.decreases-loop-i
-decreases-loop-i l = l.m - l.i
+    least (fault_number l.f) (refs_least l.rows l.n (list_refs l.part (span l.s (l.p + l.i) (l.m - l.i)))) ≡ refs_least l.rows l.n (list_refs l.part (span l.s l.p l.m))

@@ -1,14 +1,10 @@
 use Rattle.std.proofs.Common.{◌+◌, ◌*◌}
-use Prim.Native.Nat.{◌-◌}
 use Rattle.types_rows.specs.Read.{tab}
 use Rattle.types_rows.proofs.size.Laws.{Spending}
 use Rattle.types_rows.proofs.size.+spend_parts_spend_row_spend_stack_spend_value.Given as goal
 
 abbrev pub invariant-spend_parts-loop-i : goal.invariant-spend_parts-loop-i
 invariant-spend_parts-loop-i l = Spending (tab l.rows l.parts) l.file l.h l.p l.n l.left l.rest l.i
-
-abbrev pub decreases-spend_parts-loop-i : goal.decreases-spend_parts-loop-i
-decreases-spend_parts-loop-i l = l.n - l.i
 
 abbrev pub decreases-spend_parts : goal.decreases-spend_parts
 decreases-spend_parts l = 131072 * l.h

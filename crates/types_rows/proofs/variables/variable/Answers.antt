@@ -7,7 +7,7 @@ use Rattle.types_rows.proofs.variables.variable.Goals as goal
 pub returns-then-k-eq0 : goal.returns-then-k-eq0
 returns-then-k-eq0 c =
     let i = c.loop-x.invariant.2 in
-    (c.less.ensures ∙ var_zero _ _ _ (search) ∙ c.loop-x.invariant.0, omega arith)
+    (c.saturating_sub.ensures ∙ var_zero _ _ _ (search) ∙ c.loop-x.invariant.0, omega arith)
 
 pub loop-x-preserved : goal.loop-x-preserved
 loop-x-preserved c =
@@ -16,4 +16,4 @@ loop-x-preserved c =
 pub returns : goal.returns
 returns c =
     let i = c.loop-x.invariant.2 in
-    (ap (λ z. c.loop-x.k + z) c.less-2.ensures ∙ sym (var_even _ _ _ (search)) ∙ c.loop-x.invariant.0, omega arith)
+    (ap (λ z. c.loop-x.k + z) c.saturating_sub-2.ensures ∙ sym (var_even _ _ _ (search)) ∙ c.loop-x.invariant.0, omega arith)

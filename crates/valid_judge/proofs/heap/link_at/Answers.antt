@@ -9,7 +9,7 @@ returns-then-u-n c =
     let e = c.register-u.ensures in
     (λ rows parts E r. e.0 (held_in rows parts _ E), omega arith, e.2, e.3)
 
-pub returns : goal.returns
-returns c =
+pub returns-else-u-n : goal.returns-else-u-n
+returns-else-u-n c =
     let e = c.register-u.ensures in
     (λ rows parts E r. e.0 (held_in rows parts _ E) ∙ past_link rows parts _ _ _ E r (omega arith), omega arith, e.2, e.3)

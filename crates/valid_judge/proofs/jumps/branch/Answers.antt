@@ -1,4 +1,6 @@
 use native.Mathlib.Omega.{arith}
+use mathlib.Core.Path.{ap, ◌∙◌}
+use Rattle.valid_context.specs.Told.{told}
 use Rattle.valid_judge.proofs.jumps.Laws.{branches, branches_none}
 use Rattle.image.specs.Sections.{part}
 use Rattle.valid_judge.proofs.jumps.branch.Goals as goal
@@ -12,11 +14,10 @@ target-t-requires c =
     let r = c.requires.3 in
     (search, search, record { last = c.requires.2; few = r.few; depth = omega (arith, r.depth) })
 
-pub returns-then-f-ne0 : goal.returns-then-f-ne0
+pub returns-in-Ok : goal.returns-in-Ok
 unfolding part
-returns-then-f-ne0 c =
-    λ P o h. branches_none P _ _ _ _ _ (c.target-t.ensures P h) o _ _ (c.integer-f.ensures _ P _) _ (search) (search)
+returns-in-Ok c = λ P o h. branches P _ _ _ _ (c.target-t.ensures P h) o _ (c.integer-f.ensures _ P _ ∙ ap (told (λ u. tt)) c.in-Ok.is)
 
-pub returns : goal.returns
+pub returns-in-Err : goal.returns-in-Err
 unfolding part
-returns c = λ P o h. branches P _ _ _ _ _ (c.target-t.ensures P h) o _ _ (c.integer-f.ensures _ P _) (search)
+returns-in-Err c = λ P o h. branches_none P _ _ _ _ (c.target-t.ensures P h) o _ c.in-Err.f _ (c.integer-f.ensures _ P _ ∙ ap (told (λ u. tt)) c.in-Err.is) c.lesser.ensures.0 c.lesser.ensures.1

@@ -8,4 +8,4 @@ target-requires c =
     (search, search, record { last = c.requires.2; few = r.few; depth = omega (arith, r.depth) })
 
 pub returns : goal.returns
-returns c = λ P h. jumps P _ _ _ _ _ (c.target.ensures P h)
+returns c = λ P h. jumps P _ _ _ _ (c.target.ensures P h)

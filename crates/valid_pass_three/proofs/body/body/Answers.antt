@@ -1,24 +1,19 @@
-use Prim.Native.Nat.{ℕ, ◌+◌, ◌-◌, ◌<◌}
+use Prim.Native.Nat.{ℕ, ◌+◌, ◌<◌}
 use native.Mathlib.Omega.{arith}
 use mathlib.Core.Path.{refl, ap, sym, ◌∙◌}
-use mathlib.Core.Option.{Option}
+use mathlib.Core.Option.{Option, some}
 use mathlib.Core.List.{List, []}
 use lib.ListN.{take}
-use Rattle.syntax.specs.Syntax.{Kind}
-use Rattle.syntax.specs.Fault.{Refusal}
-use Rattle.image.specs.declared.Places.{Places}
 use Rattle.image.specs.Sections.{instr_section}
-use Rattle.valid.specs.Program.{Program}
-use Rattle.valid.specs.Rules.{Context}
 use Rattle.valid_context.specs.Context.{context_of}
 use Rattle.valid_typing.specs.Image.{read_at, operands_in, letters_in}
 use Rattle.types_rows.proofs.Environments.{known_none}
 use Rattle.valid_judge.specs.Image.{counting}
-use Rattle.valid_verdict.proofs.finding.Laws.{none_found}
-use Rattle.valid_pass_three.specs.declared.body.BodyLines.{BodyLines}
 use Rattle.valid_pass_three.proofs.body.Arrays.{still}
 use Rattle.valid_pass_three.proofs.body.Environments.{taken_few, taken_fits, noted}
-use Rattle.valid_pass_three.proofs.body.Lines.{lines_left, instr_next, instr_found, instrs_end}
+use Rattle.faults.specs.Numbers.{number}
+use Rattle.valid_verdict.specs.finding.Found.{item_named}
+use Rattle.valid_pass_three.proofs.body.Lines.{same_item, lines_left, instr_next, instr_found, instrs_end}
 use Rattle.valid_pass_three.proofs.body.body.Invariants.{left}
 use Rattle.valid_pass_three.proofs.body.body.Goals as goal
 
@@ -37,8 +32,8 @@ loop-i-init c =
 pub slice_bounds-line-end : goal.slice_bounds-line-end
 slice_bounds-line-end c = sym c.loop-i.invariant.1.long
 
-pub line-v-requires : goal.line-v-requires
-line-v-requires c =
+pub line-requires : goal.line-requires
+line-requires c =
     let t = c.requires.0.tables in
     let a = still c.requires.2 c.loop-i.invariant.0 in
     let u = c.loop-i.invariant.1 in (
@@ -48,16 +43,17 @@ line-v-requires c =
       record { fits = taken_fits u; force = record { room = record { few = taken_few u; registers = a.registers; items = a.items; depth = u.depth }; known = u.known; held = u.held; hidden = refl } },
     )
 
-pub returns-then-number-ne0 : goal.returns-then-number-ne0
+pub returns-in-Err : goal.returns-in-Err
 unfolding lines_left
-returns-then-number-ne0 c =
+returns-in-Err c =
     let one_more_lem : c.loop-i.i < c.args.x.end = search in
     let a = c.args in
     let l = a.image.now in
-    λ P h. instr_found P (instr_section a.p l) (operands_in a.p l a.literals.now) a.x.end a.x.base
+    λ P h. ap (λ (j : Option ℕ). some (record { number = number c.in-Err.m.fault; line = a.x.base + c.loop-i.i; item = j })) (same_item c.in-Err.m.item)
+    ∙ instr_found P (instr_section a.p l) (operands_in a.p l a.literals.now) a.x.end a.x.base
     (letters_in a.p l (counting a.w (take c.loop-i.h c.loop-i.envs))) c.loop-i.i
     (context_of (read_at a.p l a.c.rows (take c.loop-i.h c.loop-i.envs)) c.loop-i.regs c.loop-i.sp c.loop-i.depth) _
-    c.line-v.result.fault c.line-v.result.item one_more_lem (c.line-v.ensures.0 P h) (search) ∙ c.loop-i.invariant.3 P h
+    c.in-Err.m one_more_lem (c.in-Err.ensures.0 P h) ∙ c.loop-i.invariant.3 P h
 
 pub slice_bounds-note-end : goal.slice_bounds-note-end
 slice_bounds-note-end c = sym c.loop-i.invariant.1.long
@@ -65,26 +61,26 @@ slice_bounds-note-end c = sym c.loop-i.invariant.1.long
 pub note-h-requires : goal.note-h-requires
 note-h-requires c =
     let u = c.loop-i.invariant.1 in
-    let e = c.line-v.ensures.2 (search) in
+    let e = c.in-Ok.ensures.2 in
     (omega (arith, e.few, u.long), taken_fits u, e.small)
 
 pub loop-i-preserved : goal.loop-i-preserved
 loop-i-preserved c =
     let one_more_lem : c.loop-i.i < c.args.x.end = search in
-    let e = c.line-v.ensures.2 (search) in
+    let e = c.in-Ok.ensures.2 in
     let i = c.loop-i.invariant.0 in
     let u = c.loop-i.invariant.1 in
     let a = c.args in
     let l = a.image.now in (
-      record { registers = c.line-v.auto.regs ∙ i.registers; items = c.line-v.auto.sp ∙ i.items; work = c.line-v.auto.work ∙ i.work; pending = c.line-v.auto.pending ∙ i.pending },
-      noted u c.line-v.result.opened c.note-h.auto.envs c.note-h.ensures.0 c.note-h.ensures.1 c.line-v.ensures.1 e.few e.known e.held,
+      record { registers = c.line.auto.regs ∙ i.registers; items = c.line.auto.sp ∙ i.items; work = c.line.auto.work ∙ i.work; pending = c.line.auto.pending ∙ i.pending },
+      noted u c.in-Ok.v.opened c.note-h.auto.envs c.note-h.ensures.0 c.note-h.ensures.1 c.in-Ok.ensures.1 e.few e.known e.held,
       omega (arith, c.loop-i.invariant.2),
       λ P h. ap (λ (E : List ℕ). left a.p l a.literals.now a.x P (letters_in a.p l (counting a.w E)) (c.loop-i.i + 1)
-          (context_of (read_at a.p l a.c.rows E) c.line-v.new.regs c.line-v.new.sp c.line-v.result.depth)) c.note-h.ensures.0
+          (context_of (read_at a.p l a.c.rows E) c.line.new.regs c.line.new.sp c.in-Ok.v.depth)) c.note-h.ensures.0
           ∙ instr_next P (instr_section a.p l) (operands_in a.p l a.literals.now) a.x.end a.x.base
           (letters_in a.p l (counting a.w (take c.loop-i.h c.loop-i.envs))) _ c.loop-i.i
           (context_of (read_at a.p l a.c.rows (take c.loop-i.h c.loop-i.envs)) c.loop-i.regs c.loop-i.sp c.loop-i.depth) _
-          c.line-v.result.fault c.line-v.result.item one_more_lem (c.line-v.ensures.0 P h) (search) e.letters ∙ c.loop-i.invariant.3 P h,
+          one_more_lem (c.in-Ok.ensures.0 P h).told e.letters ∙ c.loop-i.invariant.3 P h,
     )
 
 pub returns : goal.returns
@@ -92,23 +88,6 @@ unfolding lines_left
 returns c =
     let a = c.args in
     let l = a.image.now in
-    λ P h. none_found c.nothing.result c.nothing.ensures _ (instrs_end P (instr_section a.p l)
+    λ P h. instrs_end P (instr_section a.p l)
     (operands_in a.p l a.literals.now) a.x.end a.x.base (letters_in a.p l (counting a.w (take c.loop-i.h c.loop-i.envs))) c.loop-i.i
-    (context_of (read_at a.p l a.c.rows (take c.loop-i.h c.loop-i.envs)) c.loop-i.regs c.loop-i.sp c.loop-i.depth) (search) ∙ c.loop-i.invariant.3 P h)
-
-pub overflow_add-line : goal.overflow_add-line
-overflow_add-line c =
-    let one_more_lem : c.loop-i.i < c.args.x.end = search in
-    omega (arith, one_more_lem, c.requires.1.last, c.requires.1.lines)
-
-pub shape_of-regs-then-number-ne0 : goal.shape_of-regs-then-number-ne0
-shape_of-regs-then-number-ne0 c = (cc)
-
-pub shape_of-sp-then-number-ne0 : goal.shape_of-sp-then-number-ne0
-shape_of-sp-then-number-ne0 c = (cc)
-
-pub shape_of-work-then-number-ne0 : goal.shape_of-work-then-number-ne0
-shape_of-work-then-number-ne0 c = (cc)
-
-pub shape_of-pending-then-number-ne0 : goal.shape_of-pending-then-number-ne0
-shape_of-pending-then-number-ne0 c = (cc)
+    (context_of (read_at a.p l a.c.rows (take c.loop-i.h c.loop-i.envs)) c.loop-i.regs c.loop-i.sp c.loop-i.depth) (search) ∙ c.loop-i.invariant.3 P h

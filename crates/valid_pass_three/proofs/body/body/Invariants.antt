@@ -1,4 +1,4 @@
-use Prim.Native.Nat.{◌-◌, ◌≤◌}
+use Prim.Native.Nat.{◌≤◌}
 use mathlib.Core.Path.{◌≡◌}
 use mathlib.Core.List.{[]}
 use lib.ListN.{take}
@@ -26,10 +26,7 @@ left p l literals x P Δ i Γ = lines_left P (instr_section p l) (operands_in p 
 
 abbrev pub invariant-loop-i : goal.invariant-loop-i
 invariant-loop-i l =
-    AsLong l.regs l.sp l.work l.pending l.initial.regs l.initial.sp l.initial.work l.initial.pending × Under l.envs l.h l.regs l.sp l.depth × (l.y.first ≤ l.i)
-    × ((P : Program) → HoldsAt l.t l.image l.k P
-    → left l.t l.image l.literals l.y P (letters_in l.t l.image (counting l.u (take l.h l.envs))) l.i (context_of (read_at l.t l.image l.k.rows (take l.h l.envs)) l.regs l.sp l.depth)
-    ≡ left l.t l.image l.literals l.y P (letters_in l.t l.image l.u) l.y.first (context_of (read_at l.t l.image l.k.rows []) l.initial.regs l.initial.sp l.y.depth))
-
-abbrev pub decreases-loop-i : goal.decreases-loop-i
-decreases-loop-i l = l.y.end - l.i
+    AsLong l.regs l.sp l.work l.pending l.initial.regs l.initial.sp l.initial.work l.initial.pending × Under l.envs l.h l.regs l.sp l.depth × (l.x.first ≤ l.i)
+    × ((P : Program) → HoldsAt l.p l.image l.c P
+    → left l.p l.image l.literals l.x P (letters_in l.p l.image (counting l.w (take l.h l.envs))) l.i (context_of (read_at l.p l.image l.c.rows (take l.h l.envs)) l.regs l.sp l.depth)
+    ≡ left l.p l.image l.literals l.x P (letters_in l.p l.image l.w) l.x.first (context_of (read_at l.p l.image l.c.rows []) l.initial.regs l.initial.sp l.x.depth))

@@ -72,7 +72,7 @@ returns c =
     let a = c.args in
     λ P g. entered P (shared_section a.p a.image.now) (slot_section a.p a.image.now) c.enter.new.regs
     c.flatten.new.sp a.c.rows a.x.link a.x.stack a.x.start c.item_count-depth.result c.letter_count-count.result
-    _ _ c.body.result (c.body.ensures P g) c.letter_count-count.ensures.0 c.enter.ensures.0 (c.flatten.ensures.0 []) count_is
+    _ _ _ (c.body.ensures P g) c.letter_count-count.ensures.0 c.enter.ensures.0 (c.flatten.ensures.0 []) count_is
 
 pub shape_of-sp : goal.shape_of-sp
 shape_of-sp c = (cc)

@@ -1,12 +1,12 @@
-use Rattle.valid_pass_three.proofs.body.Environments.{note_none, note_room, note_one}
+use Rattle.valid_pass_three.proofs.body.Environments.{none_is, note_none, note_room, note_one}
 use Rattle.valid_pass_three.proofs.body.note.Goals as goal
 
-pub returns-then-opened-eq0 : goal.returns-then-opened-eq0
-returns-then-opened-eq0 c = note_none c.args.envs.now c.args.h c.args.opened (search) c.requires.1
+pub returns-in_default : goal.returns-in_default
+returns-in_default c = rw (none_is _ c.in_default.not-Some) (note_none c.args.envs.now c.args.h c.requires.1)
 
 pub bounds-envs-h : goal.bounds-envs-h
-bounds-envs-h c = note_room c.args.envs.now c.args.h c.args.opened (search) c.requires.1 c.requires.0
+bounds-envs-h c = note_room c.args.envs.now c.args.h c.in-Some.e c.requires.1 (rw c.in-Some.is at c.requires.0)
 
 pub returns : goal.returns
 returns c =
-    note_one c.args.envs.now c.args.h c.args.opened c.if-opened-eq0.false (note_room c.args.envs.now c.args.h c.args.opened c.if-opened-eq0.false c.requires.1 c.requires.0)
+    rw c.in-Some.is (note_one c.args.envs.now c.args.h c.in-Some.e (note_room c.args.envs.now c.args.h c.in-Some.e c.requires.1 (rw c.in-Some.is at c.requires.0)))

@@ -1,15 +1,18 @@
-use mathlib.Core.Path.{sym, ◌∙◌}
-use Rattle.valid_scope.proofs.entry.Laws.{gaps_start, gaps_next, gaps_not, gaps_end}
+use native.Mathlib.Omega.{arith}
+use Rattle.std.proofs.Common.{rules, tests}
+use Rattle.std.proofs.lemmas.Iterator.{YieldsList-from_range}
+use Rattle.std.proofs.lemmas.Iterator.Search.{all_from_yields_List}
+use Prim.Native.Nat.{ℕ, ◌+◌}
+use mathlib.Core.Path.{◌∙◌}
+use lib.Dec.{eqb}
+use lib.ListN.{get_or}
+use Rattle.valid_scope.proofs.entry.Laws.{gaps_all}
 use Rattle.valid_scope.proofs.entry.none_named.Goals as goal
 
-pub returns-then-at-ne0 : goal.returns-then-at-ne0
-returns-then-at-ne0 c = λ v h. sym (c.loop-i.invariant v h ∙ gaps_not v _ h _ _ _ _ (search) c.at.ensures.0 (search))
-
-pub loop-i-preserved : goal.loop-i-preserved
-loop-i-preserved c = λ v h. c.loop-i.invariant v h ∙ gaps_next v _ h _ _ _ _ (search) c.at.ensures.0 (search)
-
 pub returns : goal.returns
-returns c = λ v h. sym (c.loop-i.invariant v h ∙ gaps_end v _ h _ _ _ (search))
-
-pub loop-i-init : goal.loop-i-init
-loop-i-init c = λ v h. gaps_start v _ h _ _
+returns c =
+    λ v h.
+    let parts = c.args.parts.now in
+    let test = λ (i : ℕ). eqb (get_or parts (c.args.p + i) 0) 0 in
+    all_from_yields_List test _ _ _ c.all.ensures.ran (YieldsList-from_range 0 c.args.k c.args.k (cc) (omega arith)) (λ x b q k. search (rules, tests))
+    ∙ gaps_all v parts h c.args.p c.args.k

@@ -6,4 +6,4 @@ use Rattle.valid_scope.proofs.variables.respected_at.Goals as goal
 
 pub returns : goal.returns
 unfolding respected_at
-returns c = ap (λ z. not (eqb z 255)) c.at-n.ensures.0
+returns c = ap (λ z. not (eqb z 255)) c.at.ensures.0

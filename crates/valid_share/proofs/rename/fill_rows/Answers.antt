@@ -8,6 +8,3 @@ unfolding part
 loop-r-preserved c =
     let t = rows_turn c.requires.0.rows (omega arith) c.requires.0.shared (omega arith) (omega arith) c.loop-r.invariant.1 c.loop-r.invariant.2 c.new_entries-e.ensures c.put_entries.ensures in
     (omega arith, t.0, t.1)
-
-pub returns : goal.returns
-returns c = (λ s e h k. c.loop-r.invariant.1 s e (omega arith) k, c.loop-r.invariant.2)

@@ -1,4 +1,3 @@
-use Prim.Native.Nat.{◌-◌, ◌≤◌}
 use mathlib.Core.Path.{◌≡◌}
 use lib.ListN.{length}
 use Rattle.types_rows.specs.Read.{tab, mean_v}
@@ -8,7 +7,4 @@ use Rattle.valid_typing.proofs.components.same_parts.Given as goal
 
 abbrev pub invariant-loop-i : goal.invariant-loop-i
 invariant-loop-i l =
-    (l.i ≤ l.c) × RestSame (mean_v (tab l.rows l.parts)) l.parts l.h l.p l.c (held_in l.rows l.parts l.n l.envs) l.found l.i × (length l.pending ≡ length l.initial.pending)
-
-abbrev pub decreases-loop-i : goal.decreases-loop-i
-decreases-loop-i l = l.c - l.i
+    RestSame (mean_v (tab l.rows l.parts)) l.parts l.h l.p l.c (held_in l.rows l.parts l.n l.envs) l.found l.i × (length l.pending ≡ length l.initial.pending)

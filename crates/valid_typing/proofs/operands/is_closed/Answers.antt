@@ -1,4 +1,3 @@
-use Rattle.types.proofs.Equal.{none_true}
 use Rattle.valid_typing.proofs.operands.Filling.{closed_row}
 use Rattle.image.specs.Sections.{part}
 use Rattle.valid_typing.proofs.operands.is_closed.Goals as goal
@@ -10,6 +9,3 @@ formed-requires c = (search, search)
 pub returns-then-t-n : goal.returns-then-t-n
 unfolding part
 returns-then-t-n c = closed_row _ _ _ _ (search) (search)
-
-pub returns : goal.returns
-returns c = λ z. none_true z

@@ -1,9 +1,7 @@
 use native.Mathlib.Omega.{arith}
 use mathlib.Core.Path.{◌∙◌, ap}
-use Prim.Native.Nat.{ℕ, ◌-◌}
-use Rattle.types.proofs.Equal.{none_true}
+use Prim.Native.Nat.{ℕ}
 use Rattle.types_rows.specs.Read.{mean_v, lower}
-use Rattle.types_rows.proofs.Laws.{lower_low}
 use Rattle.valid_typing.specs.operands.Operands.{operand_table}
 use Rattle.valid_typing.proofs.operands.Filling.{not_no}
 use Rattle.valid_typing.proofs.plain_components.Plain.{plain_none, plain_next, plain_all}
@@ -12,14 +10,6 @@ use Rattle.valid_typing.proofs.plain_components.plain_parts.Goals as goal
 
 pub loop-i-init : goal.loop-i-init
 loop-i-init c = (omega arith, λ P Δ args h. plain_none P Δ _ (operand_table _ _ args) _ _ _ _ _ _)
-
-pub row_of-t-requires : goal.row_of-t-requires
-row_of-t-requires c =
-    let k = lower_low c.args.h c.at.result c.requires.1.some in
-    (c.requires.0.ready.few, omega (arith, c.link.ensures, c.requires.1.row))
-
-pub plain_fits-requires : goal.plain_fits-requires
-plain_fits-requires c = (c.requires.0, omega arith, search)
 
 pub loop-i-preserved : goal.loop-i-preserved
 unfolding part
@@ -30,9 +20,6 @@ loop-i-preserved c =
           (c.plain_fits.ensures (not_no (search)) P Δ args h) (c.row_of-t.ensures.0 _ _ c.requires.0.ready ∙ ap (mean_v _)
           (c.link.ensures ∙ ap (λ (y : ℕ). lower a.h y) c.at.ensures.0)) (c.loop-i.invariant.1 P Δ args h),
     )
-
-pub returns-then-not-plain_fits : goal.returns-then-not-plain_fits
-returns-then-not-plain_fits c = λ z. none_true z
 
 pub returns : goal.returns
 returns c =

@@ -1,60 +1,51 @@
 use native.Mathlib.Omega.{arith}
-use mathlib.Core.Bool.{true, false}
-use Rattle.valid_typing.specs.Typing.{code_in, code_read}
+use mathlib.Core.Path.{ap, sym, ◌∙◌}
+use Rattle.valid_typing.specs.target.Fits.{item_of}
+use Rattle.valid_typing.specs.Typing.{code_in, code_read, code_seen}
 use Rattle.valid_typing.proofs.target.Registers.{not_yes, not_no, none_left, some_left, same_there, fits_there}
-use Rattle.valid_typing.proofs.target.Items.{guarded_is, no_code, still_open, sp_differs, register_differs, all_fit}
+use Rattle.valid_typing.proofs.target.Items.{no_code, still_open, sp_differs, register_differs, all_fit}
 use Rattle.valid_typing.proofs.target.aimed.Goals as goal
 
-pub returns-then-not-c : goal.returns-then-not-c
-returns-then-not-c c =
-    let k = c.code-c.result in
-    λ P Δ v j z e. no_code P Δ _ v j _ e z (guarded_is k.is false (code_read _ _ (code_in _ _ _ _ _)) (c.code-c.ensures.0 _ _) (not_yes c.if-not-c.true))
-
-pub returns-then-letter_count-ne0 : goal.returns-then-letter_count-ne0
-returns-then-letter_count-ne0 c =
-    let a = c.args in
-    let k = c.code-c.result in
-    λ P Δ v j z e. still_open P Δ _ v j _ e z (code_read _ _ (code_in _ _ _ _ _)) (guarded_is k.is true _ (c.code-c.ensures.0 _ _) (not_no c.if-not-c.false)) (some_left a.parts.now k.start _ c.letter_count.ensures.0 (search))
-
-pub returns-then-not-same_items : goal.returns-then-not-same_items
-returns-then-not-same_items c =
-    let a = c.args in
-    let k = c.code-c.result in
-    let q = c.letter_count.ensures.0 in
-    λ P Δ v j z e. sp_differs P Δ _ v j _ e z (code_read _ _ (code_in _ _ _ _ _)) (guarded_is k.is true _ (c.code-c.ensures.0 _ _) (not_no c.if-not-c.false))
-    (none_left a.parts.now k.start _ q c.if-letter_count-ne0.false) (same_there _ _ _ _ _ q c.if-letter_count-ne0.false _ _ c.same_items.ensures) (not_yes (search))
-
-pub returns-then-i-ne100 : goal.returns-then-i-ne100
-returns-then-i-ne100 c =
-    let a = c.args in
-    let k = c.code-c.result in
-    let q = c.letter_count.ensures.0 in
-    λ P Δ v j z e. register_differs P Δ _ v j _ e z _ (guarded_is k.is true _ (c.code-c.ensures.0 _ _) (not_no c.if-not-c.false))
-    (none_left a.parts.now k.start _ q c.if-letter_count-ne0.false) (same_there _ _ _ _ _ q c.if-letter_count-ne0.false _ _ c.same_items.ensures) (not_no (search)) _
-    (fits_there _ _ _ _ _ q c.if-letter_count-ne0.false P Δ _ _ (c.unfit_register-i.ensures P Δ)) (search)
-
-pub returns : goal.returns
-returns c =
-    let a = c.args in
-    let k = c.code-c.result in
-    let q = c.letter_count.ensures.0 in
-    λ P Δ v j z e. all_fit P Δ _ v j _ e z _ (guarded_is k.is true _ (c.code-c.ensures.0 _ _) (not_no c.if-not-c.false))
-    (none_left a.parts.now k.start _ q c.if-letter_count-ne0.false) (same_there _ _ _ _ _ q c.if-letter_count-ne0.false _ _ c.same_items.ensures) (not_no (search)) _
-    (fits_there _ _ _ _ _ q c.if-letter_count-ne0.false P Δ _ _ (c.unfit_register-i.ensures P Δ)) (search)
-
-pub code-c-requires : goal.code-c-requires
-code-c-requires c =
+pub code-requires : goal.code-requires
+code-requires c =
     let f = c.requires.0.ready.few in
     (c.requires.0.ready, omega arith)
 
 pub same_items-requires : goal.same_items-requires
 same_items-requires c =
-    let f = c.code-c.ensures.2 in
+    let f = c.in-Some.ensures.1.stack_in in
     (c.requires.0, omega arith, c.requires.2, c.requires.3)
 
-pub unfit_register-i-requires : goal.unfit_register-i-requires
-unfit_register-i-requires c = (
+pub unfit_register-requires : goal.unfit_register-requires
+unfit_register-requires c = (
   record { ready = c.requires.0.ready; few = c.requires.0.few; room = omega (arith, c.requires.0.room, c.same_items.auto.pending) },
-  record { link_in = c.code-c.ensures.1; small = c.requires.2 },
-  c.code-c.ensures.3,
+  record { link_in = c.in-Some.ensures.1.link_in; small = c.requires.2 },
+  c.in-Some.ensures.1.start_in,
 )
+
+pub returns-in_default : goal.returns-in_default
+returns-in_default c = λ P Δ v e. no_code P Δ _ v _ e _ c.of_no_item.ensures (c.code.ensures.0 _ _ ∙ ap (code_seen _ _ _ _) c.in_default.is)
+
+pub returns-then-letter_count-ne0 : goal.returns-then-letter_count-ne0
+returns-then-letter_count-ne0 c =
+    λ P Δ v e. still_open P Δ _ v _ e (code_read _ _ (code_in _ _ _ _ _)) (c.code.ensures.0 _ _ ∙ ap (code_seen _ _ _ _) c.in-Some.is) _ c.of_no_item-then-letter_count-ne0.ensures (some_left c.args.parts.now c.in-Some.c.start _ c.letter_count.ensures.0 (search))
+
+pub returns-then-not-same_items : goal.returns-then-not-same_items
+returns-then-not-same_items c =
+    let q = c.letter_count.ensures.0 in
+    λ P Δ v e. sp_differs P Δ _ v _ e (code_read _ _ (code_in _ _ _ _ _)) (c.code.ensures.0 _ _ ∙ ap (code_seen _ _ _ _) c.in-Some.is) (none_left c.args.parts.now c.in-Some.c.start _ q c.if-letter_count-ne0.false) _ c.of_item.ensures
+    (same_there _ _ _ _ _ q c.if-letter_count-ne0.false _ _ c.same_items.ensures) (not_yes (search))
+
+pub returns-in-Some-unfit_register : goal.returns-in-Some-unfit_register
+returns-in-Some-unfit_register c =
+    let q = c.letter_count.ensures.0 in
+    λ P Δ v e. register_differs P Δ _ v _ e (code_read _ _ (code_in _ _ _ _ _)) (c.code.ensures.0 _ _ ∙ ap (code_seen _ _ _ _) c.in-Some.is) (none_left c.args.parts.now c.in-Some.c.start _ q c.if-letter_count-ne0.false)
+    (same_there _ _ _ _ _ q c.if-letter_count-ne0.false _ _ c.same_items.ensures) (not_no (search)) _ _ c.of_item-in-Some-unfit_register.ensures
+    (fits_there _ _ _ _ _ q c.if-letter_count-ne0.false P Δ _ _ (sym (ap item_of c.in-Some-unfit_register.is) ∙ c.unfit_register.ensures P Δ))
+
+pub returns-in-None : goal.returns-in-None
+returns-in-None c =
+    let q = c.letter_count.ensures.0 in
+    λ P Δ v e. all_fit P Δ _ v _ e (code_read _ _ (code_in _ _ _ _ _)) (c.code.ensures.0 _ _ ∙ ap (code_seen _ _ _ _) c.in-Some.is) (none_left c.args.parts.now c.in-Some.c.start _ q c.if-letter_count-ne0.false)
+    (same_there _ _ _ _ _ q c.if-letter_count-ne0.false _ _ c.same_items.ensures) (not_no (search))
+    (fits_there _ _ _ _ _ q c.if-letter_count-ne0.false P Δ _ _ (sym (ap item_of c.in-None.is) ∙ c.unfit_register.ensures P Δ))

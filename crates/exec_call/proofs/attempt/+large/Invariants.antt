@@ -1,5 +1,0 @@
-use Rattle.std.proofs.Common.{◌+◌, ◌*◌}
-use Rattle.exec_call.proofs.attempt.+large.Given as goal
-
-abbrev pub decreases-large : goal.decreases-large
-decreases-large l = 0

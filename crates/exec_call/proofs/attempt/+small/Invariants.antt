@@ -1,5 +1,0 @@
-use Rattle.std.proofs.Common.{◌+◌, ◌*◌}
-use Rattle.exec_call.proofs.attempt.+small.Given as goal
-
-abbrev pub decreases-small : goal.decreases-small
-decreases-small l = 0

@@ -1,0 +1,22 @@
+use Rattle.std.proofs.Common.{arith, ◌∙◌, ap, sym}
+use Rattle.faults.proofs.Numbers.{number_above, least_above, least_right, least_left}
+use Rattle.faults.specs.Numbers.{number}
+use Rattle.faults.proofs.both.Goals as goal
+
+pub returns-then-number : goal.returns-then-number
+returns-then-number c =
+    let p = c.in-Err-Err in
+    rw (p.is-0, p.is-1, least_above (number p.f) (number p.g) (number_above p.f) (number_above p.g)) (omega (arith, c.number.ensures, c.number-in-Err-Err.ensures, c.if-number.true))
+
+pub returns-else-number : goal.returns-else-number
+returns-else-number c =
+    let p = c.in-Err-Err in
+    rw (p.is-0, p.is-1, least_above (number p.f) (number p.g) (number_above p.f) (number_above p.g)) (omega (arith, c.number.ensures, c.number-in-Err-Err.ensures, c.if-number.false))
+
+pub returns-in-Err-Ok : goal.returns-in-Err-Ok
+returns-in-Err-Ok c =
+    let p = c.in-Err-Ok in
+    rw (p.is-0, p.is-1) (sym (least_right (number p.f) (number_above p.f)))
+
+pub returns-in-Ok-default : goal.returns-in-Ok-default
+returns-in-Ok-default c = rw c.in-Ok-default.is-0 (sym (least_left _))

@@ -1,7 +1,0 @@
-use mathlib.Core.Path.{sym}
-use lib.ListN.{get_or-eq_default}
-use borrow.Author.Rules.{rules}
-use Rattle.types_rows.proofs.at.Goals as goal
-
-pub returns : goal.returns
-returns c = (sym (get_or-eq_default c.args.s.now 0 c.if-i-s.false), search rules)
