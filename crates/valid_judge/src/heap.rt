@@ -1,6 +1,6 @@
 // One instruction of pass three that reads or makes a tuple's component, and `halt`. The types known before it stand in the checker's
 // arrays (crate valid_context), and are there changed to those known after it; `envs` has the environments of the packages opened so far.
-// Promised of each: the least fault that `judge` of crate valid gives the instruction, 0 if it has none, and then the types after it;
+// Promised of each: the least fault that `judge` of crate valid gives the instruction, or, if it has none, the types after it;
 // every environment that is held still exists.
 ghost use Rattle.std.specs.Prelude.{◌≡◌, ℕ, ◌+◌, ◌-◌, ◌≤◌, ◌<◌, List, length};
 ghost use Rattle.syntax.specs.Syntax.{Kind, stack, ld, st, halt};

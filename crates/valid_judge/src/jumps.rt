@@ -1,7 +1,7 @@
 // One instruction of pass three that goes to a target: a branch, `jmp`. It changes no types; its target's are looked at whether a branch
 // is taken or not.
-// Promised of each: the least fault that `judge` of crate valid gives the instruction, 0 if it has none, and for fault 10 the first
-// item that does not fit: 0 for sp, 1 to 8 for a register, 99 for the operand's resulting row; 100 stands for none.
+// Promised of each: the least fault that `judge` of crate valid gives the instruction, if it has one, and for fault 10 the first
+// item that does not fit: 0 for sp, 1 to 8 for a register, 99 for the operand's resulting row.
 ghost use Rattle.std.specs.Prelude.{◌≡◌, ◌≤◌, None};
 ghost use Rattle.faults.specs.Numbers.{number};
 ghost use Rattle.syntax.proofs.Least.{least};

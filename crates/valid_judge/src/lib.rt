@@ -1,4 +1,4 @@
-// Pass three's judgement of one instruction of the table (document 01, "Typing"), by its code (modules codes, plain_forms, operand_forms).
+// Pass three's judgement of one instruction of the table (document 01, "Typing"), by its code (modules plain_forms, operand_forms).
 // A function for each form stands in the modules by what it works on: tuples and `halt` (heap), sp (stack), through a pointer (through),
 // operands (values), targets (jumps). Of an instruction is told its least fault, and the types known after it. The types known before it,
 // of the registers and of sp, stand in two of the checker's arrays (crate valid_context), and are changed there; two more are lent: `work`

@@ -1,7 +1,7 @@
 // One instruction of pass three that loads or stores through a pointer into the stack: `slp`, `ssp`. The types known before it stand in
 // the checker's arrays (crate valid_context), and are there changed to those known after it. For a store, the pointer's items are written
 // out into a third array, `work`, where one is replaced and the whole is compared with what the given row points to.
-// Promised of each: the least fault that `judge` of crate valid gives the instruction, 0 if it has none, and then the types after it;
+// Promised of each: the least fault that `judge` of crate valid gives the instruction, or, if it has none, the types after it;
 // every environment that is held still exists; `envs` has the environments of the packages opened so far.
 ghost use Rattle.std.specs.Prelude.{◌≡◌, ℕ, ◌*◌, List, length, Ok, IfOk};
 ghost use Rattle.syntax.specs.Syntax.{Kind, slp, ssp};

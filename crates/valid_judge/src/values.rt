@@ -1,7 +1,7 @@
 // One instruction of pass three that takes operands and gives a register its type: arithmetic, `mov`, `malloc`, `unpack`. The types known
 // before it stand in the checker's arrays (crate valid_context), and are there changed to those known after it; `envs` has the environments
 // of the packages opened so far. `pending` is lent for comparisons.
-// Promised of each: the least fault that `judge` of crate valid gives the instruction, 0 if it has none, and then the types after it;
+// Promised of each: the least fault that `judge` of crate valid gives the instruction, or, if it has none, the types after it;
 // every environment that is held exists.
 ghost use Rattle.std.specs.Prelude.{◌≡◌, ℕ, ◌+◌, ◌*◌, ◌≤◌, List, ltb, length, IfOk, MatchResult};
 ghost use Rattle.syntax.specs.Syntax.{value, Arith, aop, mov, malloc, unpack};

@@ -3,7 +3,7 @@
 // are read from the tables (crate types_rows), registers and sp from the checker's arrays (crate valid_context); two more rows, `I` and
 // `N`, stand behind the program's own, so that each type that the checker holds is the type of a row in an environment, whose variables
 // count as `envs` says (specs/Environments.antt of types_rows); what an instruction gives is read in the last one. Promised of each: its
-// premise's least fault, 0 if it holds, and what the premise gives, as an equation with the definition. Above these stand operands (modules
+// premise's least fault, or what the premise gives, as an equation with the definition. Above these stand operands (modules
 // bases, operands), the components of a tuple (components, plain_components) and targets (target). A function that reads more tables than
 // the rows' is lent the image that they are sections of (crate image), and reads the rows as the checker shares them. One that compares
 // rows is lent `pending`, where crate types_equal keeps what is still to be compared.
@@ -264,6 +264,7 @@ fn seen_items(rows: &[u16], parts: &[u16], n: usize, sp: &[u16], m: usize, x: He
     let e = x.env;
     let mut y = x.row;
     let mut i = m;
+    // Kept: a `loop`. It walks rows that name one another, which is no range.
     loop {
         match types_rows::read_stack(rows, y, 0, 0, 0) {
             Stk::Nil => return i == 0,

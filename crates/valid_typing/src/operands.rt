@@ -1,6 +1,6 @@
 // Pass three's look at operands: the type of an operand, with its type arguments filled in, or packed.
 // Types are given as rows: rows n and n + 1 are made I and N, so that every type the checker holds is the type of one of n + 2 rows.
-// Promised: the least fault of the premise as crate valid defines it (`operand`), 0 if it holds, and then a row that has the type it gives,
+// Promised: the least fault of the premise as crate valid defines it (`operand`), or a row that has the type it gives,
 // in its environment: a resulting row is read now. Asked: the tables of module prepare of load, and operands with at most eight arguments.
 ghost use Rattle.std.specs.Prelude.{IfOk, ◌≡◌, true, ◌&&◌, cond, ltb, eqb, map, ℕ, ◌+◌, ◌≤◌, length, get_or, List, []};
 ghost use Rattle.syntax.specs.Syntax.{Kind, value, inst, pack};
