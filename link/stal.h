@@ -4,7 +4,7 @@
  *   stal_check_with, stal_start_with, stal_continue_with       for firmware: they are lent working memory (stal_memory, 438 KB, static in
  *                                                              the caller, whatever it holds) and need little stack.
  *   stal_check_text, stal_start_state, stal_continue_state     where there is stack: they ask for no memory, and put their tables on the
- *                                                              stack, up to 650 KB of it.
+ *                                                              stack, up to 565 KB of it.
  * (docs/performance.md has the stack that each uses, and times.) They test what the boundary asks, and then call the proved functions, which
  * are declared above them: stal_check_in, stal_start_in and stal_continue_in, and stal_check, stal_start and stal_continue.
  *

@@ -13,7 +13,9 @@ ghost use Rattle.print_write.specs.Put.{Puts};
 ghost use Rattle.valid_verdict.specs.Answers.{verdict_is};
 ghost use Rattle.exec_outcome.specs.Answers.{answer_is};
 
-// A line of a word, given with its comma, and a number; where it ends.
+// A line of a word, given with its comma, and a number; where it ends. Part of its caller, which knows the word: a copy of unknown length
+// would ask for the C library's memmove.
+#[inline(always)]
 fn one_number(word: &[u8], a: usize, out: &mut [u8]) -> usize
     requires { (length word.now ≤ 7) × (64 ≤ length out.old) }
     ensures { (result ≤ 64) × (take result out.new ≡ word.now ++ (decimal a ++ (10 ∷ []))) }

@@ -44,6 +44,7 @@ fn look_up(envs: &[u16], e: usize, g: usize, names: &mut [u16]) -> Option<Sides>
 }
 
 // As crate::eq_value, by tables. Apart from eq_named, so that a comparison without tables has none on the stack.
+#[inline(never)]
 fn eq_tabled(
     rows: &[u16],
     parts: &[u16],

@@ -12,11 +12,10 @@ pub mod size;
 pub mod variables;
 
 ghost use Rattle.std.specs.Prelude.{◌≡◌, ◌+◌, ◌-◌, ◌*◌, ◌≤◌, ◌<◌, [], length, get_or};
+ghost use Rattle.tables.specs.Tables.{cell};
 ghost use Rattle.types_rows.specs.Read.{tab, lower, value_with, stack_with, value_at, stack_at, place_v, place_s, OkV, OkS, slot_at, OkSlot, items_at, CountedTo, is_stack_at, ItemOf, lift, stack_under, down_of, Narrowed, head_of};
 ghost use Rattle.types_rows.specs.Environments.{var_in, shifted, EnvironmentIn};
 ghost use Rattle.types_rows.specs.declared.Stk.TheVariants.{StkVar};
-
-use tables::cell;
 
 // A value row; a row of another sort is junk. A variable is placed: it stays one, or it is filled by argument j.
 #[derive(Clone, Copy)]
@@ -64,6 +63,15 @@ pub struct Held {
     pub env: usize,
 }
 
+// Entry k of row r, 0 past the end. `tables::cell` says the same of any record, and tests for that; to read rows is most of the work of a
+// comparison, so it is done without.
+pub fn entry(rows: &[u16], r: usize, k: usize) -> usize
+    requires { (r ≤ 65536) × (k ≤ 3) }
+    ensures { (result ≡ cell 4 rows.now r k) × (result ≤ 65535) }
+{
+    tables::at(rows, 4 * r + k)
+}
+
 // The link to row x, which the row h names.
 pub fn link(h: usize, x: usize) -> usize
     requires { x ≤ 65535 }
@@ -77,7 +85,7 @@ pub fn item_count(rows: &[u16], h: usize) -> usize
     requires { h ≤ 65536 }
     ensures { (result ≡ items_at rows.now h) × (result ≤ 65535) }
 {
-    if h == 0 { 0 } else { cell::<4>(rows, h - 1, 3) }
+    if h == 0 { 0 } else { entry(rows, h - 1, 3) }
 }
 
 // Row r is a stack row.
@@ -85,7 +93,7 @@ pub fn is_stack(rows: &[u16], r: usize) -> bool
     requires { r ≤ 65536 }
     ensures { result ≡ is_stack_at rows.now r }
 {
-    cell::<4>(rows, r, 0) >= 7
+    entry(rows, r, 0) >= 7
 }
 
 // Variable k past d binders: one of theirs stays, the first m others are filled by arguments, later ones come down by m and go up by `by`.
@@ -122,9 +130,9 @@ pub fn read_value(rows: &[u16], h: usize, m: usize, by: usize, d: usize) -> Val
     if h == 0 {
         return Val::Junk;
     }
-    let a = cell::<4>(rows, h - 1, 1);
-    let b = cell::<4>(rows, h - 1, 2);
-    let kind = cell::<4>(rows, h - 1, 0);
+    let a = entry(rows, h - 1, 1);
+    let b = entry(rows, h - 1, 2);
+    let kind = entry(rows, h - 1, 0);
     if kind == 0 {
         Val::Int
     } else if kind == 2 {
@@ -151,9 +159,9 @@ pub fn read_stack(rows: &[u16], h: usize, m: usize, by: usize, d: usize) -> Stk
     if h == 0 {
         return Stk::Nil;
     }
-    let a = cell::<4>(rows, h - 1, 1);
-    let b = cell::<4>(rows, h - 1, 2);
-    let kind = cell::<4>(rows, h - 1, 0);
+    let a = entry(rows, h - 1, 1);
+    let b = entry(rows, h - 1, 2);
+    let kind = entry(rows, h - 1, 0);
     if kind < 8 {
         Stk::Nil
     } else if kind == 8 {

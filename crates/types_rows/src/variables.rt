@@ -5,7 +5,7 @@
 ghost use Rattle.std.specs.Prelude.{◌≡◌, true, ℕ, ◌+◌, ◌≤◌, ◌<◌, length, get_or};
 ghost use Rattle.types_rows.specs.Environments.{var_in, name_at, name_in, shifted, free_at, EnvironmentIn};
 
-use tables::{at, cell};
+use tables::at;
 
 // Variable j of environment e, as it counts now; an even environment needs no look at the others.
 // Kept: a `while`. The walk ends at an even environment or at variable 0, whichever comes first, so a `for` over j would need both tests too.
@@ -63,10 +63,10 @@ pub(crate) fn free_variable(
     requires { (h ≤ 65536) × EnvironmentIn envs.now e }
     ensures { result ≡ free_at rows.now (shifted envs.now e by) kind m d h }
 {
-    if h == 0 || cell::<4>(rows, h - 1, 0) != kind {
+    if h == 0 || crate::entry(rows, h - 1, 0) != kind {
         return None;
     }
-    let j = cell::<4>(rows, h - 1, 1).checked_sub(d as usize + m as usize)?;
+    let j = crate::entry(rows, h - 1, 1).checked_sub(d as usize + m as usize)?;
     Some(name(envs, e as usize, j) + by as usize + d as usize)
 }
 

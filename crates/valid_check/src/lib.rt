@@ -77,5 +77,5 @@ pub(crate) fn check_in(
     }
     valid_share::share(image, p, c.rows, work, hash);
     let f = third_pass(image, numbers, p, c, work, hash);
-    Some(valid_verdict::answer_by(f, c.blocks, c.instrs))
+    Some(valid_verdict::answer_for(f, c.blocks, c.instrs))
 }

@@ -1,5 +1,5 @@
 // What pass three finds, where it finds a fault. Promised: what is put in; `refusal_said` (specs/finding/Found.antt) is the refusal that a
-// finding says. Nothing is asked.
+// finding says, `refusal_numbered` that of one in numbers. Nothing is asked.
 ghost use Rattle.std.specs.Prelude.{◌≡◌, None};
 
 use faults::Fault;
@@ -10,6 +10,14 @@ pub struct Finding {
     pub fault: Fault,
     pub line: usize,
     pub item: Option<usize>,
+}
+
+// A finding in numbers, whatever they are: a fault's number, 0 for none, its line, and the first item that does not fit, 100 for none.
+#[derive(Clone, Copy)]
+pub struct Numbered {
+    pub number: usize,
+    pub line: usize,
+    pub item: usize,
 }
 
 // A fault without an item.

@@ -86,4 +86,4 @@ returns-clause-answers c =
     let shared₂ : Shared (row_table (store_in at image₂ numbers)) (tab (shared_section at image₂) (slot_section at image₂)) c.in-Ok.c.rows = shared_still at image image₂ l.ordered c.share.ensures.1 c.in-Ok.c.rows (tab (shared_section at image₂) (slot_section at image₂)) c.share.ensures.0 in
     let h = shared_holds _ _ _ _ _ d _ _ shared₂ in
     let q : refusal_said c.third_pass-f.result ≡ third text = c.third_pass-f.ensures (program_of text) h (blocks_are _ _ _ _ _ d _ shared₂.types) in
-    c.answer_by.ensures text answer.fault q (counts _ _ _ _ _ d _ q)
+    c.answer_for.ensures text answer.fault q (counts _ _ _ _ _ d _ q)

@@ -1,19 +1,14 @@
 use Prim.Native.Nat.{ℕ}
-use mathlib.Core.Path.{ap, ◌∙◌}
-use Rattle.valid_verdict.specs.declared.Answer.TheVariants.{Refused}
-use Rattle.valid_verdict.specs.Answers.{verdict_is}
-use Rattle.std.specs.Prelude.{Some, None}
-use Rattle.valid_verdict.specs.finding.Found.{refusal_said}
-use Rattle.valid_verdict.proofs.finding.Laws.{finding_said}
+use Rattle.valid_context.proofs.Told.{said_none, said_some}
+use Rattle.valid_verdict.proofs.finding.Laws.{says_none, says_some}
 use Rattle.valid_verdict.proofs.Laws.{answers_none, answers_third, answers_unfit}
 use Rattle.valid_verdict.proofs.answer_by.Goals as goal
 
-pub returns-in-Ok : goal.returns-in-Ok
-returns-in-Ok c =
-    λ text e r k. let z = ap refusal_said c.in-Ok.is in answers_none text e r z (k z).0 (k z).1
+pub returns-then-f-eq0 : goal.returns-then-f-eq0
+returns-then-f-eq0 c = λ text e r k. answers_none text e r (says_none _ c.if-f-eq0.true) (k c.if-f-eq0.true).0 (k c.if-f-eq0.true).1
 
-pub returns-in-Some : goal.returns-in-Some
-returns-in-Some c = λ text e r k. answers_unfit text e r (finding_said _ c.in-Err.f (Some c.in-Some.item) c.in-Err.is c.in-Some.is)
+pub returns-then-f-eq100 : goal.returns-then-f-eq100
+returns-then-f-eq100 c = λ text e r k. answers_third text e r (says_some _ _ c.if-f-eq0.false (said_none _ c.if-f-eq100.true))
 
-pub returns-in-None : goal.returns-in-None
-returns-in-None c = λ text e r k. ap (λ (n : ℕ). verdict_is (Refused n c.in-Err.f.line)) c.number.ensures ∙ answers_third text e r (finding_said _ c.in-Err.f None c.in-Err.is c.in-None.is)
+pub returns : goal.returns
+returns c = λ text e r k. answers_unfit text e r (says_some _ _ c.if-f-eq0.false (said_some _ c.if-f-eq100.false))
