@@ -130,9 +130,9 @@ pub fn read_value(rows: &[u16], h: usize, m: usize, by: usize, d: usize) -> Val
     if h == 0 {
         return Val::Junk;
     }
+    let kind = entry(rows, h - 1, 0);
     let a = entry(rows, h - 1, 1);
     let b = entry(rows, h - 1, 2);
-    let kind = entry(rows, h - 1, 0);
     if kind == 0 {
         Val::Int
     } else if kind == 2 {
@@ -159,9 +159,9 @@ pub fn read_stack(rows: &[u16], h: usize, m: usize, by: usize, d: usize) -> Stk
     if h == 0 {
         return Stk::Nil;
     }
+    let kind = entry(rows, h - 1, 0);
     let a = entry(rows, h - 1, 1);
     let b = entry(rows, h - 1, 2);
-    let kind = entry(rows, h - 1, 0);
     if kind < 8 {
         Stk::Nil
     } else if kind == 8 {
