@@ -14,7 +14,7 @@ pub struct Finding {
 
 // A finding in numbers, whatever they are: a fault's number, 0 for none, its line, and the first item that does not fit, 100 for none.
 #[derive(Clone, Copy)]
-pub struct Numbered {
+pub struct NumberedFinding {
     pub number: usize,
     pub line: usize,
     pub item: usize,

@@ -12,7 +12,7 @@ ghost use Rattle.valid.specs.Verdict.{instr_count, check};
 ghost use Rattle.valid_verdict.specs.finding.Found.{refusal_said, refusal_numbered};
 ghost use Rattle.valid_verdict.specs.Answers.{verdict_is, low, third};
 
-use crate::finding::{Finding, Numbered};
+use crate::finding::{Finding, NumberedFinding};
 
 // Kept: one enum with a refusal's number, since a caller in C hands back any number as an answer (`verdict_by` of stal_lines).
 // Accepted with the counts of blocks and instructions; refused with number and line; refused with 10 at a jump or branch, with the line
@@ -24,8 +24,8 @@ pub enum Answer {
     Unfit(usize, usize),
 }
 
-// The answer by what pass three found, said in numbers.
-pub fn answer_by(f: Numbered, nb: usize, ni: usize) -> Answer
+// The answer by what pass three found, said in numbers. Kept beside `answer_for`, which the checker calls: it takes any numbers.
+pub fn answer_by(f: NumberedFinding, nb: usize, ni: usize) -> Answer
     ensures { (text : List ℕ) → none ≡ low text → refusal_numbered f ≡ third text → (f.number ≡ 0 → (nb ≡ length (program_of text).blocks) × (ni ≡ instr_count (program_of text).blocks)) → verdict_is result ≡ check text }
 {
     if f.number == 0 {
@@ -37,7 +37,7 @@ pub fn answer_by(f: Numbered, nb: usize, ni: usize) -> Answer
     Answer::Unfit(f.line, f.item)
 }
 
-// The answer by what pass three found.
+// The answer by what pass three found, as it is found.
 pub fn answer_for(found: Result<(), Finding>, nb: usize, ni: usize) -> Answer
     ensures { (text : List ℕ) → none ≡ low text → refusal_said found ≡ third text → (refusal_said found ≡ none → (nb ≡ length (program_of text).blocks) × (ni ≡ instr_count (program_of text).blocks)) → verdict_is result ≡ check text }
 {

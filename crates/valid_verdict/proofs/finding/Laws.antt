@@ -8,7 +8,7 @@ use borrow.Author.Tests.{eq-eqb, ne_eqb}
 use Rattle.syntax.specs.Fault.{Refusal}
 use Rattle.valid_context.specs.premises.Answers.{item_said}
 use Rattle.valid_verdict.specs.declared.finding.Finding.{Finding}
-use Rattle.valid_verdict.specs.declared.finding.Numbered.{Numbered}
+use Rattle.valid_verdict.specs.declared.finding.NumberedFinding.{NumberedFinding}
 use Rattle.valid_verdict.specs.finding.Found.{item_named, refusal_of, refusal_said, refusal_numbered}
 
 -- a fault without an item
@@ -19,10 +19,12 @@ on_line_said e = ap (λ (f : Finding). some (refusal_of f)) e
 pub finding_said : {A : Type 0} (r : Result A Finding) (f : Finding) (i : Maybe ℕ) → r ≡ Err f → f.item ≡ i → refusal_said r ≡ some (record { number = number f.fault; line = f.line; item = item_named i })
 finding_said r f i e q = ap refusal_said e ∙ ap (λ (j : Maybe ℕ). some (record { number = number f.fault; line = f.line; item = item_named j })) q
 
-pub says_none : (f : Numbered) → f.number ≡ 0 → refusal_numbered f ≡ none
+-- a finding in numbers: with the number 0 it refuses nothing
+pub says_none : (f : NumberedFinding) → f.number ≡ 0 → refusal_numbered f ≡ none
 unfolding refusal_numbered
 says_none f z = rw (eq-eqb f.number 0 z)
 
-pub says_some : (f : Numbered) (o : Option ℕ) → (f.number ≡ 0 → ⊥) → item_said f.item ≡ o → refusal_numbered f ≡ some (record { number = f.number; line = f.line; item = o })
+-- with another number it refuses, and its item is what the number of the item means
+pub says_some : (f : NumberedFinding) (o : Option ℕ) → (f.number ≡ 0 → ⊥) → item_said f.item ≡ o → refusal_numbered f ≡ some (record { number = f.number; line = f.line; item = o })
 unfolding refusal_numbered
 says_some f o h e = rw (ne_eqb f.number 0 h) (ap (λ (i : Option ℕ). some (record { number = f.number; line = f.line; item = i })) e)

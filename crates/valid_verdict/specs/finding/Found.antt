@@ -5,7 +5,7 @@ use Rattle.syntax.specs.Fault.{Refusal}
 use Rattle.faults.specs.Numbers.{number}
 use Rattle.valid_context.specs.premises.Answers.{item_said}
 use Rattle.valid_verdict.specs.declared.finding.Finding.{Finding}
-use Rattle.valid_verdict.specs.declared.finding.Numbered.{Numbered}
+use Rattle.valid_verdict.specs.declared.finding.NumberedFinding.{NumberedFinding}
 
 -- the item that is named, if one is
 abbrev pub item_named : Maybe ℕ → Option ℕ
@@ -22,5 +22,5 @@ refusal_said (Ok x) = none
 refusal_said (Err f) = some (refusal_of f)
 
 -- of a finding in numbers: the number 0 says that there is none
-unfoldable pub refusal_numbered : Numbered → Option Refusal
+unfoldable pub refusal_numbered : NumberedFinding → Option Refusal
 refusal_numbered f = cond (eqb f.number 0) none (some (record { number = f.number; line = f.line; item = item_said f.item }))
